@@ -24,8 +24,10 @@ pub fn tool_cached<R: Threads + Wait + Sync, S: Source, K: Sink, D: Disk + Drop 
     sink: &mut K,
     disk: Cached<D>,
 ) -> Outcome<Cached<D>>
-    ensures headline { IfSome result.history (HeadlineIn (⟦<Cached<D> as Disk>⟧.state) (task_in (map string_bytes words.now))
-        (S.state source.old) (S.state source.new) TEXT_LIMIT disk (⟦<Cached<D> as Disk>⟧.state result.disk) result.status) }
+    ensures headline { IfSome result.history
+        (HeadlineIn (⟦<Cached<D> as Disk>⟧.state) (task_in (map string_bytes words.now))
+        (S.state source.old) (S.state source.new) TEXT_LIMIT disk
+        (⟦<Cached<D> as Disk>⟧.state result.disk) result.status) }
 {
     tool(rt, alloc, words, source, sink, disk)
 }
@@ -45,8 +47,10 @@ pub fn tool_mirrored<
     sink: &mut K,
     disk: Cached<Mirror<A, B>>,
 ) -> Outcome<Cached<Mirror<A, B>>>
-    ensures headline { IfSome result.history (HeadlineIn (⟦<Cached<Mirror<A, B>> as Disk>⟧.state) (task_in (map string_bytes words.now))
-        (S.state source.old) (S.state source.new) TEXT_LIMIT disk (⟦<Cached<Mirror<A, B>> as Disk>⟧.state result.disk) result.status) }
+    ensures headline { IfSome result.history
+        (HeadlineIn (⟦<Cached<Mirror<A, B>> as Disk>⟧.state) (task_in (map string_bytes words.now))
+        (S.state source.old) (S.state source.new) TEXT_LIMIT disk
+        (⟦<Cached<Mirror<A, B>> as Disk>⟧.state result.disk) result.status) }
 {
     tool_cached(rt, alloc, words, source, sink, disk)
 }

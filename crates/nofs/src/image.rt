@@ -1,7 +1,7 @@
 //! The first word of a command line: which image is served.
 //!
-//! Promise: a word names the disk in memory, a mirror of two files, or a file; one that begins as a mirror's and has another shape
-//! names nothing.
+//! Promise: a word names the disk in memory, a mirror of two files, or a file; one that begins as a mirror's and has
+//! another shape names nothing.
 
 use nofs_script::number_of;
 

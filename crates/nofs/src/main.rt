@@ -1,7 +1,8 @@
 //! `nofs IMAGE WORDS`: serves a session on a disk image.
 //!
-//! Promise: what holds of a run is the contract of `tool` in `nofs_tool`. What stands here takes the words, makes the disk, puts a
-//! write-back cache before it, hands over standard input and output, and ends with the status. Nothing goes to standard error.
+//! Promise: what holds of a run is the contract of `tool` in `nofs_tool`. What stands here takes the words, makes the
+//! disk, puts a write-back cache before it, hands over standard input and output, and ends with the status. Nothing
+//! goes to standard error.
 #![tactic(auto)]
 
 mod cached;
@@ -41,8 +42,8 @@ fn all_words<R: Env + AllocGlobal>(rt: &R) -> io::Result<Vec<String>> {
     Ok(words)
 }
 
-// The image and the words behind it, where they are a command. They are judged before any image is opened: a mistyped command line
-// leaves nothing behind.
+// The image and the words behind it, where they are a command. They are judged before any image is opened: a mistyped
+// command line leaves nothing behind.
 fn command(words: &[String]) -> Option<(ImageChoice<'_>, &[String])> {
     match words {
         [first, rest @ ..] if task_of(rest).is_some() => {
@@ -159,8 +160,8 @@ fn run_in_mirror<R: Threads + Wait + Sync, S: Source, K: Sink>(
     }
 }
 
-// Takes the numbers of standard input, output and error where the caller closed them. Else an image that is opened would get one
-// of them, and the lines would be written into it. What it gives is kept to the program's end.
+// Takes the numbers of standard input, output and error where the caller closed them. Else an image that is opened
+// would get one of them, and the lines would be written into it. What it gives is kept to the program's end.
 fn hold_numbers(rt: &HostRuntime) -> [io::Result<File>; 3] {
     [
         File::open(rt, "/dev/null"),

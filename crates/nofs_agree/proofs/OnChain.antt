@@ -1,5 +1,6 @@
 -- The way up from a directory, and the back links of an inode, one after another.
-use Rattle.std.proofs.Common.{◌≡◌, ℕ, ◌<◌, ◌+◌, ◌≤◌, inl, inr, Bool, true, false, ◌&&◌, IsTrue, List, length, get_or, Option, Some, None, Result, Ok, Err}
+use Rattle.std.proofs.Common.{◌≡◌, ℕ, ◌<◌, ◌+◌, ◌≤◌, inl, inr, Bool, true, false, ◌&&◌, IsTrue, List, length, get_or}
+use Rattle.std.proofs.Common.{Option, Some, None, Result, Ok, Err}
 use Rattle.std.proofs.Common.{IfOk, refl, sym, ap, ◌∙◌, subst, arith}
 use Rattle.std.specs.List.{list_any}
 use Rattle.std.proofs.lemmas.Bool.{cases_lt}
@@ -29,7 +30,8 @@ IsAt-on old new at s is = record {
   same = λ t. ap super_at s.cells.now ∙ is.same (subst (λ (b : Bool). IsTrue b) s.disk.tells t);
 }
 
-pub KnowsInode-on : (old new : DiskState) (at : SuperBlock) (i : ℕ) (r : Record) → StaysButFaults old new → KnowsInode old at i r → KnowsInode new at i r
+pub KnowsInode-on : (old new : DiskState) (at : SuperBlock) (i : ℕ) (r : Record) → StaysButFaults old new
+    → KnowsInode old at i r → KnowsInode new at i r
 KnowsInode-on old new at i r s k = record {
   numbers = IsAt-on old new at s k.numbers;
   same = λ t. ap (λ (X : Image). inode X i) s.cells.now ∙ k.same (subst (λ (b : Bool). IsTrue b) s.disk.tells t);
@@ -38,7 +40,8 @@ KnowsInode-on old new at i r s k = record {
 }
 
 -- the record of a disk that stayed is that of the image at first
-pub record-of : (old now : DiskState) (at : SuperBlock) (i : ℕ) (r : Record) → StaysButFaults old now → KnowsInode now at i r → IsTrue old.tells
+pub record-of : (old now : DiskState) (at : SuperBlock) (i : ℕ) (r : Record) → StaysButFaults old now
+    → KnowsInode now at i r → IsTrue old.tells
     → inode old.now i ≡ r
 record-of old now at i r s k t = ap (λ (X : Image). inode X i) (sym s.cells.now) ∙ k.same (told-on old now s t)
 
@@ -50,19 +53,25 @@ pub record Climbed (old now : DiskState) (at : SuperBlock) (first here : Directo
   pub same : IsTrue old.tells → agreed (files_in old.now) first.inode ≡ agreed (files_in old.now) here.inode
 
 pub climb-begins : (old : DiskState) (at : SuperBlock) (first : Directory) (last : LastRead)
-    → KnowsDirectory old at first.inode first.record.generation first.record → IsLast old last → Climbed old old at first first last
-climb-begins old at first last known kept = record { stays = StaysButFaults-refl old; known = known; kept = kept; same = λ t. refl }
+    → KnowsDirectory old at first.inode first.record.generation first.record → IsLast old last
+    → Climbed old old at first first last
+climb-begins old at first last known kept =
+    record { stays = StaysButFaults-refl old; known = known; kept = kept; same = λ t. refl }
 
 -- the first back link of a directory leads to the one above it, where it is a pair
-decided : (old : DiskState) (at : SuperBlock) (it : Directory) (link : BackLink) → KnowsDirectory old at it.inode it.record.generation it.record
+decided : (old : DiskState) (at : SuperBlock) (it : Directory) (link : BackLink)
+    → KnowsDirectory old at it.inode it.record.generation it.record
     → link ≡ first_link it.record.links → IsTrue old.tells
-    → has_agreed_link (files_in old.now) it.inode ≡ (is_pair (files_in old.now) it.inode link && agreed (files_in old.now) link.directory)
+    → has_agreed_link (files_in old.now) it.inode
+    ≡ (is_pair (files_in old.now) it.inode link && agreed (files_in old.now) link.directory)
 decided old at it link known e t =
-    subst (λ (l : BackLink). has_agreed_link (files_in old.now) it.inode ≡ (is_pair (files_in old.now) it.inode l && agreed (files_in old.now) l.directory))
+    subst (λ (l : BackLink). has_agreed_link (files_in old.now) it.inode
+    ≡ (is_pair (files_in old.now) it.inode l && agreed (files_in old.now) l.directory))
     (sym e)
     (first-decides old.now it.inode it.record (known.known.same t) known.kind known.known.spelled)
 
-pub parent-none : (old new : DiskState) (at : SuperBlock) (it : Directory) (link : BackLink) (last : LastRead) (res : Result (Option Record) Failed)
+pub parent-none : (old new : DiskState) (at : SuperBlock) (it : Directory) (link : BackLink) (last : LastRead)
+    (res : Result (Option Record) Failed)
     → KnowsDirectory old at it.inode it.record.generation it.record → link ≡ first_link it.record.links
     → ReadsPair old new at it.inode it.record link last res → res ≡ Ok None → ReadsParent old new at it last (Ok None)
 parent-none old new at it link last res known e reads is =
@@ -71,12 +80,14 @@ parent-none old new at it link last res known e reads is =
     record {
       stays = p.stays;
       parent = tt;
-      none = λ t n. decided old at it link known e t ∙ ap (λ (b : Bool). b && agreed (files_in old.now) link.directory) (sym (p.pair t));
+      none = λ t n. decided old at it link known e t
+          ∙ ap (λ (b : Bool). b && agreed (files_in old.now) link.directory) (sym (p.pair t));
       kept = p.kept;
       cause = tt;
     }
 
-pub parent-some : (old new : DiskState) (at : SuperBlock) (it : Directory) (link : BackLink) (last : LastRead) (res : Result (Option Record) Failed)
+pub parent-some : (old new : DiskState) (at : SuperBlock) (it : Directory) (link : BackLink) (last : LastRead)
+    (res : Result (Option Record) Failed)
     (r : Record)
     → KnowsDirectory old at it.inode it.record.generation it.record → link ≡ first_link it.record.links
     → ReadsPair old new at it.inode it.record link last res → res ≡ Ok (Some r)
@@ -92,7 +103,8 @@ parent-some old new at it link last res r known e reads is =
       parent = record {
         known = record { known = partner.directory.known; kind = partner.directory.kind; generation = refl };
         older = omega (arith, older, same);
-        same = λ t. decided old at it link known e t ∙ ap (λ (b : Bool). b && agreed (files_in old.now) link.directory) (sym (p.pair t));
+        same = λ t. decided old at it link known e t
+            ∙ ap (λ (b : Bool). b && agreed (files_in old.now) link.directory) (sym (p.pair t));
       };
       none = λ t n. cc;
       kept = p.kept;
@@ -100,9 +112,11 @@ parent-some old new at it link last res r known e reads is =
     }
 
 -- a directory that is neither the root nor special is agreed as the one above it is
-pub climb-goes : (old now new : DiskState) (at : SuperBlock) (first here parent : Directory) (last next : LastRead) (res : Result (Option Directory) Failed)
+pub climb-goes : (old now new : DiskState) (at : SuperBlock) (first here parent : Directory) (last next : LastRead)
+    (res : Result (Option Directory) Failed)
     → Climbed old now at first here last
-    → ((X : Image) → inode X here.inode ≡ here.record → false ≡ is_root (files_in X) here.inode) → false ≡ is_special here.inode
+    → ((X : Image) → inode X here.inode ≡ here.record → false ≡ is_root (files_in X) here.inode)
+    → false ≡ is_special here.inode
     → ReadsParent now new at here next res → res ≡ Ok (Some parent) → Climbed old new at first parent next
 climb-goes old now new at first here parent last next res c root special reads is =
     let p : ReadsParent now new at here next (Ok (Some parent)) =
@@ -114,14 +128,16 @@ climb-goes old now new at first here parent last next res c root special reads i
       kept = p.kept;
       same = λ t.
           let up : has_agreed_link (files_in old.now) here.inode ≡ agreed (files_in old.now) parent.inode =
-          subst (λ (X : Image). has_agreed_link (files_in X) here.inode ≡ agreed (files_in X) parent.inode) c.stays.cells.now
+          subst (λ (X : Image). has_agreed_link (files_in X) here.inode ≡ agreed (files_in X) parent.inode)
+          c.stays.cells.now
           (above.same (told-on old now c.stays t)) in
           let r = record-of old now at here.inode here.record c.stays c.known.known t in
           c.same t ∙ linked-is (files_in old.now) here.inode (sym (root old.now r)) (sym special) ∙ up;
     }
 
 -- at the root, or at a special inode that is no root, the way ends
-pub climb-root : (old now : DiskState) (at : SuperBlock) (known : List (Option Bool)) (first here : Directory) (last : LastRead)
+pub climb-root : (old now : DiskState) (at : SuperBlock) (known : List (Option Bool)) (first here : Directory)
+    (last : LastRead)
     → Climbed old now at first here last
     → ((X : Image) → inode X here.inode ≡ here.record → true ≡ is_root (files_in X) here.inode)
     → TellsAgreed old now known (λ X. agreed (files_in X) first.inode) last (Ok true)
@@ -133,9 +149,11 @@ climb-root old now at known first here last c root = record {
   cause = tt;
 }
 
-pub climb-special : (old now : DiskState) (at : SuperBlock) (known : List (Option Bool)) (first here : Directory) (last : LastRead)
+pub climb-special : (old now : DiskState) (at : SuperBlock) (known : List (Option Bool)) (first here : Directory)
+    (last : LastRead)
     → Climbed old now at first here last
-    → ((X : Image) → inode X here.inode ≡ here.record → false ≡ is_root (files_in X) here.inode) → true ≡ is_special here.inode
+    → ((X : Image) → inode X here.inode ≡ here.record → false ≡ is_root (files_in X) here.inode)
+    → true ≡ is_special here.inode
     → TellsAgreed old now known (λ X. agreed (files_in X) first.inode) last (Ok false)
 climb-special old now at known first here last c root special = record {
   stays = c.stays;
@@ -146,17 +164,22 @@ climb-special old now at known first here last c root special = record {
 }
 
 -- so it does where no directory is above
-pub climb-none : (old now new : DiskState) (at : SuperBlock) (known : List (Option Bool)) (first here : Directory) (last next : LastRead)
+pub climb-none : (old now new : DiskState) (at : SuperBlock) (known : List (Option Bool)) (first here : Directory)
+    (last next : LastRead)
     (res : Result (Option Directory) Failed) → Climbed old now at first here last
-    → ((X : Image) → inode X here.inode ≡ here.record → false ≡ is_root (files_in X) here.inode) → false ≡ is_special here.inode
-    → ReadsParent now new at here next res → res ≡ Ok None → TellsAgreed old new known (λ X. agreed (files_in X) first.inode) next (Ok false)
+    → ((X : Image) → inode X here.inode ≡ here.record → false ≡ is_root (files_in X) here.inode)
+    → false ≡ is_special here.inode
+    → ReadsParent now new at here next res → res ≡ Ok None
+    → TellsAgreed old new known (λ X. agreed (files_in X) first.inode) next (Ok false)
 climb-none old now new at known first here last next res c root special reads is =
-    let p : ReadsParent now new at here next (Ok None) = subst (λ (q : Result (Option Directory) Failed). ReadsParent now new at here next q) is reads in
+    let p : ReadsParent now new at here next (Ok None) =
+    subst (λ (q : Result (Option Directory) Failed). ReadsParent now new at here next q) is reads in
     record {
       stays = StaysButFaults-trans old now new c.stays p.stays;
       found = λ t a.
           let up : has_agreed_link (files_in old.now) here.inode ≡ false =
-          subst (λ (X : Image). has_agreed_link (files_in X) here.inode ≡ false) c.stays.cells.now (p.none (told-on old now c.stays t) refl) in
+          subst (λ (X : Image). has_agreed_link (files_in X) here.inode ≡ false) c.stays.cells.now
+          (p.none (told-on old now c.stays t) refl) in
           let r = record-of old now at here.inode here.record c.stays c.known.known t in
           sym (c.same t ∙ linked-is (files_in old.now) here.inode (sym (root old.now r)) (sym special) ∙ up);
       kept = p.kept;
@@ -164,18 +187,24 @@ climb-none old now new at known first here last next res c root special reads is
     }
 
 -- none of the first so many back links is a pair with an agreed directory
-pub record Passed (old now : DiskState) (known : List (Option Bool)) (i : ℕ) (r : Record) (last : LastRead) (place : ℕ) : Type 0 where
+pub record Passed (old now : DiskState) (known : List (Option Bool)) (i : ℕ) (r : Record) (last : LastRead)
+    (place : ℕ) : Type 0 where
   pub stays : StaysButFaults old now
   pub kept : IsLast now last
-  pub none : IsTrue old.tells → AreTrue old.now known → (k : ℕ) → k < place → is_agreed_link (files_in old.now) i (get_or r.links k no_link) ≡ false
+  pub none : IsTrue old.tells → AreTrue old.now known
+      → (k : ℕ) → k < place → is_agreed_link (files_in old.now) i (get_or r.links k no_link) ≡ false
 
-pub passed-goes : (old now new : DiskState) (known : List (Option Bool)) (i : ℕ) (r : Record) (last next : LastRead) (place : ℕ) (res : Result Bool Failed)
+pub passed-goes : (old now new : DiskState) (known : List (Option Bool)) (i : ℕ) (r : Record) (last next : LastRead)
+    (place : ℕ) (res : Result Bool Failed)
     → Passed old now known i r last place
-    → TellsAgreed now new known (λ X. is_agreed_link (files_in X) i (get_or r.links place no_link)) next res → res ≡ Ok false
+    → TellsAgreed now new known (λ X. is_agreed_link (files_in X) i (get_or r.links place no_link)) next res
+    → res ≡ Ok false
     → Passed old new known i r next (place + 1)
 passed-goes old now new known i r last next place res p reads is =
-    let q : TellsAgreed now new known (λ X. is_agreed_link (files_in X) i (get_or r.links place no_link)) next (Ok false) =
-    subst (λ (w : Result Bool Failed). TellsAgreed now new known (λ X. is_agreed_link (files_in X) i (get_or r.links place no_link)) next w) is reads in
+    let q : TellsAgreed now new known
+    (λ X. is_agreed_link (files_in X) i (get_or r.links place no_link)) next (Ok false) =
+    subst (λ (w : Result Bool Failed). TellsAgreed now new known
+    (λ X. is_agreed_link (files_in X) i (get_or r.links place no_link)) next w) is reads in
     record {
       stays = StaysButFaults-trans old now new p.stays q.stays;
       kept = q.kept;
@@ -184,55 +213,72 @@ passed-goes old now new known i r last next place res p reads is =
         | inr at ↦
             let here : k ≡ place = omega arith in
             let found : false ≡ is_agreed_link (files_in old.now) i (get_or r.links place no_link) =
-            subst (λ (X : Image). false ≡ is_agreed_link (files_in X) i (get_or r.links place no_link)) p.stays.cells.now
+            subst (λ (X : Image). false ≡ is_agreed_link (files_in X) i (get_or r.links place no_link))
+            p.stays.cells.now
             (q.found (told-on old now p.stays t) (subst (λ (X : Image). AreTrue X known) (sym p.stays.cells.now) a)) in
             ap (λ (n : ℕ). is_agreed_link (files_in old.now) i (get_or r.links n no_link)) here ∙ sym found
       ];
     }
 
 -- the next one is
-pub passed-found : (old now new : DiskState) (at : SuperBlock) (known : List (Option Bool)) (i : ℕ) (r : Record) (last next : LastRead) (place : ℕ)
+pub passed-found : (old now new : DiskState) (at : SuperBlock) (known : List (Option Bool)) (i : ℕ) (r : Record)
+    (last next : LastRead) (place : ℕ)
     (res : Result Bool Failed) → KnowsInode old at i r
     → Passed old now known i r last place → place < 4
-    → TellsAgreed now new known (λ X. is_agreed_link (files_in X) i (get_or r.links place no_link)) next res → res ≡ Ok true
+    → TellsAgreed now new known (λ X. is_agreed_link (files_in X) i (get_or r.links place no_link)) next res
+    → res ≡ Ok true
     → TellsAgreed old new known (λ X. list_any (is_agreed_link (files_in X) i) r.links) next (Ok true)
 passed-found old now new at known i r last next place res is p low reads e =
-    let q : TellsAgreed now new known (λ X. is_agreed_link (files_in X) i (get_or r.links place no_link)) next (Ok true) =
-    subst (λ (w : Result Bool Failed). TellsAgreed now new known (λ X. is_agreed_link (files_in X) i (get_or r.links place no_link)) next w) e reads in
+    let q : TellsAgreed now new known
+    (λ X. is_agreed_link (files_in X) i (get_or r.links place no_link)) next (Ok true) =
+    subst (λ (w : Result Bool Failed). TellsAgreed now new known
+    (λ X. is_agreed_link (files_in X) i (get_or r.links place no_link)) next w) e reads in
     record {
       stays = StaysButFaults-trans old now new p.stays q.stays;
       found = λ t a.
-          let four : length r.links ≡ 4 = subst (λ (q : Record). length q.links ≡ 4) (is.same t) (four-links old.now i) in
+          let four : length r.links ≡ 4 =
+          subst (λ (q : Record). length q.links ≡ 4) (is.same t) (four-links old.now i) in
           let here : true ≡ is_agreed_link (files_in old.now) i (get_or r.links place no_link) =
           subst (λ (X : Image). true ≡ is_agreed_link (files_in X) i (get_or r.links place no_link)) p.stays.cells.now
           (q.found (told-on old now p.stays t) (subst (λ (X : Image). AreTrue X known) (sym p.stays.cells.now) a)) in
-          sym (list_any_at (is_agreed_link (files_in old.now) i) r.links place no_link (omega (arith, low, four)) (sym here));
+          sym (list_any_at (is_agreed_link (files_in old.now) i) r.links place no_link
+          (omega (arith, low, four)) (sym here));
       kept = q.kept;
       cause = tt;
     }
 
-pub passed-ends : (old now : DiskState) (at : SuperBlock) (known : List (Option Bool)) (i : ℕ) (r : Record) (last : LastRead) (place : ℕ)
+pub passed-ends : (old now : DiskState) (at : SuperBlock) (known : List (Option Bool)) (i : ℕ) (r : Record)
+    (last : LastRead) (place : ℕ)
     → KnowsInode old at i r → Passed old now known i r last place → 4 ≤ place
     → TellsAgreed old now known (λ X. list_any (is_agreed_link (files_in X) i) r.links) last (Ok false)
 passed-ends old now at known i r last place is p whole = record {
   stays = p.stays;
-  found = λ t a. let four : length r.links ≡ 4 = subst (λ (q : Record). length q.links ≡ 4) (is.same t) (four-links old.now i) in
+  found = λ t a. let four : length r.links ≡ 4 =
+      subst (λ (q : Record). length q.links ≡ 4) (is.same t) (four-links old.now i) in
       sym (list_any_none (is_agreed_link (files_in old.now) i) r.links (λ k d low.
-      ap (is_agreed_link (files_in old.now) i) (get_or_default r.links k d no_link low) ∙ p.none t a k (omega (arith, low, four, whole))));
+      ap (is_agreed_link (files_in old.now) i) (get_or_default r.links k d no_link low)
+      ∙ p.none t a k (omega (arith, low, four, whole))));
   kept = p.kept;
   cause = tt;
 }
 
 -- the whole answer for an inode, from its record
-pub whole-root : (old now : DiskState) (at : SuperBlock) (i : ℕ) (r : Record) → StaysButFaults old now → KnowsInode now at i r
-    → ((X : Image) → inode X i ≡ r → true ≡ is_root (files_in X) i) → IsTrue old.tells → true ≡ agreed (files_in old.now) i
-whole-root old now at i r s k root t = sym (root-is (files_in old.now) i (sym (root old.now (record-of old now at i r s k t))))
+pub whole-root : (old now : DiskState) (at : SuperBlock) (i : ℕ) (r : Record) → StaysButFaults old now
+    → KnowsInode now at i r
+    → ((X : Image) → inode X i ≡ r → true ≡ is_root (files_in X) i) → IsTrue old.tells
+    → true ≡ agreed (files_in old.now) i
+whole-root old now at i r s k root t =
+    sym (root-is (files_in old.now) i (sym (root old.now (record-of old now at i r s k t))))
 
-pub whole-special : (old now : DiskState) (at : SuperBlock) (i : ℕ) (r : Record) → StaysButFaults old now → KnowsInode now at i r
-    → ((X : Image) → inode X i ≡ r → false ≡ is_root (files_in X) i) → true ≡ is_special i → IsTrue old.tells → false ≡ agreed (files_in old.now) i
-whole-special old now at i r s k root special t = sym (special-is (files_in old.now) i (sym (root old.now (record-of old now at i r s k t))) (sym special))
+pub whole-special : (old now : DiskState) (at : SuperBlock) (i : ℕ) (r : Record) → StaysButFaults old now
+    → KnowsInode now at i r
+    → ((X : Image) → inode X i ≡ r → false ≡ is_root (files_in X) i) → true ≡ is_special i → IsTrue old.tells
+    → false ≡ agreed (files_in old.now) i
+whole-special old now at i r s k root special t =
+    sym (special-is (files_in old.now) i (sym (root old.now (record-of old now at i r s k t))) (sym special))
 
-pub whole-links : (old now new : DiskState) (at : SuperBlock) (known : List (Option Bool)) (i : ℕ) (r : Record) (last : LastRead) (res : Result Bool Failed)
+pub whole-links : (old now new : DiskState) (at : SuperBlock) (known : List (Option Bool)) (i : ℕ) (r : Record)
+    (last : LastRead) (res : Result Bool Failed)
     → StaysButFaults old now → KnowsInode now at i r
     → ((X : Image) → inode X i ≡ r → false ≡ is_root (files_in X) i) → false ≡ is_special i
     → TellsAgreed now new known (λ X. list_any (is_agreed_link (files_in X) i) r.links) last res

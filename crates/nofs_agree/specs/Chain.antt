@@ -1,5 +1,6 @@
 -- What the check of a chain answers, over any disk.
-use Rattle.std.specs.Prelude.{◌≡◌, ◌⊎◌, ℕ, ◌-◌, ◌<◌, ◌≤◌, Bool, false, ◌&&◌, not, IsTrue, List, length, get_or, nat_le, Option, Some, None, is_some}
+use Rattle.std.specs.Prelude.{◌≡◌, ◌⊎◌, ℕ, ◌-◌, ◌<◌, ◌≤◌, Bool, false, ◌&&◌, not, IsTrue, List, length, get_or, nat_le}
+use Rattle.std.specs.Prelude.{Option, Some, None, is_some}
 use Rattle.std.specs.Prelude.{if◌then◌else◌, Result, IfOk, IfSome, IsNone, OnOk, OnErr}
 use Rattle.std.specs.List.{position_or_len}
 use Rattle.nofs_disk.specs.declared.Failed.{Failed}
@@ -12,7 +13,8 @@ use Rattle.nofs_agree.specs.Reads.{IsLast, KnowsDirectory}
 use Rattle.nofs_agree.specs.declared.chain.Directory.{Directory}
 use Rattle.nofs_agree.specs.declared.reads.LastRead.{LastRead}
 
--- what is known of an inode, whose place is the one before its number: whether it is agreed. Past the end nothing is known
+-- what is known of an inode, whose place is the one before its number: whether it is agreed. Past the end nothing is
+-- known
 abbrev pub known_agreement : List (Option Bool) → ℕ → Option Bool
 known_agreement known i = if nat_le 1 i then get_or known (i - 1) None else None
 
@@ -34,14 +36,16 @@ abbrev pub is_agreed_link : Files → ℕ → BackLink → Bool
 is_agreed_link F i link = is_pair F i link && agreed F link.directory
 
 -- the answer is this one of the image, where the disk tells
-pub record TellsAnswer (old new : DiskState) (answer : Image → Bool) (last : LastRead) (result : Result Bool Failed) : Type 0 where
+pub record TellsAnswer (old new : DiskState) (answer : Image → Bool) (last : LastRead)
+    (result : Result Bool Failed) : Type 0 where
   pub stays : StaysButFaults old new
   pub found : IfOk result (λ a. IsTrue old.tells → a ≡ answer old.now)
   pub kept : OnOk result (IsLast new last)
   pub cause : OnErr result (Rose old.faults new.faults)
 
 -- so it is where what is known is true
-pub record TellsAgreed (old new : DiskState) (known : List (Option Bool)) (answer : Image → Bool) (last : LastRead) (result : Result Bool Failed) : Type 0 where
+pub record TellsAgreed (old new : DiskState) (known : List (Option Bool)) (answer : Image → Bool) (last : LastRead)
+    (result : Result Bool Failed) : Type 0 where
   pub stays : StaysButFaults old new
   pub found : IfOk result (λ a. IsTrue old.tells → AreTrue old.now known → a ≡ answer old.now)
   pub kept : OnOk result (IsLast new last)
@@ -68,10 +72,12 @@ pub record IsDirectoryAbove (old new : DiskState) (at : SuperBlock) (it parent :
   pub same : IsTrue old.tells → has_agreed_link (files_in old.now) it.inode ≡ agreed (files_in old.now) parent.inode
 
 -- the directory that names this one, where there is one
-pub record ReadsParent (old new : DiskState) (at : SuperBlock) (it : Directory) (last : LastRead) (result : Result (Option Directory) Failed) : Type 0 where
+pub record ReadsParent (old new : DiskState) (at : SuperBlock) (it : Directory) (last : LastRead)
+    (result : Result (Option Directory) Failed) : Type 0 where
   pub stays : StaysButFaults old new
   pub parent : IfOk result (λ found. IfSome found (IsDirectoryAbove old new at it))
-  pub none : IfOk result (λ found. IsTrue old.tells → IsNone found → has_agreed_link (files_in old.now) it.inode ≡ false)
+  pub none : IfOk result
+      (λ found. IsTrue old.tells → IsNone found → has_agreed_link (files_in old.now) it.inode ≡ false)
   pub kept : OnOk result (IsLast new last)
   pub cause : OnErr result (Rose old.faults new.faults)
 
@@ -79,17 +85,20 @@ pub record ReadsParent (old new : DiskState) (at : SuperBlock) (it : Directory) 
 pub record LearnsOne (old new : List (Option Bool)) (i : ℕ) (agreed : Bool) : Type 0 where
   pub len : length new ≡ length old
   pub here : 1 ≤ i → i ≤ length old → known_agreement new i ≡ Some agreed
-  pub each : (j : ℕ) (a : Bool) → known_agreement new j ≡ Some a → ((j ≡ i) × (a ≡ agreed)) ⊎ (known_agreement old j ≡ Some a)
+  pub each : (j : ℕ) (a : Bool) → known_agreement new j ≡ Some a
+      → ((j ≡ i) × (a ≡ agreed)) ⊎ (known_agreement old j ≡ Some a)
 
 -- the way up from a directory was walked: what is known after it is true where what was known before is
-pub record LearnsChain (old new : DiskState) (known more : List (Option Bool)) (last : LastRead) (result : Result (Unit {0}) Failed) : Type 0 where
+pub record LearnsChain (old new : DiskState) (known more : List (Option Bool)) (last : LastRead)
+    (result : Result (Unit {0}) Failed) : Type 0 where
   pub stays : StaysButFaults old new
   pub learns : LearnsAgreement old known more
   pub kept : OnOk result (IsLast new last)
   pub cause : OnErr result (Rose old.faults new.faults)
 
 -- so were all ways up from an inode
-pub record LearnsAbove (old new : DiskState) (known more : List (Option Bool)) (result : Result (Unit {0}) Failed) : Type 0 where
+pub record LearnsAbove (old new : DiskState) (known more : List (Option Bool))
+    (result : Result (Unit {0}) Failed) : Type 0 where
   pub stays : StaysButFaults old new
   pub learns : LearnsAgreement old known more
   pub cause : OnErr result (Rose old.faults new.faults)

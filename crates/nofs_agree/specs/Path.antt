@@ -17,7 +17,8 @@ IsCellOf X (Holds x) c = c ≡ cell_at X x.block
 IsCellOf X Lost c = Unit {0}
 
 -- the answer is this one of the image, where the disk tells, and the cell of the block that holds is kept
-pub record FindsSlot (old new : DiskState) (at : SuperBlock) (answer : Image → PathAnswer) (last : LastRead) (result : Result PathAnswer Failed) : Type 0 where
+pub record FindsSlot (old new : DiskState) (at : SuperBlock) (answer : Image → PathAnswer) (last : LastRead)
+    (result : Result PathAnswer Failed) : Type 0 where
   pub stays : StaysButFaults old new
   pub found : IfOk result (λ a. IsTrue old.tells → a ≡ answer old.now)
   pub area : IfOk result (λ a. InArea at a)

@@ -18,7 +18,8 @@ abbrev pub IsLast : DiskState → LastRead → Type 0
 IsLast d last = IsTrue d.tells → IfSome last.block (λ block. last.cell ≡ cell_at d.now block)
 
 -- a block is read: its cell is kept
-pub record ReadsBlock (old new : DiskState) (block : ℕ) (last : LastRead) (result : Result (Unit {0}) Failed) : Type 0 where
+pub record ReadsBlock (old new : DiskState) (block : ℕ) (last : LastRead)
+    (result : Result (Unit {0}) Failed) : Type 0 where
   pub stays : StaysButFaults old new
   pub cell : OnOk result (IsTrue old.tells → last.cell ≡ cell_at old.now block)
   pub kept : OnOk result (IsLast new last)
@@ -33,7 +34,8 @@ pub record KnowsInode (d : DiskState) (at : SuperBlock) (i : ℕ) (r : Record) :
   pub range : IsTrue (is_live r) → (1 ≤ i) × (i ≤ at.inodes)
 
 -- the record of an inode is read
-pub record ReadsInode (old new : DiskState) (at : SuperBlock) (i : ℕ) (last : LastRead) (result : Result Record Failed) : Type 0 where
+pub record ReadsInode (old new : DiskState) (at : SuperBlock) (i : ℕ) (last : LastRead)
+    (result : Result Record Failed) : Type 0 where
   pub stays : StaysButFaults old new
   pub found : IfOk result (λ r. KnowsInode new at i r)
   pub kept : OnOk result (IsLast new last)

@@ -113,7 +113,8 @@ pub fn is_agreed_link<D: Disk>(
     requires record { KnowsInode (D.state disk.old) at.now inode it.now }
     requires known { length known.now ≡ at.now.inodes }
     requires last { IsLast (D.state disk.old) last.old }
-    ensures { TellsAgreed (D.state disk.old) (D.state disk.new) known.now (λ X. is_agreed_link (files.files_in X) inode link.now) last.new result }
+    ensures { TellsAgreed (D.state disk.old) (D.state disk.new) known.now
+        (λ X. is_agreed_link (files.files_in X) inode link.now) last.new result }
 {
     match read_pair(disk, at, inode, it, link, last)? {
         None => Ok(false),
@@ -142,10 +143,12 @@ pub(crate) fn is_agreed_directory<D: Disk>(
     directory: Directory,
     last: &mut LastRead,
 ) -> Result<bool, Failed>
-    requires record { KnowsDirectory (D.state disk.old) at.now directory.inode directory.record.generation directory.record }
+    requires record { KnowsDirectory (D.state disk.old) at.now directory.inode directory.record.generation
+        directory.record }
     requires known { length known.now ≡ at.now.inodes }
     requires last { IsLast (D.state disk.old) last.old }
-    ensures { TellsAgreed (D.state disk.old) (D.state disk.new) known.now (λ X. files.agreed (files.files_in X) directory.inode) last.new result }
+    ensures { TellsAgreed (D.state disk.old) (D.state disk.new) known.now
+        (λ X. files.agreed (files.files_in X) directory.inode) last.new result }
 {
     let mut here = directory;
     loop {
@@ -172,7 +175,8 @@ pub(crate) fn read_parent<D: Disk>(
     directory: &Directory,
     last: &mut LastRead,
 ) -> Result<Option<Directory>, Failed>
-    requires record { KnowsDirectory (D.state disk.old) at.now directory.now.inode directory.now.record.generation directory.now.record }
+    requires record { KnowsDirectory (D.state disk.old) at.now directory.now.inode directory.now.record.generation
+        directory.now.record }
     requires last { IsLast (D.state disk.old) last.old }
     ensures { ReadsParent (D.state disk.old) (D.state disk.new) at.now directory.now last.new result }
 {

@@ -7,8 +7,8 @@ ghost use Rattle.nofs_agree.specs.Chain.{LearnsOne, known_agreement};
 use std::alloc::{AllocError, Global};
 use std::marker::Model;
 
-/// What is known of some inodes: `Some(true)` is agreed, `Some(false)` is not, and of the others nothing is known. No call but
-/// `nothing` takes memory.
+/// What is known of some inodes: `Some(true)` is agreed, `Some(false)` is not, and of the others nothing is known. No
+/// call but `nothing` takes memory.
 #[derive(Drop)]
 pub struct Known {
     // Place `i - 1` is inode `i`.

@@ -1,8 +1,8 @@
 //! The check of a chain of directories that keeps what it finds on the way.
 //!
-//! Promise: it answers as the check that keeps nothing does. What is known afterwards is true where what was known before is, and
-//! each directory on the way up is known then. So many checks in a row walk each directory of a disk once, however deep it lies,
-//! and whether the way leads to the root or not.
+//! Promise: it answers as the check that keeps nothing does. What is known afterwards is true where what was known
+//! before is, and each directory on the way up is known then. So many checks in a row walk each directory of a disk
+//! once, however deep it lies, and whether the way leads to the root or not.
 ghost use Rattle.std.specs.Prelude.{◌≡◌, ◌≤◌, IfOk, IsTrue, OnErr, Some, length};
 ghost use Rattle.nofs_disk.specs.Disk.{Rose, StaysButFaults};
 ghost use Rattle.nofs_model.specs.Files as files;
@@ -17,8 +17,8 @@ use nofs_disk::{Disk, Failed};
 use nofs_inode::{BackLink, Record};
 use nofs_super::SuperBlock;
 
-/// Whether an inode is agreed, as `check_chain` answers it. Afterwards that is known of the inode, and of each directory on the ways
-/// up from it. It asks the superblock of the disk, and a place for each inode.
+/// Whether an inode is agreed, as `check_chain` answers it. Afterwards that is known of the inode, and of each
+/// directory on the ways up from it. It asks the superblock of the disk, and a place for each inode.
 ///
 /// # Errors
 ///
@@ -35,7 +35,8 @@ pub fn learn_chain<D: Disk>(
     ensures learns { LearnsAgreement (D.state disk.old) known.old known.new }
     ensures agreed { IfOk result (λ answer. IsTrue (D.state disk.old).tells → AreTrue (D.state disk.old).now known.old
         → answer ≡ files.agreed (files.files_in (D.state disk.old).now) inode) }
-    ensures knows { IfOk result (λ answer. 1 ≤ inode → inode ≤ at.now.inodes → known_agreement known.new inode ≡ Some answer) }
+    ensures knows { IfOk result
+        (λ answer. 1 ≤ inode → inode ≤ at.now.inodes → known_agreement known.new inode ≡ Some answer) }
     ensures cause { OnErr result (Rose (D.state disk.old).faults (D.state disk.new).faults) }
 {
     if let Some(agreed) = known.told(inode) {
@@ -105,7 +106,8 @@ fn learn_directory<D: Disk>(
     directory: Directory,
     last: &mut LastRead,
 ) -> Result<(), Failed>
-    requires record { KnowsDirectory (D.state disk.old) at.now directory.inode directory.record.generation directory.record }
+    requires record { KnowsDirectory (D.state disk.old) at.now directory.inode directory.record.generation
+        directory.record }
     requires known { length known.old ≡ at.now.inodes }
     requires last { IsLast (D.state disk.old) last.old }
     ensures { LearnsChain (D.state disk.old) (D.state disk.new) known.old known.new last.new result }
@@ -123,7 +125,8 @@ fn keep_way<D: Disk>(
     agreed: bool,
     last: &mut LastRead,
 ) -> Result<(), Failed>
-    requires record { KnowsDirectory (D.state disk.old) at.now directory.inode directory.record.generation directory.record }
+    requires record { KnowsDirectory (D.state disk.old) at.now directory.inode directory.record.generation
+        directory.record }
     requires agreed { IsTrue (D.state disk.old).tells → AreTrue (D.state disk.old).now known.old
         → agreed ≡ files.agreed (files.files_in (D.state disk.old).now) directory.inode }
     requires last { IsLast (D.state disk.old) last.old }

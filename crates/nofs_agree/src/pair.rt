@@ -74,7 +74,8 @@ fn has_entry<D: Disk>(
     requires directory { KnowsDirectory (D.state disk.old) at.now link.now.directory link.now.generation directory.now }
     requires last { IsLast (D.state disk.old) last.old }
     ensures { TellsAnswer (D.state disk.old) (D.state disk.new)
-        (λ X. files.names (files.entry_at (files.files_in X) link.now.directory link.now.entry) inode generation) last.new result }
+        (λ X. files.names (files.entry_at (files.files_in X) link.now.directory link.now.entry) inode generation)
+        last.new result }
 {
     if link.entry >= ENTRY_LIMIT {
         return Ok(false);

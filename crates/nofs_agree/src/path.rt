@@ -32,7 +32,8 @@ pub fn check_path<D: Disk>(
     requires numbers { IsAt (D.state disk.old) at.now }
     requires slot { IsTrue (slots.is_slot slot) }
     ensures stays { StaysButFaults (D.state disk.old) (D.state disk.new) }
-    ensures found { IfOk result (λ answer. IsTrue (D.state disk.old).tells → answer ≡ slots.find (D.state disk.old).now inode (slots.path_of slot)) }
+    ensures found { IfOk result (λ answer. IsTrue (D.state disk.old).tells
+        → answer ≡ slots.find (D.state disk.old).now inode (slots.path_of slot)) }
     ensures cause { OnErr result (Rose (D.state disk.old).faults (D.state disk.new).faults) }
 {
     let mut last = LastRead::NONE;
@@ -52,7 +53,8 @@ pub fn find_slot<D: Disk>(
     requires known { KnowsInode (D.state disk.old) at.now inode it.now }
     requires place { IsPlace place }
     requires last { IsLast (D.state disk.old) last.old }
-    ensures { FindsSlot (D.state disk.old) (D.state disk.new) at.now (λ X. slots.find X inode (place_path place)) last.new result }
+    ensures { FindsSlot (D.state disk.old) (D.state disk.new) at.now
+        (λ X. slots.find X inode (place_path place)) last.new result }
 {
     match place {
         Place::InRecord(n) => find_in_record(disk, at, inode, it, n, last),
@@ -83,7 +85,8 @@ fn find_in_record<D: Disk>(
     requires place { place < 10 }
     requires known { KnowsInode (D.state disk.old) at.now inode it.now }
     requires last { IsLast (D.state disk.old) last.old }
-    ensures { FindsSlot (D.state disk.old) (D.state disk.new) at.now (λ X. slots.find X inode (slots.InRecord place)) last.new result }
+    ensures { FindsSlot (D.state disk.old) (D.state disk.new) at.now
+        (λ X. slots.find X inode (slots.InRecord place)) last.new result }
 {
     let pointer = record_pointer(it, place);
     judge(disk, at, inode, it, Place::InRecord(place), pointer, last)
@@ -102,7 +105,8 @@ fn judge<D: Disk>(
     requires place { IsPlace place }
     requires known { KnowsInode (D.state disk.old) at.now inode it.now }
     requires last { IsLast (D.state disk.old) last.old }
-    ensures { FindsSlot (D.state disk.old) (D.state disk.new) at.now (λ X. slots.judged X inode (place_path place) pointer) last.new result }
+    ensures { FindsSlot (D.state disk.old) (D.state disk.new) at.now
+        (λ X. slots.judged X inode (place_path place) pointer) last.new result }
 {
     let Pointer { block, stamp } = pointer;
     if block == 0 && stamp == 0 {
@@ -139,7 +143,8 @@ fn find_under_record<D: Disk>(
     requires known { KnowsInode (D.state disk.old) at.now inode it.now }
     requires place { IsPlace (Place.UnderRecord above place) }
     requires last { IsLast (D.state disk.old) last.old }
-    ensures { FindsSlot (D.state disk.old) (D.state disk.new) at.now (λ X. slots.find X inode (slots.Under (slots.InRecord above) place)) last.new result }
+    ensures { FindsSlot (D.state disk.old) (D.state disk.new) at.now
+        (λ X. slots.find X inode (slots.Under (slots.InRecord above) place)) last.new result }
 {
     match find_in_record(disk, at, inode, it, above, last)? {
         PathAnswer::Hole => Ok(PathAnswer::Hole),

@@ -1,5 +1,6 @@
 -- What a search by words has seen of the places.
-use Rattle.std.proofs.Common.{◌≡◌, ℕ, ◌+◌, ◌-◌, ◌*◌, ◌/◌, ◌%◌, ◌<◌, ◌≤◌, Bool, false, eqb, List, length, get_or, ap, ◌∙◌, sym, inl, inr, arith}
+use Rattle.std.proofs.Common.{◌≡◌, ℕ, ◌+◌, ◌-◌, ◌*◌, ◌/◌, ◌%◌, ◌<◌, ◌≤◌, Bool, false, eqb, List, length, get_or, ap}
+use Rattle.std.proofs.Common.{◌∙◌, sym, inl, inr, arith}
 use Rattle.std.proofs.lemmas.Bool.{cases_lt}
 use Rattle.std.proofs.lemmas.List.{get_or_past}
 use Rattle.std.specs.Int.{bit_at}
@@ -7,7 +8,8 @@ use Rattle.nofs_bits.specs.Bits.{NoneInWords, NoneSet, bit_of, is_set, truths}
 use Rattle.nofs_bits.proofs.Truths.{is_set-truths, length-truths}
 
 -- a place of words is a bit of one of them
-pub bit_here : (words : List ℕ) (index bit : ℕ) → bit < 64 → bit_of words (index * 64 + bit) ≡ eqb (bit_at (get_or words index 0) bit) 1
+pub bit_here : (words : List ℕ) (index bit : ℕ)
+    → bit < 64 → bit_of words (index * 64 + bit) ≡ eqb (bit_at (get_or words index 0) bit) 1
 unfolding bit_of
 bit_here words index bit small =
     let word : (index * 64 + bit) / 64 ≡ index = omega arith in
@@ -30,7 +32,8 @@ none_more words from index first end seen small clear at low below =
     ]
 
 -- places of a map that are clear in its words
-pub none_of_map : (words : List ℕ) (places from end : ℕ) (now : List Bool) → truths words places ≡ now → NoneInWords words from end → NoneSet now from end
+pub none_of_map : (words : List ℕ) (places from end : ℕ) (now : List Bool)
+    → truths words places ≡ now → NoneInWords words from end → NoneSet now from end
 none_of_map words places from end now is none at low below =
     ap (λ bits. is_set bits at) (sym is)
     ∙ elim (cases_lt at places) [
@@ -39,7 +42,8 @@ none_of_map words places from end now is none at low below =
     ]
 
 -- no place of a map is set that is clear in its words up to its end
-pub none_to_end : (words : List ℕ) (places from end : ℕ) (now : List Bool) → truths words places ≡ now → NoneInWords words from end → places ≤ end
+pub none_to_end : (words : List ℕ) (places from end : ℕ) (now : List Bool)
+    → truths words places ≡ now → NoneInWords words from end → places ≤ end
     → NoneSet now from (length now)
 none_to_end words places from end now is none long at low below =
     none_of_map words places from end now is none at low (omega (arith, ap length is, length-truths words places))

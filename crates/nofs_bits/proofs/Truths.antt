@@ -1,5 +1,6 @@
 -- The truth values that lie in words.
-use Rattle.std.proofs.Common.{◌≡◌, ◌≢◌, ℕ, zero, ◌+◌, ◌-◌, ◌/◌, ◌%◌, ◌<◌, ◌≤◌, Bool, true, false, cond, eqb, List, length, get_or, replicate, mul-zero, refl}
+use Rattle.std.proofs.Common.{◌≡◌, ◌≢◌, ℕ, zero, ◌+◌, ◌-◌, ◌/◌, ◌%◌, ◌<◌, ◌≤◌, Bool, true, false, cond, eqb, List}
+use Rattle.std.proofs.Common.{length, get_or, replicate, mul-zero, refl}
 use Rattle.std.proofs.Common.{subst, sym, ap, ◌∙◌, inl, inr, arith}
 use Rattle.std.proofs.lemmas.Bool.{cases_eq, cases_lt}
 use Rattle.std.proofs.lemmas.Grind.{get_or-set_at}
@@ -22,13 +23,16 @@ length-truths words places = length-map-range_with_len (bit_of words) 0 places
 pub is_set-truths : (words : List ℕ) (places at : ℕ) → at < places
     → is_set (truths words places) at ≡ bit_of words at
 unfolding truths
-is_set-truths words places at within = get_or-map-range_with_len (bit_of words) 0 places at at false within (omega arith)
+is_set-truths words places at within =
+    get_or-map-range_with_len (bit_of words) 0 places at at false within (omega arith)
 
 -- a place of a map is a place of its words
-pub within_places : (words : List ℕ) (places at : ℕ) (now : List Bool) → truths words places ≡ now → at < length now → at < places
+pub within_places : (words : List ℕ) (places at : ℕ) (now : List Bool)
+    → truths words places ≡ now → at < length now → at < places
 within_places words places at now is below = omega (arith, ap length is, length-truths words places)
 
-pub in_map : (words : List ℕ) (places at : ℕ) (now : List Bool) → truths words places ≡ now → at < places → at < length now
+pub in_map : (words : List ℕ) (places at : ℕ) (now : List Bool)
+    → truths words places ≡ now → at < places → at < length now
 in_map words places at now is below = omega (arith, ap length is, length-truths words places)
 
 -- a place of a list is its bit
@@ -58,7 +62,8 @@ truths_clear count places =
     truths_from (replicate count 0) places (replicate places false) (length-replicate places false)
     (λ at within.
     get_or-replicate places at false false within
-    ∙ sym (ap (λ word. eqb (bit_at word (at % 64)) 1) (zero_word count (at / 64)) ∙ ap (λ bit. eqb bit 1) (bit_at-zero (at % 64))))
+    ∙ sym (ap (λ word. eqb (bit_at word (at % 64)) 1) (zero_word count (at / 64))
+    ∙ ap (λ bit. eqb bit 1) (bit_at-zero (at % 64))))
 
 pub count_clear : (places : ℕ) → count_set (replicate places false) ≡ 0
 count_clear places = sum_by-replicate (λ bit. cond bit 1 0) places false ∙ mul-zero places
@@ -77,7 +82,8 @@ module _ (words : List ℕ) (places at word : ℕ) (value : Bool) (within : at <
       get_or-set_same (truths words places) at value false (omega (arith, length-truths words places))
       ∙ sym (ap (λ w. eqb (bit_at w (at % 64)) 1) now ∙ ap (λ bit. eqb bit 1) there ∙ is_one value)
 
-  same_bit : (p : ℕ) → p ≢ at → bit_at (get_or (slice_set words (at / 64) word) (p / 64) 0) (p % 64) ≡ bit_at (get_or words (p / 64) 0) (p % 64)
+  same_bit : (p : ℕ) → p ≢ at
+      → bit_at (get_or (slice_set words (at / 64) word) (p / 64) 0) (p % 64) ≡ bit_at (get_or words (p / 64) 0) (p % 64)
   same_bit p other =
       elim (cases_eq (p / 64) (at / 64)) [
         | inl same ↦
@@ -88,7 +94,8 @@ module _ (words : List ℕ) (places at word : ℕ) (value : Bool) (within : at <
         | inr apart ↦ ap (λ w. bit_at w (p % 64)) (get_or-set_other words (at / 64) (p / 64) word 0 apart)
       ]
 
-  unchanged : (p : ℕ) → p < places → p ≢ at → IsBit (slice_set words (at / 64) word) (slice_set (truths words places) at value) p
+  unchanged : (p : ℕ)
+      → p < places → p ≢ at → IsBit (slice_set words (at / 64) word) (slice_set (truths words places) at value) p
   unchanged p below other =
       get_or-set_other (truths words places) at p value false other
       ∙ is_bit words places p below
@@ -99,7 +106,8 @@ module _ (words : List ℕ) (places at word : ℕ) (value : Bool) (within : at <
       truths_from (slice_set words (at / 64) word) places (slice_set (truths words places) at value)
       (length-set (truths words places) at value ∙ length-truths words places)
       (λ p below. elim (cases_eq p at) [
-        | inl same ↦ subst (IsBit (slice_set words (at / 64) word) (slice_set (truths words places) at value)) (sym same) changed
+        | inl same ↦
+            subst (IsBit (slice_set words (at / 64) word) (slice_set (truths words places) at value)) (sym same) changed
         | inr other ↦ unchanged p below other
       ])
 
@@ -108,7 +116,8 @@ byte_is : (value : Bool) → bool_byte value ≡ cond value 1 0
 byte_is true = refl
 byte_is false = refl
 
-pub count_changed : (bits : List Bool) (at count : ℕ) (was value : Bool) → at < length bits → was ≡ is_set bits at → count ≡ count_set bits
+pub count_changed : (bits : List Bool) (at count : ℕ) (was value : Bool) → at < length bits → was ≡ is_set bits at
+    → count ≡ count_set bits
     → (count - bool_byte was + bool_byte value ≡ count_set (slice_set bits at value))
     × (bool_byte was ≤ count)
     × (count_set (slice_set bits at value) ≤ length bits)
@@ -117,5 +126,8 @@ count_changed bits at count was value within is kept =
     let after = byte_is value in
     let moved = sum_by-set (λ bit. cond bit 1 0) bits at value false within in
     let among = get_or-le-sum_by (λ bit. cond bit 1 0) bits at false within in
-    let most = count_by-le-length (λ bit. bit) (slice_set bits at value) in
-    (omega (arith, before, after, moved, among), omega (arith, before, among), omega (arith, most, length-set bits at value))
+    let most = count_by-le-length (λ bit. bit) (slice_set bits at value) in (
+      omega (arith, before, after, moved, among),
+      omega (arith, before, among),
+      omega (arith, most, length-set bits at value),
+    )

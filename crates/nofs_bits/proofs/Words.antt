@@ -13,7 +13,8 @@ shifted word first i low =
 
 -- nothing is left of a word from a bit on
 pub none_from : (word first i : ℕ) → word / 2 ^ first ≡ 0 → first ≤ i → bit_at word i ≡ 0
-none_from word first i none low = shifted word first i low ∙ ap (λ x. bit_at x (i - first)) none ∙ bit_at-zero (i - first)
+none_from word first i none low = shifted word first i low ∙ ap (λ x. bit_at x (i - first)) none
+    ∙ bit_at-zero (i - first)
 
 -- the lowest bit of a word from a bit on
 pub record IsLowest (word first bit : ℕ) : Type 0 where
@@ -29,7 +30,8 @@ lowest_from word first small some fits =
     let found = bit_at-trailing_zeros w64 rest some fits in
     let zeros : ℕ = trailing_zeros w64 rest in
     let back : first + zeros - first ≡ zeros = omega arith in
-    let there : bit_at word (first + zeros) ≡ 1 = shifted word first (first + zeros) (omega arith) ∙ ap (bit_at rest) back ∙ found.1 in
+    let there : bit_at word (first + zeros) ≡ 1 = shifted word first (first + zeros) (omega arith)
+    ∙ ap (bit_at rest) back ∙ found.1 in
     record {
       low = omega arith;
       within = elim (cases_lt (first + zeros) 64) [

@@ -7,7 +7,8 @@
 //! a loop that clears the least place again and again passes each word once. Speed is not promised.
 #![tactic(auto)]
 
-ghost use Rattle.std.specs.Prelude.{◌≡◌, ◌≢◌, ◌+◌, ◌*◌, ◌^◌, ◌<◌, ◌≤◌, ℕ, Bool, List, None, IfOk, IfSome, cond, eqb, false, true, length, replicate, slice_set};
+ghost use Rattle.std.specs.Prelude.{◌≡◌, ◌≢◌, ◌+◌, ◌*◌, ◌^◌, ◌<◌, ◌≤◌, ℕ, Bool, List, None, IfOk, IfSome, cond, eqb};
+ghost use Rattle.std.specs.Prelude.{false, true, length, replicate, slice_set};
 ghost use Rattle.std.specs.Int.{bit_at};
 ghost use Rattle.nofs_bits.specs.Bits.{IsFirst, NoneInWords, NoneSet, bit_of, count_set, is_set, truths};
 
@@ -36,7 +37,8 @@ impl Model for Bits {
     ghost view = { λ bits. truths bits.words.items bits.places };
 
     ghost invariant = { λ bits. (vec_len bits.words ≡ (bits.places + 63) / 64)
-        × (bits.set_places ≡ count_set (truths bits.words.items bits.places)) × IsFirst (truths bits.words.items bits.places) bits.first };
+        × (bits.set_places ≡ count_set (truths bits.words.items bits.places))
+        × IsFirst (truths bits.words.items bits.places) bits.first };
 }
 
 impl Bits {
@@ -101,7 +103,8 @@ fn first_after(words: &[u64], places: u64, first: u64, at: u64, value: bool) -> 
     requires long { length words.now ≤ 2 ^ 58 }
     requires whole { places ≤ length words.now * 64 }
     requires at { at < places }
-    ensures { (bits : List Bool) → truths words.now places ≡ slice_set bits at value → IsFirst bits first → IsFirst (slice_set bits at value) result }
+    ensures { (bits : List Bool) → truths words.now places ≡ slice_set bits at value → IsFirst bits first
+        → IsFirst (slice_set bits at value) result }
 {
     if value {
         return if at < first { at } else { first };

@@ -1,5 +1,6 @@
 -- Entries of dirty blocks in another order.
-use Rattle.std.proofs.Common.{◌≡◌, ◌≢◌, ◌⊎◌, ℕ, ◌<◌, ◌≤◌, Bool, false, true≢false, List, length, map, take, get_or, arith, inl, inr, refl, sym, ap, subst}
+use Rattle.std.proofs.Common.{◌≡◌, ◌≢◌, ◌⊎◌, ℕ, ◌<◌, ◌≤◌, Bool, false, true≢false, List, length, map, take, get_or}
+use Rattle.std.proofs.Common.{arith, inl, inr, refl, sym, ap, subst}
 use Rattle.std.proofs.Common.{◌∙◌, Err}
 use Rattle.std.specs.Prelude.{Contains, IsPermutation}
 use Rattle.std.specs.List.{swap}
@@ -13,7 +14,8 @@ use Rattle.std.proofs.lemmas.Cmp.{nat_cmp_total}
 use Rattle.std.proofs.lemmas.List.{get_or_default, get_or-map, get_or-take, length-map, take-take}
 use Rattle.std.proofs.lemmas.List.Edits.{length-swap, swapped_from_swap}
 use Rattle.std.proofs.lemmas.List.Elements.{Contains-get_or}
-use Rattle.std.proofs.lemmas.List.Sorted.{Contains-permutation, IsPermutation-keeps, IsPermutation-map, IsPermutation-sym, IsStrictWeakOrder-flip, ranks_by}
+use Rattle.std.proofs.lemmas.List.Sorted.{Contains-permutation, IsPermutation-keeps, IsPermutation-map}
+use Rattle.std.proofs.lemmas.List.Sorted.{IsPermutation-sym, IsStrictWeakOrder-flip, ranks_by}
 use Rattle.std.proofs.lemmas.List.Sorted.{sorted_far}
 use Rattle.nofs_disk.specs.declared.Failed.{Failed}
 use Rattle.nofs_disk.specs.Disk.{DiskState, Rose, cell_at}
@@ -37,7 +39,8 @@ place_before xs ys same k low = place_of ys xs (IsPermutation-sym xs ys same) k 
 
 -- the slots tell the blocks apart
 pub own_slotted : (slots : List ℕ) (entries : List DirtyEntry) → AreSlotted slots entries → HaveOwnBlocks entries
-own_slotted slots entries s = record { own = λ i j i_low j_low same. sym (s.at i i_low) ∙ ap (λ b. get_or slots b 0) same ∙ s.at j j_low }
+own_slotted slots entries s =
+    record { own = λ i j i_low j_low same. sym (s.at i i_low) ∙ ap (λ b. get_or slots b 0) same ∙ s.at j j_low }
 
 -- where what is at a place stood before two were swapped
 abbrev Moved : ℕ → ℕ → ℕ → ℕ → Type 0
@@ -59,9 +62,11 @@ moved_at : (l : List DirtyEntry) (a b i : ℕ) → a < length l → b < length l
 moved_at l a b i a_low b_low low =
     let s = swapped_from_swap l (swap l a b) a b no_dirty_entry a_low b_low refl in
     elim (cases_eq i a) [
-      | inl at_a ↦ let F : ℕ → Type 0 = λ m. dirty_entry_at (swap l a b) m ≡ dirty_entry_at l b in (b, b_low, subst F (sym at_a) s.0, inl (at_a, refl))
+      | inl at_a ↦ let F : ℕ → Type 0 = λ m. dirty_entry_at (swap l a b) m ≡ dirty_entry_at l b in
+          (b, b_low, subst F (sym at_a) s.0, inl (at_a, refl))
       | inr not_a ↦ elim (cases_eq i b) [
-        | inl at_b ↦ let F : ℕ → Type 0 = λ m. dirty_entry_at (swap l a b) m ≡ dirty_entry_at l a in (a, a_low, subst F (sym at_b) s.1, inr (inl (at_b, refl)))
+        | inl at_b ↦ let F : ℕ → Type 0 = λ m. dirty_entry_at (swap l a b) m ≡ dirty_entry_at l a in
+            (a, a_low, subst F (sym at_b) s.1, inr (inl (at_b, refl)))
         | inr not_b ↦ (i, low, s.2 i not_a not_b, inr (inr (not_a, not_b, refl)))
       ]
     ]
@@ -80,9 +85,11 @@ swap_own l a b a_low b_low is = record {
 
 -- what another order keeps
 pub own_reordered : (xs ys : List DirtyEntry) → IsPermutation xs ys → HaveOwnBlocks xs → HaveOwnBlocks ys
-own_reordered xs ys same is = IsPermutation-keeps xs (λ l. HaveOwnBlocks l) is (λ l i j i_low j_low own. swap_own l i j i_low j_low own) ys same
+own_reordered xs ys same is =
+    IsPermutation-keeps xs (λ l. HaveOwnBlocks l) is (λ l i j i_low j_low own. swap_own l i j i_low j_low own) ys same
 
-pub below_reordered : (xs ys : List DirtyEntry) (slots : List ℕ) → IsPermutation xs ys → AreSlotted slots xs → AreBelow ys (length slots)
+pub below_reordered : (xs ys : List DirtyEntry) (slots : List ℕ) → IsPermutation xs ys → AreSlotted slots xs
+    → AreBelow ys (length slots)
 below_reordered xs ys slots same s = record {
   low = λ i low.
       let h = place_before xs ys same i low in
@@ -108,12 +115,14 @@ not_less x y = go (nat_cmp x y) (ranks x y)
     go Equal is none = omega arith
     go Greater is none = omega arith
 
-pub falls_sorted : (entries : List DirtyEntry) → HaveOwnBlocks entries → IsSortedBy is_above entries → BlocksFall entries
+pub falls_sorted : (entries : List DirtyEntry) → HaveOwnBlocks entries → IsSortedBy is_above entries
+    → BlocksFall entries
 falls_sorted entries is sorted = record {
   falls = λ i j before low.
       let one = (dirty_entry_at entries i).block in
       let other = (dirty_entry_at entries j).block in
-      let at_most : other ≤ one = not_less one other (sorted_far is_above above_order entries sorted i j no_dirty_entry (omega arith) low) in
+      let at_most : other ≤ one =
+      not_less one other (sorted_far is_above above_order entries sorted i j no_dirty_entry (omega arith) low) in
       elim (cases_eq other one) [
         | inl same ↦ let e : j ≡ i = is.own j i low (omega arith) same in absurd (omega arith)
         | inr differ ↦ omega arith
@@ -152,7 +161,8 @@ WrittenBack-reordered d xs ys same = record {
 }
 
 -- a write below failed
-pub settles_no_more : (old new : DiskState) (before after : List DirtyEntry) (failed : Failed) → WrittenBack old new before after → Rose old.faults new.faults
+pub settles_no_more : (old new : DiskState) (before after : List DirtyEntry) (failed : Failed)
+    → WrittenBack old new before after → Rose old.faults new.faults
     → SettlesDirty old new before after (Err failed)
 settles_no_more old new before after failed writes_back rose = record {
   writes_back = writes_back;
@@ -164,33 +174,41 @@ settles_no_more old new before after failed writes_back rose = record {
 }
 
 -- what stands at a place of a front
-front_at : (mid new : List DirtyEntry) → new ≡ take (length new) mid → (k : ℕ) → k < length new → dirty_entry_at new k ≡ dirty_entry_at mid k
-front_at mid new front k low = ap (λ l. get_or l k no_dirty_entry) front ∙ get_or-take (length new) mid k no_dirty_entry low
+front_at : (mid new : List DirtyEntry) → new ≡ take (length new) mid → (k : ℕ) → k < length new
+    → dirty_entry_at new k ≡ dirty_entry_at mid k
+front_at mid new front k low = ap (λ l. get_or l k no_dirty_entry) front
+    ∙ get_or-take (length new) mid k no_dirty_entry low
 
 -- the block at a place
-block_at : (entries : List DirtyEntry) (k b : ℕ) → k < length entries → get_or (map (λ e. e.block) entries) k b ≡ (dirty_entry_at entries k).block
+block_at : (entries : List DirtyEntry) (k b : ℕ) → k < length entries
+    → get_or (map (λ e. e.block) entries) k b ≡ (dirty_entry_at entries k).block
 block_at entries k b low = get_or-map (λ e. e.block) entries k no_dirty_entry b low
 
 -- a front of a front
-pub front-trans : (a b c : List DirtyEntry) → length c ≤ length b → b ≡ take (length b) a → c ≡ take (length c) b → c ≡ take (length c) a
+pub front-trans : (a b c : List DirtyEntry) → length c ≤ length b → b ≡ take (length b) a → c ≡ take (length c) b
+    → c ≡ take (length c) a
 front-trans a b c le p q = q ∙ ap (λ l. take (length c) l) p ∙ take-take (length c) (length b) a le
 
 -- where the blocks fell, and entries were taken from the end
-pub rising_front : (old mid new : List DirtyEntry) → IsPermutation old mid → BlocksFall mid → length new ≤ length mid → new ≡ take (length new) mid
+pub rising_front : (old mid new : List DirtyEntry) → IsPermutation old mid → BlocksFall mid → length new ≤ length mid
+    → new ≡ take (length new) mid
     → WritesRising (map (λ e. e.block) old) (map (λ e. e.block) new)
 rising_front old mid new same fall le front = record {
   above = λ b c has had gone.
-      let p = Contains-permutation (map (λ e. e.block) old) (map (λ e. e.block) mid) c (IsPermutation-map (λ e. e.block) old mid same) had in
+      let p = Contains-permutation (map (λ e. e.block) old) (map (λ e. e.block) mid) c
+      (IsPermutation-map (λ e. e.block) old mid same) had in
       let new_len : length (map (λ e. e.block) new) ≡ length new = length-map new (λ e. e.block) in
       let mid_len : length (map (λ e. e.block) mid) ≡ length mid = length-map mid (λ e. e.block) in
       let i = has.0 in
       let i_low : i < length new = let l = has.1 in omega arith in
       let j = p.0 in
       let j_low : j < length mid = let l = p.1 in omega arith in
-      let is_b : (dirty_entry_at mid i).block ≡ b = ap (λ e. e.block) (sym (front_at mid new front i i_low)) ∙ sym (block_at new i b i_low) ∙ has.2 in
+      let is_b : (dirty_entry_at mid i).block ≡ b = ap (λ e. e.block) (sym (front_at mid new front i i_low))
+      ∙ sym (block_at new i b i_low) ∙ has.2 in
       let is_c : (dirty_entry_at mid j).block ≡ c = sym (block_at mid j c j_low) ∙ p.2 in
       elim (cases_lt j (length new)) [
-        | inl early ↦ absurd (gone (j, omega arith, block_at new j c early ∙ ap (λ e. e.block) (front_at mid new front j early) ∙ is_c))
+        | inl early ↦ absurd
+            (gone (j, omega arith, block_at new j c early ∙ ap (λ e. e.block) (front_at mid new front j early) ∙ is_c))
         | inr late ↦ let less = fall.falls i j (omega arith) j_low in omega arith
       ];
 }

@@ -1,5 +1,6 @@
 -- What a cached disk holds, and what a crash may leave of it.
-use Rattle.std.specs.Prelude.{◌≡◌, ◌⊎◌, ℕ, ◌+◌, ◌-◌, ◌*◌, ◌<◌, ◌≤◌, ◌==◌, if◌then◌else◌, Bool, true, false, List, [], ◌∷◌, length, map, take}
+use Rattle.std.specs.Prelude.{◌≡◌, ◌⊎◌, ℕ, ◌+◌, ◌-◌, ◌*◌, ◌<◌, ◌≤◌, ◌==◌, if◌then◌else◌, Bool, true, false, List, []}
+use Rattle.std.specs.Prelude.{◌∷◌, length, map, take}
 use Rattle.std.specs.Prelude.{slice_index_or, Contains, Option, None, Some, Result, Ok, Err, IsPermutation, OnOk, OnErr}
 use Rattle.nofs_disk.specs.declared.Failed.{Failed}
 use Rattle.nofs_disk.specs.declared.tag.Cell.{Cell}
@@ -21,7 +22,8 @@ only false cell = []
 
 -- a flush ended: where it settles, each block may hold its present cell alone
 abbrev pub held_after_flush : Bool → Held → Held
-held_after_flush true held = record { now = held.now; may = λ b. only (has_cell (held.may b) (cell_at held.now b)) (cell_at held.now b) }
+held_after_flush true held =
+    record { now = held.now; may = λ b. only (has_cell (held.may b) (cell_at held.now b)) (cell_at held.now b) }
 held_after_flush false held = held
 
 -- what the disk holds after these calls
@@ -63,7 +65,8 @@ Left left first (call ∷ past) to m image =
 -- what a read gave at a moment at which a flush ended
 abbrev pub was : (ℕ → List Cell) → ℕ → List CacheCall → ℕ → List Cell
 was below first [] m = below first
-was below first (call ∷ past) m = if m == 2 * length (call ∷ past) then below (ended_at call) else was below first past m
+was below first (call ∷ past) m = if m == 2 * length (call ∷ past) then below (ended_at call)
+    else was below first past m
 
 -- what contracts see of a cached disk
 abbrev pub cache_state : DiskState → DiskState → List CacheCall → List DirtyEntry → ℕ → DiskState
@@ -81,14 +84,16 @@ cache_state under first past entries spare = record {
   holds_back = true;
 }
 
--- what a crash may leave of the disk below at each of its moments from one on, it may leave of the disk over it at this moment
+-- what a crash may leave of the disk below at each of its moments from one on, it may leave of the disk over it at this
+-- moment
 pub record LeavesAll (from : ℕ) (below over : DiskState) (m : ℕ) : Type 0 where
   pub each : (at : ℕ) (image : List Cell) → from ≤ at → at ≤ below.moment → below.left at image → over.left m image
 
 -- each cell that the disk below may hold, and each that is kept, is among these
 pub record Covers (may : ℕ → List Cell) (blocks : ℕ) (under : ℕ → List Cell) (entries : List DirtyEntry) : Type 0 where
   pub below : (b : ℕ) (c : Cell) → b < blocks → Contains (under b) c → Contains (may b) c
-  pub kept : (i : ℕ) → i < length entries → Contains (may (dirty_entry_at entries i).block) (dirty_entry_at entries i).cell
+  pub kept : (i : ℕ) → i < length entries
+      → Contains (may (dirty_entry_at entries i).block) (dirty_entry_at entries i).cell
 
 -- the cells below with those that are kept in their place are these
 pub record Agrees (now below : List Cell) (entries : List DirtyEntry) : Type 0 where
@@ -116,7 +121,8 @@ pub record WrittenBack (old new : DiskState) (before after : List DirtyEntry) : 
   pub past : KeepsPast old new
   pub later : old.moment ≤ new.moment
   pub covers : (may : ℕ → List Cell) (n : ℕ) → n ≡ old.blocks → Covers may n old.may before → Covers may n new.may after
-  pub picks : (may : ℕ → List Cell) (n from : ℕ) → n ≡ old.blocks → Covers may n old.may before → AtEach (λ m image. Picks may n image) from old
+  pub picks : (may : ℕ → List Cell) (n from : ℕ) → n ≡ old.blocks → Covers may n old.may before
+      → AtEach (λ m image. Picks may n image) from old
       → AtEach (λ m image. Picks may n image) from new
   pub agrees : (now : List Cell) → Agrees now old.now before → Agrees now new.now after
   pub fewer : (b : ℕ) → Contains (map (λ e. e.block) after) b → Contains (map (λ e. e.block) before) b
@@ -128,7 +134,8 @@ pub record WritesRising (before after : List ℕ) : Type 0 where
 -- the dirty block that was written out, where there was one
 abbrev pub TakesOut : List DirtyEntry → List DirtyEntry → Result (Option ℕ) Failed → Type 0
 TakesOut before after (Ok None) = (before ≡ []) × (after ≡ [])
-TakesOut before after (Ok (Some block)) = (0 < length before) × IsPermutation (block ∷ map (λ e. e.block) after) (map (λ e. e.block) before)
+TakesOut before after (Ok (Some block)) = (0 < length before)
+    × IsPermutation (block ∷ map (λ e. e.block) after) (map (λ e. e.block) before)
 TakesOut before after (Err failed) = (0 < length before) × (after ≡ before)
 
 -- the dirty blocks became a front of what they were, of as many blocks and with as much room
@@ -161,7 +168,8 @@ pub record Stopped (old new : DiskState) (before after : List DirtyEntry) : Type
   pub cause : Rose old.faults new.faults
 
 -- every dirty cell was written below, and then the disk below was flushed
-pub record SettlesDirty (old new : DiskState) (before after : List DirtyEntry) (result : Result (Unit {0}) Failed) : Type 0 where
+pub record SettlesDirty (old new : DiskState) (before after : List DirtyEntry)
+    (result : Result (Unit {0}) Failed) : Type 0 where
   pub writes_back : WrittenBack old new before after
   pub clean : OnOk result (after ≡ [])
   pub settled : OnOk result (IsSettled new)

@@ -1,5 +1,6 @@
 -- A cached disk is a disk.
-use Rattle.std.proofs.Common.{◌≡◌, ℕ, ◌+◌, ◌*◌, ◌^◌, ◌<◌, true, false, List, [], ◌∷◌, length, arith, inl, inr, refl, sym, subst, ◌∙◌}
+use Rattle.std.proofs.Common.{◌≡◌, ℕ, ◌+◌, ◌*◌, ◌^◌, ◌<◌, true, false, List, [], ◌∷◌, length, arith, inl, inr, refl}
+use Rattle.std.proofs.Common.{sym, subst, ◌∙◌}
 use Rattle.std.specs.Prelude.{Bool, Contains, IsTrue}
 use Rattle.std.proofs.Math.Logic.{∥∥₁_elim, ∥∥₁_prop}
 use Rattle.std.proofs.lemmas.Bool.{cases_eq}
@@ -33,13 +34,20 @@ held-held n first (Write block cell at ∷ past) is =
       has_now = λ b low. elim (cases_eq b block) [
         | inl same ↦
             let inside : block < length h.now = let len = before.len in omega arith in
-            rw (same, written_here h block cell.value, get_or-set_same h.now block cell.value no_cell inside) (Contains-push (h.may block) cell.value)
-        | inr other ↦ rw (written_other h block b cell.value other, get_or-set_other h.now block b cell.value no_cell other) (before.has_now b low)
+            rw (same, written_here h block cell.value, get_or-set_same h.now block cell.value no_cell inside)
+            (Contains-push (h.may block) cell.value)
+        | inr other ↦ rw (
+          written_other h block b cell.value other,
+          get_or-set_other h.now block b cell.value no_cell other,
+        ) (before.has_now b low)
       ];
     }
 held-held n first (Flush true from to ∷ past) is =
     let h = held-held n first past is in
-    record { len = h.len; has_now = λ b low. only_has ((held first past).may b) (cell_at (held first past).now b) (h.has_now b low) }
+    record {
+      len = h.len;
+      has_now = λ b low. only_has ((held first past).may b) (cell_at (held first past).now b) (h.has_now b low);
+    }
 held-held n first (Flush false from to ∷ past) is = held-held n first past is
 
 -- what the disk below held as it was given
@@ -47,12 +55,14 @@ abbrev pub first_held : DiskState → Held
 first_held first = record { now = first.now; may = first.may }
 
 -- what may be left at a moment that is not there yet
-pub Left-later : (leaves : ℕ → List Cell → Type 0) (first : ℕ) (past : List CacheCall) (to m : ℕ) (image : List Cell) → 2 * length past < m
+pub Left-later : (leaves : ℕ → List Cell → Type 0) (first : ℕ) (past : List CacheCall) (to m : ℕ) (image : List Cell)
+    → 2 * length past < m
     → Left leaves first past to m image → ⊥
 Left-later leaves first [] to m image later (at, left) = omega arith
 Left-later leaves first (call ∷ past) to m image later (inl (at, left)) = omega arith
 Left-later leaves first (call ∷ past) to m image later (inr (inl (at, left))) = omega arith
-Left-later leaves first (call ∷ past) to m image later (inr (inr left)) = Left-later leaves first past _ m image (omega arith) left
+Left-later leaves first (call ∷ past) to m image later (inr (inr left)) =
+    Left-later leaves first past _ m image (omega arith) left
 
 -- what may be left at the present moment
 pub Left-now : (leaves : ℕ → List Cell → Type 0) (first : ℕ) (past : List CacheCall) (to : ℕ) (image : List Cell)
@@ -60,21 +70,26 @@ pub Left-now : (leaves : ℕ → List Cell → Type 0) (first : ℕ) (past : Lis
 Left-now leaves first [] to image (at, left) = left
 Left-now leaves first (call ∷ past) to image (inl (at, left)) = left
 Left-now leaves first (call ∷ past) to image (inr (inl (at, left))) = absurd (omega arith)
-Left-now leaves first (call ∷ past) to image (inr (inr left)) = absurd (Left-later leaves first past _ (2 * length (call ∷ past)) image (omega arith) left)
+Left-now leaves first (call ∷ past) to image (inr (inr left)) =
+    absurd (Left-later leaves first past _ (2 * length (call ∷ past)) image (omega arith) left)
 
 -- what is kept of a cached disk over all its calls
 abbrev pub CacheKeeps : DiskState → DiskState → List CacheCall → List DirtyEntry → Type 0
 CacheKeeps under first past entries = IsCached (held (first_held first) past) (last_end first.moment past) under entries
 
 -- an image that may be left at the present moment picks from what the cached disk may hold
-pub rest_picks : (under first : DiskState) (past : List CacheCall) (entries : List DirtyEntry) → ∥ CacheKeeps under first past entries ∥₁
-    → (image : List Cell) → Left under.left first.moment past under.moment (2 * length past) image → Picks (held (first_held first) past).may under.blocks image
+pub rest_picks : (under first : DiskState) (past : List CacheCall) (entries : List DirtyEntry)
+    → ∥ CacheKeeps under first past entries ∥₁
+    → (image : List Cell) → Left under.left first.moment past under.moment (2 * length past) image
+    → Picks (held (first_held first) past).may under.blocks image
 rest_picks under first past entries kept image left =
     let within = Left-now under.left first.moment past under.moment image left in
-    Picks-known _ _ image (∥∥₁_elim kept ∥∥₁_prop (λ k. ∣ k.picks.each within.at image within.low within.high within.left ∣₁))
+    Picks-known _ _ image
+    (∥∥₁_elim kept ∥∥₁_prop (λ k. ∣ k.picks.each within.at image within.low within.high within.left ∣₁))
 
 -- each cell that may be held is that of a block that is there, and has the bytes of a cell
-pub within_of : (under first : DiskState) (past : List CacheCall) (entries : List DirtyEntry) → ∥ CacheKeeps under first past entries ∥₁
+pub within_of : (under first : DiskState) (past : List CacheCall) (entries : List DirtyEntry)
+    → ∥ CacheKeeps under first past entries ∥₁
     → IsWithin (held (first_held first) past).may under.blocks
 within_of under first past entries kept = record {
   beyond = λ b c low has. ∥∥₁_elim kept (λ x y. absurd x) (λ k. k.within.beyond b c low has);
@@ -82,7 +97,8 @@ within_of under first past entries kept = record {
 }
 
 -- a cached disk keeps every law of a disk
-pub cache_is : (under first : DiskState) (past : List CacheCall) (entries : List DirtyEntry) (spare : ℕ) → IsDisk under → IsDisk first
+pub cache_is : (under first : DiskState) (past : List CacheCall) (entries : List DirtyEntry) (spare : ℕ)
+    → IsDisk under → IsDisk first
     → first.blocks ≡ under.blocks → first.tells ≡ under.tells
     → {moment : ℕ} → moment ≡ 2 * length past → 2 * spare + moment < 2 ^ 64 → ∥ CacheKeeps under first past entries ∥₁
     → IsDisk (cache_state under first past entries spare)

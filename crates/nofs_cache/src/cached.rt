@@ -15,7 +15,8 @@
 //! - clean: the disk below has the cell; nothing of it is kept here.
 //! - dirty: the cell is in `dirty`, and a crash leaves what the disk below may leave of the block.
 //! - After a flush that succeeded every block is clean, and all of it lasts.
-ghost use Rattle.std.specs.Prelude.{◌≡◌, ℕ, ◌+◌, ◌*◌, ◌^◌, ◌<◌, ◌≤◌, ◌∷◌, [], length, IfOk, IfErr, IsOk, IsTrue, Contains};
+ghost use Rattle.std.specs.Prelude.{◌≡◌, ℕ, ◌+◌, ◌*◌, ◌^◌, ◌<◌, ◌≤◌, ◌∷◌, [], length, IfOk, IfErr, IsOk, IsTrue};
+ghost use Rattle.std.specs.Prelude.{Contains};
 ghost use Rattle.nofs_disk.specs.declared.tag.Cell.{Cell};
 ghost use Rattle.nofs_cache.specs.Dirty.Blocks.{block_count, entries_of, room_of};
 ghost use Rattle.nofs_cache.specs.Laws.{CacheKeeps};
@@ -89,7 +90,8 @@ impl<D: Disk + Drop> Cached<D> {
         ensures may { IfOk result (λ c. (⟦<Cached<D> as Disk>⟧.state c).may ≡ (D.state under).may) }
         ensures clean { IfOk result (λ c. (⟦<Cached<D> as Disk>⟧.state c).dirty ≡ []) }
         ensures holds_back { IfOk result (λ c. IsTrue (⟦<Cached<D> as Disk>⟧.state c).holds_back) }
-        ensures left { IfOk result (λ c. LeavesAll (D.state under).moment (D.state under) (⟦<Cached<D> as Disk>⟧.state c) 0) }
+        ensures left { IfOk result
+            (λ c. LeavesAll (D.state under).moment (D.state under) (⟦<Cached<D> as Disk>⟧.state c) 0) }
         ensures under { IfOk result (λ c. c.under ≡ under) }
         ensures back { IfErr result (λ fault. fault.under ≡ under) }
     {
@@ -114,11 +116,13 @@ impl<D: Disk + Drop> Cached<D> {
     /// what one might have left of the cached disk. A block that isn't dirty has the same cell there,
     /// and where none is, a read gives the same below.
     pub fn below(self) -> D
-        ensures now { (⟦<Cached<D> as Disk>⟧.state self).dirty ≡ [] → (D.state result).now ≡ (⟦<Cached<D> as Disk>⟧.state self).now }
+        ensures now { (⟦<Cached<D> as Disk>⟧.state self).dirty ≡ []
+            → (D.state result).now ≡ (⟦<Cached<D> as Disk>⟧.state self).now }
         ensures clean { (b : ℕ) → (Contains (⟦<Cached<D> as Disk>⟧.state self).dirty b → ⊥)
             → cell_at (D.state result).now b ≡ cell_at (⟦<Cached<D> as Disk>⟧.state self).now b }
         ensures under { result ≡ self.under }
-        ensures left { LeavesAll (D.state result).moment (D.state result) (⟦<Cached<D> as Disk>⟧.state self) (⟦<Cached<D> as Disk>⟧.state self).moment }
+        ensures left { LeavesAll (D.state result).moment (D.state result) (⟦<Cached<D> as Disk>⟧.state self)
+            (⟦<Cached<D> as Disk>⟧.state self).moment }
     {
         self.under
     }
@@ -128,9 +132,11 @@ impl<D: Disk + Drop> Disk for Cached<D> {
     ghost use Rattle.nofs_cache.specs.Cached.{cache_state};
     ghost use Rattle.nofs_cache.specs.Laws.{cache_is};
 
-    ghost state = { λ c. cache_state (D.state c.under) (D.state c.first.value) (cache_calls c.past.value) (entries_of c.dirty) c.spare };
+    ghost state = { λ c. cache_state (D.state c.under) (D.state c.first.value) (cache_calls c.past.value)
+        (entries_of c.dirty) c.spare };
 
-    ghost is_disk = { λ c. cache_is (D.state c.under) (D.state c.first.value) (cache_calls c.past.value) (entries_of c.dirty)
+    ghost is_disk = { λ c. cache_is (D.state c.under) (D.state c.first.value) (cache_calls c.past.value)
+        (entries_of c.dirty)
         c.spare (D.is_disk c.under) (D.is_disk c.first.value) c.blocks c.tells c.made c.room c.kept };
 
     fn blocks(&self) -> u64 {
@@ -161,8 +167,10 @@ impl<D: Disk + Drop> Disk for Cached<D> {
     /// A dirty block is read from memory, with no call below, and any other from the disk below.
     fn read(&mut self, block: u64, into: &mut Cell) -> Result<(), Failed>
         requires { block < (⟦<Cached<D> as Disk>⟧.state self.old).blocks }
-        ensures reads { Reads (⟦<Cached<D> as Disk>⟧.state self.old) (⟦<Cached<D> as Disk>⟧.state self.new) block into.new result }
-        ensures memory { Contains (⟦<Cached<D> as Disk>⟧.state self.old).dirty block → IsOk result × (self.new.under ≡ self.old.under) }
+        ensures reads { Reads (⟦<Cached<D> as Disk>⟧.state self.old)
+            (⟦<Cached<D> as Disk>⟧.state self.new) block into.new result }
+        ensures memory { Contains (⟦<Cached<D> as Disk>⟧.state self.old).dirty block
+            → IsOk result × (self.new.under ≡ self.old.under) }
     {
         match self.dirty.get(block) {
             Some(cell) => {
@@ -177,7 +185,8 @@ impl<D: Disk + Drop> Disk for Cached<D> {
     fn write(&mut self, block: u64, cell: &Cell) -> Result<(), Failed>
         requires block { block < (⟦<Cached<D> as Disk>⟧.state self.old).blocks }
         requires spare { 1 ≤ (⟦<Cached<D> as Disk>⟧.state self.old).spare }
-        ensures writes { Writes (⟦<Cached<D> as Disk>⟧.state self.old) (⟦<Cached<D> as Disk>⟧.state self.new) block cell.now result }
+        ensures writes { Writes (⟦<Cached<D> as Disk>⟧.state self.old)
+            (⟦<Cached<D> as Disk>⟧.state self.new) block cell.now result }
         ensures memory { self.new.under ≡ self.old.under }
         ensures left { LeavesAll (D.state self.old.under).moment (D.state self.new.under)
             (⟦<Cached<D> as Disk>⟧.state self.new) ((⟦<Cached<D> as Disk>⟧.state self.old).moment + 1) }
@@ -202,7 +211,8 @@ impl<D: Disk + Drop> Disk for Cached<D> {
     /// that disk may leave meanwhile, this one may leave at its moment during the call.
     fn flush(&mut self) -> Result<(), Failed>
         requires { 1 ≤ (⟦<Cached<D> as Disk>⟧.state self.old).spare }
-        ensures rising { WritesRising (⟦<Cached<D> as Disk>⟧.state self.old).dirty (⟦<Cached<D> as Disk>⟧.state self.new).dirty }
+        ensures rising { WritesRising (⟦<Cached<D> as Disk>⟧.state self.old).dirty
+            (⟦<Cached<D> as Disk>⟧.state self.new).dirty }
         ensures flushes { Flushes (⟦<Cached<D> as Disk>⟧.state self.old) (⟦<Cached<D> as Disk>⟧.state self.new) result }
         ensures left { LeavesAll (D.state self.old.under).moment (D.state self.new.under)
             (⟦<Cached<D> as Disk>⟧.state self.new) ((⟦<Cached<D> as Disk>⟧.state self.old).moment + 1) }
@@ -227,7 +237,8 @@ impl<D: Disk + Drop> Disk for Cached<D> {
     /// at its present moment.
     fn write_out(&mut self) -> Result<Option<u64>, Failed>
         requires { 1 ≤ (⟦<Cached<D> as Disk>⟧.state self.old).spare }
-        ensures writes_out { WritesOut (⟦<Cached<D> as Disk>⟧.state self.old) (⟦<Cached<D> as Disk>⟧.state self.new) result }
+        ensures writes_out { WritesOut (⟦<Cached<D> as Disk>⟧.state self.old)
+            (⟦<Cached<D> as Disk>⟧.state self.new) result }
         ensures left { LeavesAll (D.state self.old.under).moment (D.state self.new.under)
             (⟦<Cached<D> as Disk>⟧.state self.new) (⟦<Cached<D> as Disk>⟧.state self.new).moment }
     {

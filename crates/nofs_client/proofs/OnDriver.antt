@@ -1,5 +1,6 @@
 -- A run of commands goes on, step by step and command by command.
-use Rattle.std.proofs.Common.{◌≡◌, ℕ, suc, ◌+◌, ◌<◌, length, take, drop, get_or, subst, List, [], ◌∷◌, ◌++◌, map, fold, false, refl, sym, ap, ◌∙◌}
+use Rattle.std.proofs.Common.{◌≡◌, ℕ, suc, ◌+◌, ◌<◌, length, take, drop, get_or, subst, List, [], ◌∷◌, ◌++◌, map, fold}
+use Rattle.std.proofs.Common.{false, refl, sym, ap, ◌∙◌}
 use Rattle.std.proofs.Common.{append_assoc, Some, None, Option, if◌then◌else◌}
 use Rattle.std.specs.Option.{option_map_or}
 use Rattle.std.proofs.Math.Seq.{drop-cons}
@@ -32,20 +33,24 @@ pub progress-more : (c : Command) (ms : List Made) (s : Step) (r : Reply)
 progress-more c ms s r = fold-more (progress_after c) made_reply (start_of c) ms (s, r)
 
 -- the list of made steps after one more
-pub made-more : (old mid new ms : List Made) (s : Step) (r : Reply) → mid ≡ old ++ ms → is_out_of_memory r ≡ false → new ≡ with_made mid s r
+pub made-more : (old mid new ms : List Made) (s : Step) (r : Reply)
+    → mid ≡ old ++ ms → is_out_of_memory r ≡ false → new ≡ with_made mid s r
     → new ≡ old ++ (ms ++ (s, r) ∷ [])
 made-more old mid new ms s r h room more =
-    more ∙ ap (λ b. if b then mid else mid ++ (s, r) ∷ []) room ∙ ap (λ l. l ++ (s, r) ∷ []) h ∙ append_assoc old ms ((s, r) ∷ [])
+    more ∙ ap (λ b. if b then mid else mid ++ (s, r) ∷ []) room ∙ ap (λ l. l ++ (s, r) ∷ []) h
+    ∙ append_assoc old ms ((s, r) ∷ [])
 
 -- one more step of a command is made
-pub step-more : (c : Command) (p : Progress) (old mid new ms : List Made) (s : Step) (r : Reply) → mid ≡ old ++ ms → Asked c (start_of c) ms
+pub step-more : (c : Command) (p : Progress) (old mid new ms : List Made) (s : Step) (r : Reply)
+    → mid ≡ old ++ ms → Asked c (start_of c) ms
     → p ≡ progress c (map made_reply ms) → asks c p ≡ Do s → is_out_of_memory r ≡ false → new ≡ with_made mid s r
     → (new ≡ old ++ (ms ++ (s, r) ∷ [])) × Asked c (start_of c) (ms ++ (s, r) ∷ [])
 step-more c p old mid new ms s r h asked is asks-it room more =
     (made-more old mid new ms s r h room more, Asked-more c (start_of c) ms s r asked (ap (asks c) (sym is) ∙ asks-it))
 
 -- one more command is run
-pub driven-more : (cs : List Command) (c : Command) (ms more : List Made) (ls : List Line) (l : Line) → IsDriven cs ms ls → IsCommandRun c more l
+pub driven-more : (cs : List Command) (c : Command) (ms more : List Made) (ls : List Line) (l : Line)
+    → IsDriven cs ms ls → IsCommandRun c more l
     → IsDriven (cs ++ c ∷ []) (ms ++ more) (ls ++ l ∷ [])
 driven-more [] c ms more ls l h run =
     (more, [], l, [], ap (λ m. m ++ more) h.0 ∙ sym (append-nil more), ap (λ k. k ++ l ∷ []) h.1, run, (refl, refl))
@@ -63,14 +68,17 @@ driven-more (d ∷ ds) c ms more ls l h run =
 
 -- what is said after the replies of a command that was run
 said-run : (c : Command) (p : Progress) (ms : List Made) (l : Line) (more : List Reply) → Asked c p ms
-    → asks c (fold (progress_after c) p (map made_reply ms)) ≡ Say l → said_of c p (map made_reply ms ++ more) ≡ Some (l, more)
+    → asks c (fold (progress_after c) p (map made_reply ms)) ≡ Say l
+    → said_of c p (map made_reply ms ++ more) ≡ Some (l, more)
 said-run c p [] l [] h e = ap (λ n. chosen n [] None) e
 said-run c p [] l (r ∷ rs) h e = ap (λ n. chosen n (r ∷ rs) (said_of c (progress_after c p r) rs)) e
 said-run c p (m ∷ ms) l more h e =
-    ap (λ n. chosen n (m.1 ∷ (map made_reply ms ++ more)) (said_of c (progress_after c p m.1) (map made_reply ms ++ more))) h.0
+    ap (λ n. chosen n (m.1 ∷ (map made_reply ms ++ more))
+    (said_of c (progress_after c p m.1) (map made_reply ms ++ more))) h.0
     ∙ said-run c (progress_after c p m.1) ms l more h.1 e
 
-lines-run : (cs : List Command) (ms : List Made) (ls : List Line) (more : List Reply) → IsDriven cs ms ls → lines_of cs (map made_reply ms ++ more) ≡ ls
+lines-run : (cs : List Command) (ms : List Made) (ls : List Line) (more : List Reply) → IsDriven cs ms ls
+    → lines_of cs (map made_reply ms ++ more) ≡ ls
 unfolding lines_of drive_of
 lines-run [] ms ls more h = sym h.1
 lines-run (c ∷ cs) ms ls more h =
@@ -79,7 +87,8 @@ lines-run (c ∷ cs) ms ls more h =
     ap (λ m. map made_reply m ++ more) made ∙ ap (λ k. k ++ more) (map-append made_reply front back)
     ∙ append_assoc (map made_reply front) (map made_reply back) more in
     let one = said-run c (start_of c) front line (map made_reply back ++ more) first.asked first.says in
-    ap (lines_of (c ∷ cs)) parts ∙ ap (λ (o : Option (Line × List Reply)). option_map_or (λ p. p.0 ∷ lines_of cs p.1) o []) one
+    ap (lines_of (c ∷ cs)) parts
+    ∙ ap (λ (o : Option (Line × List Reply)). option_map_or (λ p. p.0 ∷ lines_of cs p.1) o []) one
     ∙ ap (λ k. line ∷ k) (lines-run cs back others more rest) ∙ sym lines
 
 -- the lines of a run are those that the replies give
@@ -92,7 +101,8 @@ nothing-begun [] = refl
 nothing-begun (c ∷ cs) = tt
 
 -- some of the commands were run, and the next one begun
-runs-some : (cs : List Command) (i : ℕ) (old mid new ms : List Made) (old_lines lines : List Line) → RunsAll (take i cs) old mid old_lines lines
+runs-some : (cs : List Command) (i : ℕ) (old mid new ms : List Made) (old_lines lines : List Line)
+    → RunsAll (take i cs) old mid old_lines lines
     → new ≡ mid ++ ms → IsBegun (drop i cs) ms → RunsSome cs old new old_lines lines
 runs-some cs i old mid new ms old_lines lines all more begun = record {
   made = all.made ++ ms;
@@ -112,19 +122,24 @@ runs-some cs i old mid new ms old_lines lines all more begun = record {
 }
 
 -- no command is begun beside those that were run
-pub runs-so-far : (cs : List Command) (i : ℕ) (old new : List Made) (old_lines lines : List Line) → RunsAll (take i cs) old new old_lines lines
+pub runs-so-far : (cs : List Command) (i : ℕ) (old new : List Made) (old_lines lines : List Line)
+    → RunsAll (take i cs) old new old_lines lines
     → RunsSome cs old new old_lines lines
-runs-so-far cs i old new old_lines lines all = runs-some cs i old new new [] old_lines lines all (sym (append-nil new)) (nothing-begun (drop i cs))
+runs-so-far cs i old new old_lines lines all =
+    runs-some cs i old new new [] old_lines lines all (sym (append-nil new)) (nothing-begun (drop i cs))
 
 -- one command is begun beside those that were run
-pub runs-in-part : (cs : List Command) (i : ℕ) (c : Command) (old mid new ms : List Made) (old_lines lines : List Line) → i < length cs → c ≡ get_or cs i c
-    → RunsAll (take i cs) old mid old_lines lines → new ≡ mid ++ ms → Asked c (start_of c) ms → RunsSome cs old new old_lines lines
+pub runs-in-part : (cs : List Command) (i : ℕ) (c : Command) (old mid new ms : List Made) (old_lines lines : List Line)
+    → i < length cs → c ≡ get_or cs i c
+    → RunsAll (take i cs) old mid old_lines lines → new ≡ mid ++ ms → Asked c (start_of c) ms
+    → RunsSome cs old new old_lines lines
 runs-in-part cs i c old mid new ms old_lines lines lt is all more asked =
     let left : drop i cs ≡ c ∷ drop (suc i) cs = drop-cons cs i c lt ∙ ap (λ d. d ∷ drop (suc i) cs) (sym is) in
     runs-some cs i old mid new ms old_lines lines all more (subst (λ l. IsBegun l ms) (sym left) asked)
 
 -- one more command is run
-pub runs-more : (cs : List Command) (i : ℕ) (c : Command) (old mid new ms : List Made) (old_lines lines new_lines : List Line) (l : Line) → i < length cs
+pub runs-more : (cs : List Command) (i : ℕ) (c : Command) (old mid new ms : List Made)
+    (old_lines lines new_lines : List Line) (l : Line) → i < length cs
     → c ≡ get_or cs i c
     → RunsAll (take i cs) old mid old_lines lines → new ≡ mid ++ ms → IsCommandRun c ms l → new_lines ≡ lines ++ l ∷ []
     → RunsAll (take (i + 1) cs) old new old_lines new_lines
@@ -135,5 +150,6 @@ runs-more cs i c old mid new ms old_lines lines new_lines l lt is all more run m
       said = all.said ++ l ∷ [];
       more = more ∙ ap (λ k. k ++ ms) all.more ∙ append_assoc old all.made ms;
       more_lines = more_lines ∙ ap (λ k. k ++ l ∷ []) all.more_lines ∙ append_assoc old_lines all.said (l ∷ []);
-      driven = subst (λ k. IsDriven k (all.made ++ ms) (all.said ++ l ∷ [])) (sym front) (driven-more (take i cs) c all.made ms all.said l all.driven run);
+      driven = subst (λ k. IsDriven k (all.made ++ ms) (all.said ++ l ∷ [])) (sym front)
+          (driven-more (take i cs) c all.made ms all.said l all.driven run);
     }

@@ -1,5 +1,6 @@
 -- How much of a command is left to do, with the steps that make room.
-use Rattle.std.proofs.Common.{◌≡◌, ℕ, zero, suc, ◌+◌, ◌*◌, ◌^◌, ◌<◌, Bool, true, false, if◌then◌else◌, Option, Some, None, refl, arith}
+use Rattle.std.proofs.Common.{◌≡◌, ℕ, zero, suc, ◌+◌, ◌*◌, ◌^◌, ◌<◌, Bool, true, false, if◌then◌else◌, Option, Some}
+use Rattle.std.proofs.Common.{None, refl, arith}
 use Rattle.std.proofs.lemmas.Bool.Decides.{nat_tests}
 use Rattle.nofs_history.specs.declared.machine.replies.Reply.{Reply}
 use Rattle.nofs_history.specs.declared.machine.replies.Reply.TheVariants as reply
@@ -53,28 +54,34 @@ weight-pos : (t extra : ℕ) → 0 < weight t extra 1
 weight-pos zero extra = omega arith
 weight-pos (suc t) extra = omega arith
 
-room-falls : (unverified : ℕ) (last : Option ℕ) → unverified < 2 ^ 64 → goes_on unverified last ≡ true → unverified < room last
+room-falls : (unverified : ℕ) (last : Option ℕ)
+    → unverified < 2 ^ 64 → goes_on unverified last ≡ true → unverified < room last
 room-falls unverified None small e = small
 room-falls unverified (Some last) small e = grind (arith, nat_tests)
 
-small-full : (n : Next) (needed free unverified next : ℕ) → Answers n (reply.Refused (refusal.Full needed free unverified next)) → unverified < 2 ^ 64
+small-full : (n : Next) (needed free unverified next : ℕ)
+    → Answers n (reply.Refused (refusal.Full needed free unverified next)) → unverified < 2 ^ 64
 small-full (Do s) needed free unverified next h = h.0
 small-full (Say l) needed free unverified next h = absurd h
 
-small-inodes : (n : Next) (unverified next : ℕ) → Answers n (reply.Refused (refusal.InodesFull unverified next)) → unverified < 2 ^ 64
+small-inodes : (n : Next) (unverified next : ℕ) → Answers n (reply.Refused (refusal.InodesFull unverified next))
+    → unverified < 2 ^ 64
 small-inodes (Do s) unverified next h = h.0.0
 small-inodes (Say l) unverified next h = absurd h
 
-refused-falls : (c : Command) (p : Progress) (r : Refusal) → TaskStands c p.task → Answers (task_asks c p.task) (reply.Refused r)
+refused-falls : (c : Command) (p : Progress) (r : Refusal) → TaskStands c p.task
+    → Answers (task_asks c p.task) (reply.Refused r)
     → rank c (after_refused c p r) < rank c p
 refused-falls c p (refusal.Full needed free unverified next) stands h =
     let falls = task-falls c p.task (reply.Refused (refusal.Full needed free unverified next)) stands h in
     let big : 0 < task_rank c p.task = omega arith in
     let small = small-full (task_asks c p.task) needed free unverified next h in
     let P : Bool → Type 0 = λ b. goes_on unverified p.full ≡ b →
-    rank c (if b then examines_block p unverified next else step_answered c p (reply.Refused (refusal.Full needed free unverified next))) < rank c p in
+    rank c (if b then examines_block p unverified next
+    else step_answered c p (reply.Refused (refusal.Full needed free unverified next))) < rank c p in
     let k : P (goes_on unverified p.full) = elim (goes_on unverified p.full) as P [
-      | true ↦ λ e. weight-beside (task_rank c p.task) (room p.full + room p.inodes) (unverified + room p.inodes) (see_rank p.see) big
+      | true ↦ λ e. weight-beside (task_rank c p.task) (room p.full + room p.inodes) (unverified + room p.inodes)
+          (see_rank p.see) big
           (let f = room-falls unverified p.full small e in omega arith)
       | false ↦ λ e. weight-falls _ _ (room p.full + room p.inodes) (see_rank p.see) falls
     ] in
@@ -84,18 +91,23 @@ refused-falls c p (refusal.InodesFull unverified next) stands h =
     let big : 0 < task_rank c p.task = omega arith in
     let small = small-inodes (task_asks c p.task) unverified next h in
     let P : Bool → Type 0 = λ b. goes_on unverified p.inodes ≡ b →
-    rank c (if b then examines_inode p unverified next else step_answered c p (reply.Refused (refusal.InodesFull unverified next))) < rank c p in
+    rank c (if b then examines_inode p unverified next
+    else step_answered c p (reply.Refused (refusal.InodesFull unverified next))) < rank c p in
     let k : P (goes_on unverified p.inodes) = elim (goes_on unverified p.inodes) as P [
-      | true ↦ λ e. weight-beside (task_rank c p.task) (room p.full + room p.inodes) (room p.full + unverified) (see_rank p.see) big
+      | true ↦ λ e. weight-beside (task_rank c p.task) (room p.full + room p.inodes) (room p.full + unverified)
+          (see_rank p.see) big
           (let f = room-falls unverified p.inodes small e in omega arith)
       | false ↦ λ e. weight-falls _ _ (room p.full + room p.inodes) (see_rank p.see) falls
     ] in
     k refl
-refused-falls c p r stands h = weight-falls _ _ (room p.full + room p.inodes) (see_rank p.see) (task-falls c p.task (reply.Refused r) stands h)
+refused-falls c p r stands h =
+    weight-falls _ _ (room p.full + room p.inodes) (see_rank p.see) (task-falls c p.task (reply.Refused r) stands h)
 
-step-falls : (c : Command) (p : Progress) (r : Reply) → TaskStands c p.task → Answers (task_asks c p.task) r → rank c (after_step c p r) < rank c p
+step-falls : (c : Command) (p : Progress) (r : Reply) → TaskStands c p.task → Answers (task_asks c p.task) r
+    → rank c (after_step c p r) < rank c p
 step-falls c p (reply.Refused r) stands h = refused-falls c p r stands h
-step-falls c p r stands h = weight-falls _ _ (room p.full + room p.inodes) (see_rank p.see) (task-falls c p.task r stands h)
+step-falls c p r stands h =
+    weight-falls _ _ (room p.full + room p.inodes) (see_rank p.see) (task-falls c p.task r stands h)
 
 see-falls : (c : Command) (p : Progress) (s : See) (r : Reply) → p.see ≡ Some s → rank c (after_see c p r) < rank c p
 see-falls c p s (reply.Refused r) e =
@@ -103,11 +115,13 @@ see-falls c p s (reply.Refused r) e =
     rw (e, none) (weight-pos (task_rank c p.task) (room p.full + room p.inodes))
 see-falls c p s r e = rw e (weight-see (task_rank c p.task) (room p.full + room p.inodes))
 
-falls-at : (c : Command) (p : Progress) (o : Option See) (r : Reply) → p.see ≡ o → TaskStands c p.task → Answers (asks_beside o (task_asks c p.task)) r
+falls-at : (c : Command) (p : Progress) (o : Option See) (r : Reply) → p.see ≡ o → TaskStands c p.task
+    → Answers (asks_beside o (task_asks c p.task)) r
     → rank c (after_beside o c p r) < rank c p
 falls-at c p None r e stands h = step-falls c p r stands h
 falls-at c p (Some s) r e stands h = see-falls c p s r e
 
 -- less is left of a command after each reply
-pub rank-falls : (c : Command) (p : Progress) (r : Reply) → TaskStands c p.task → Answers (asks c p) r → rank c (progress_after c p r) < rank c p
+pub rank-falls : (c : Command) (p : Progress) (r : Reply) → TaskStands c p.task → Answers (asks c p) r
+    → rank c (progress_after c p r) < rank c p
 rank-falls c p r stands h = falls-at c p p.see r refl stands h

@@ -1,5 +1,6 @@
 -- How much of a command is left to do.
-use Rattle.std.proofs.Common.{◌≡◌, ℕ, ◌+◌, ◌-◌, ◌^◌, ◌<◌, ◌≤◌, ◌++◌, min, List, [], length, nat_lt, Bool, true, false, if◌then◌else◌, refl, arith, le_refl}
+use Rattle.std.proofs.Common.{◌≡◌, ℕ, ◌+◌, ◌-◌, ◌^◌, ◌<◌, ◌≤◌, ◌++◌, min, List, [], length, nat_lt, Bool, true, false}
+use Rattle.std.proofs.Common.{if◌then◌else◌, refl, arith, le_refl}
 use Rattle.std.proofs.lemmas.Bool.Decides.{nat_tests}
 use Rattle.nofs_inode.specs.declared.inode.FileKind.{FileKind}
 use Rattle.nofs_inode.specs.declared.inode.FileKind.TheVariants as kind
@@ -31,7 +32,8 @@ use Rattle.nofs_client.specs.Task.Answers.{after_get, listing, after_list, task_
 tested : (a b : ℕ) (P : Bool → Type 0) → (a < b → P true) → (b ≤ a → P false) → P (nat_lt a b)
 tested a b P yes' no' =
     let Q : Bool → Type 0 = λ v. nat_lt a b ≡ v → P v in
-    let k : Q (nat_lt a b) = elim (nat_lt a b) as Q [ true ↦ λ e. yes' (grind (arith, nat_tests)) | false ↦ λ e. no' (grind (arith, nat_tests)) ] in
+    let k : Q (nat_lt a b) = elim (nat_lt a b) as Q
+    [ true ↦ λ e. yes' (grind (arith, nat_tests)) | false ↦ λ e. no' (grind (arith, nat_tests)) ] in
     k refl
 
 abbrev pub stage_rank : Stage → ℕ
@@ -64,12 +66,14 @@ arrived_new-rank : (c : Command) (place : Location) (to : Handle) (depth : ℕ) 
     → task_rank c (arrived_new c place to depth) ≤ act_rank c + (new_looks c - depth)
 arrived_new-rank (command.Link path new_path) place to depth two =
     let c = command.Link path new_path in
-    let P : Bool → Type 0 = λ b. task_rank c (if b then task.LookingNew place to depth else task.Linking place to (first_stage c)) ≤ act_rank c +
+    let P : Bool → Type 0 = λ b. task_rank c
+    (if b then task.LookingNew place to depth else task.Linking place to (first_stage c)) ≤ act_rank c +
     (new_looks c - depth) in
     tested depth (new_looks c) P (λ lt. le_refl _) (λ le. omega arith)
 arrived_new-rank (command.Move from to') place to depth two =
     let c = command.Move from to' in
-    let P : Bool → Type 0 = λ b. task_rank c (if b then task.LookingNew place to depth else task.Linking place to (first_stage c)) ≤ act_rank c +
+    let P : Bool → Type 0 = λ b. task_rank c
+    (if b then task.LookingNew place to depth else task.Linking place to (first_stage c)) ≤ act_rank c +
     (new_looks c - depth) in
     tested depth (new_looks c) P (λ lt. le_refl _) (λ le. omega arith)
 arrived_new-rank _ place to depth two = absurd two
@@ -77,42 +81,55 @@ arrived_new-rank _ place to depth two = absurd two
 acting-rank : (c : Command) (place : Location) → task_rank c (acting c place) ≤ act_rank c + new_looks c
 acting-rank (command.Put path offset bytes) place = omega arith
 acting-rank (command.List path) place = omega arith
-acting-rank (command.Link path new_path) place = let h = arrived_new-rank (command.Link path new_path) place (first_handle new_path) 0 tt in omega arith
-acting-rank (command.Move from to) place = let h = arrived_new-rank (command.Move from to) place (first_handle to) 0 tt in omega arith
+acting-rank (command.Link path new_path) place =
+    let h = arrived_new-rank (command.Link path new_path) place (first_handle new_path) 0 tt in omega arith
+acting-rank (command.Move from to) place =
+    let h = arrived_new-rank (command.Move from to) place (first_handle to) 0 tt in omega arith
 acting-rank _ place = omega arith
 
-arrived-rank : (c : Command) (place : Location) (depth : ℕ) → task_rank c (arrived c place depth) ≤ act_rank c + new_looks c + (looks c - depth)
+arrived-rank : (c : Command) (place : Location) (depth : ℕ)
+    → task_rank c (arrived c place depth) ≤ act_rank c + new_looks c + (looks c - depth)
 arrived-rank c place depth =
-    let P : Bool → Type 0 = λ b. task_rank c (if b then task.Looking place depth else acting c place) ≤ act_rank c + new_looks c + (looks c - depth) in
+    let P : Bool → Type 0 = λ b. task_rank c (if b then task.Looking place depth else acting c place)
+    ≤ act_rank c + new_looks c + (looks c - depth) in
     tested depth (looks c) P (λ lt. le_refl _) (λ le. (let h = acting-rank c place in omega arith))
 
 pub refused-rank : (c : Command) (n : ℕ) (r : Refusal) → task_rank c (refused c n r) ≡ 0
 refused-rank (command.Put path offset bytes) n r = refl
 refused-rank _ n r = refl
 
-looked-falls : (c : Command) (place : Location) (depth : ℕ) (r : Reply) → depth < looks c → Answers (task_asks c (task.Looking place depth)) r
+looked-falls : (c : Command) (place : Location) (depth : ℕ) (r : Reply) → depth < looks c
+    → Answers (task_asks c (task.Looking place depth)) r
     → task_rank c (looked c place depth r) < act_rank c + new_looks c + (looks c - depth)
 looked-falls c place depth (reply.Found found) lt h =
     let k = arrived-rank c (record { directory = place.found; found = handle_of found }) (depth + 1) in omega arith
 looked-falls c place depth (reply.Refused r) lt h = let k = refused-rank c 0 r in omega arith
 looked-falls c place depth _ lt h = absurd h.0
 
-looked_new-falls : (c : Command) (place : Location) (to : Handle) (depth : ℕ) (r : Reply) → HasTwoPaths c → depth < new_looks c
-    → Answers (task_asks c (task.LookingNew place to depth)) r → task_rank c (looked_new c place to depth r) < act_rank c + (new_looks c - depth)
-looked_new-falls c place to depth (reply.Found found) two lt h = let k = arrived_new-rank c place (handle_of found) (depth + 1) two in omega arith
+looked_new-falls : (c : Command) (place : Location) (to : Handle) (depth : ℕ) (r : Reply) → HasTwoPaths c
+    → depth < new_looks c
+    → Answers (task_asks c (task.LookingNew place to depth)) r
+    → task_rank c (looked_new c place to depth r) < act_rank c + (new_looks c - depth)
+looked_new-falls c place to depth (reply.Found found) two lt h =
+    let k = arrived_new-rank c place (handle_of found) (depth + 1) two in omega arith
 looked_new-falls c place to depth (reply.Refused r) two lt h = let k = refused-rank c 0 r in omega arith
 looked_new-falls c place to depth _ two lt h = absurd h.0
 
-getting-rank : (c : Command) (at : Handle) (from end : ℕ) (parts : List GotPart) → task_rank c (getting at from end parts) ≤ end - from
+getting-rank : (c : Command) (at : Handle) (from end : ℕ) (parts : List GotPart)
+    → task_rank c (getting at from end parts) ≤ end - from
 getting-rank c at from end parts =
-    let P : Bool → Type 0 = λ b. task_rank c (if b then task.Getting at from end parts else task.Ended (line.Got parts)) ≤ end - from in
+    let P : Bool → Type 0 =
+    λ b. task_rank c (if b then task.Getting at from end parts else task.Ended (line.Got parts)) ≤ end - from in
     tested from end P (λ lt. le_refl _) (λ le. omega arith)
 
-sized-rank : (c : Command) (at : Handle) (offset len : ℕ) (stat : Stat) (k : FileKind) → task_rank c (task_after_stat at offset len stat k) < 2 ^ 64
+sized-rank : (c : Command) (at : Handle) (offset len : ℕ) (stat : Stat) (k : FileKind)
+    → task_rank c (task_after_stat at offset len stat k) < 2 ^ 64
 sized-rank c at offset len stat kind.Directory = omega arith
-sized-rank c at offset len stat kind.File = let h = getting-rank c at offset (min (min (offset + len) (2 ^ 64 - 1)) stat.size) [] in omega arith
+sized-rank c at offset len stat kind.File =
+    let h = getting-rank c at offset (min (min (offset + len) (2 ^ 64 - 1)) stat.size) [] in omega arith
 
-acted-falls : (c : Command) (at : Handle) (r : Reply) → IsActing c → Answers (Do (act_of c at)) r → task_rank c (acted c at r) < act_rank c
+acted-falls : (c : Command) (at : Handle) (r : Reply) → IsActing c → Answers (Do (act_of c at)) r
+    → task_rank c (acted c at r) < act_rank c
 acted-falls (command.Make path) at (reply.Made i g) acts h = omega arith
 acted-falls (command.Make path) at (reply.Refused r) acts h = omega arith
 acted-falls (command.Make path) at _ acts h = absurd h.0
@@ -134,7 +151,8 @@ acted-falls (command.Rename path name) at _ acts h = absurd h.0
 acted-falls (command.Fsync path) at reply.Flushed acts h = omega arith
 acted-falls (command.Fsync path) at (reply.Refused r) acts h = omega arith
 acted-falls (command.Fsync path) at _ acts h = absurd h.0
-acted-falls (command.Get path offset len) at (reply.Stat stat) acts h = sized-rank (command.Get path offset len) at offset len stat stat.kind
+acted-falls (command.Get path offset len) at (reply.Stat stat) acts h =
+    sized-rank (command.Get path offset len) at offset len stat stat.kind
 acted-falls (command.Get path offset len) at (reply.Refused r) acts h = omega arith
 acted-falls (command.Get path offset len) at _ acts h = absurd h.0
 acted-falls (command.Put path offset bytes) at r acts h = absurd acts
@@ -142,7 +160,8 @@ acted-falls (command.List path) at r acts h = absurd acts
 acted-falls (command.Link path new_path) at r acts h = absurd acts
 acted-falls (command.Move from to) at r acts h = absurd acts
 
-next_stage-falls : (c : Command) (place : Location) (to : Handle) (s : Stage) → IsLinking c s → task_rank c (next_stage c place to s) < stage_rank s
+next_stage-falls : (c : Command) (place : Location) (to : Handle) (s : Stage) → IsLinking c s
+    → task_rank c (next_stage c place to s) < stage_rank s
 next_stage-falls (command.Link path new_path) place to stage.Link is = omega arith
 next_stage-falls (command.Move from to') place to stage.Flush is = omega arith
 next_stage-falls (command.Move from to') place to stage.Link is = omega arith
@@ -156,14 +175,17 @@ stage-pos stage.Link = omega arith
 stage-pos stage.FlushAgain = omega arith
 stage-pos stage.Drop = omega arith
 
-linked-falls : (c : Command) (place : Location) (to : Handle) (s : Stage) (r : Reply) → IsLinking c s → task_rank c (linked c place to s r) < stage_rank s
+linked-falls : (c : Command) (place : Location) (to : Handle) (s : Stage) (r : Reply) → IsLinking c s
+    → task_rank c (linked c place to s r) < stage_rank s
 linked-falls c place to s (reply.Refused r) is = let k = refused-rank c 0 r in let pos = stage-pos s in omega arith
 linked-falls c place to s _ is = next_stage-falls c place to s is
 
-stored-falls : (c : Command) (at : Handle) (done : ℕ) → IsPutting c done → task_rank c (stored c at done) < act_rank c - done
+stored-falls : (c : Command) (at : Handle) (done : ℕ) → IsPutting c done
+    → task_rank c (stored c at done) < act_rank c - done
 stored-falls (command.Put path offset bytes) at done lt =
     let next = done + within_slot (put_at offset done) (length bytes - done) in
-    let P : Bool → Type 0 = λ b. task_rank (command.Put path offset bytes) (if b then task.Putting at next else task.Ended (line.Put (length bytes)))
+    let P : Bool → Type 0 = λ b. task_rank (command.Put path offset bytes)
+    (if b then task.Putting at next else task.Ended (line.Put (length bytes)))
     < length bytes - done in
     tested next (length bytes) P (λ l. omega arith) (λ l. omega arith)
 stored-falls _ at done lt = absurd lt
@@ -172,10 +194,12 @@ put-room : (c : Command) (done : ℕ) → IsPutting c done → 0 < act_rank c - 
 put-room (command.Put path offset bytes) done lt = omega arith
 put-room _ done lt = absurd lt
 
-put-falls : (c : Command) (at : Handle) (done : ℕ) (r : Reply) → IsPutting c done → Answers (Do (put_slot_step c at done)) r
+put-falls : (c : Command) (at : Handle) (done : ℕ) (r : Reply) → IsPutting c done
+    → Answers (Do (put_slot_step c at done)) r
     → task_rank c (after_put c at done r) < act_rank c - done
 put-falls c at done reply.Stored lt h = stored-falls c at done lt
-put-falls c at done (reply.Refused r) lt h = let k = refused-rank c done r in let room = put-room c done lt in omega arith
+put-falls c at done (reply.Refused r) lt h = let k = refused-rank c done r in
+    let room = put-room c done lt in omega arith
 put-falls (command.Put path offset bytes) at done _ lt h = absurd h.0
 put-falls _ at done _ lt h = absurd lt
 
@@ -183,8 +207,10 @@ le_lt : {a b k : ℕ} → a ≤ b → b < k → a < k
 le_lt p q = omega arith
 
 get-falls : (c : Command) (at : Handle) (from end : ℕ) (parts : List GotPart) (r : Reply) → from < end
-    → Answers (task_asks c (task.Getting at from end parts)) r → task_rank c (after_get at from end parts r) < end - from
-get-falls c at from end parts (reply.Bytes bytes) lt h = le_lt (getting-rank c at (from + got_here from end) end _) (omega arith)
+    → Answers (task_asks c (task.Getting at from end parts)) r
+    → task_rank c (after_get at from end parts r) < end - from
+get-falls c at from end parts (reply.Bytes bytes) lt h =
+    le_lt (getting-rank c at (from + got_here from end) end _) (omega arith)
 get-falls c at from end parts reply.Hole lt h = le_lt (getting-rank c at (from + got_here from end) end _) (omega arith)
 get-falls c at from end parts reply.Lost lt h = le_lt (getting-rank c at (from + got_here from end) end _) (omega arith)
 get-falls c at from end parts (reply.Refused r) lt h = omega arith
@@ -193,7 +219,8 @@ get-falls c at from end parts _ lt h = absurd h.0
 listing-rank : (c : Command) (at : Handle) (asked slot : ℕ) (parts more : List ListPart) → asked ≤ 72
     → task_rank c (listing at asked slot parts more) < 73 - asked
 listing-rank c at asked slot parts more le =
-    let P : Bool → Type 0 = λ b. task_rank c (if b then task.Ended (line.Names parts) else task.Listing at (slot + 1) (parts ++ more)) < 73 - asked in
+    let P : Bool → Type 0 = λ b. task_rank c
+    (if b then task.Ended (line.Names parts) else task.Listing at (slot + 1) (parts ++ more)) < 73 - asked in
     tested slot asked P (λ l. omega arith) (λ l. omega arith)
 
 list-falls : (c : Command) (at : Handle) (slot : ℕ) (parts : List ListPart) (r : Reply) → slot ≤ 72
@@ -205,7 +232,8 @@ list-falls c at slot parts (reply.Refused r) le h = omega arith
 list-falls c at slot parts _ le h = absurd h.0
 
 -- less is left of a task after each reply
-pub task-falls : (c : Command) (t : Task) (r : Reply) → TaskStands c t → Answers (task_asks c t) r → task_rank c (task_after c t r) < task_rank c t
+pub task-falls : (c : Command) (t : Task) (r : Reply) → TaskStands c t → Answers (task_asks c t) r
+    → task_rank c (task_after c t r) < task_rank c t
 task-falls c (task.Looking place depth) r stands h = looked-falls c place depth r stands h
 task-falls c (task.LookingNew place to depth) r stands h = looked_new-falls c place to depth r stands.0 stands.1 h
 task-falls c (task.Acting at) r stands h = acted-falls c at r stands h

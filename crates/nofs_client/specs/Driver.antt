@@ -56,7 +56,8 @@ abbrev pub RunsPartly : Command → List Made → List Made → Type 0
 RunsPartly c old new = (made : List Made) × (new ≡ old ++ made) × Asked c (start_of c) made
 
 -- just steps that these commands may make were made, and their lines were added
-pub record RunsBy (is_driven : List Command → List Made → List Line → Type 0) (commands : List Command) (old new : List Made)
+pub record RunsBy (is_driven : List Command → List Made → List Line → Type 0) (commands : List Command)
+    (old new : List Made)
     (old_lines new_lines : List Line) : Type 0 where
   pub made : List Made
   pub said : List Line
@@ -89,4 +90,5 @@ lines_of (c ∷ cs) rs = option_map_or (λ p. p.0 ∷ lines_of cs p.1) (said_of 
 
 -- the lines of commands that were run are those that the replies give
 abbrev pub LinesFollow : Type 0
-LinesFollow = (cs : List Command) (made : List Made) (lines : List Line) → IsDriven cs made lines → lines_of cs (map made_reply made) ≡ lines
+LinesFollow = (cs : List Command) (made : List Made) (lines : List Line) → IsDriven cs made lines
+    → lines_of cs (map made_reply made) ≡ lines

@@ -41,7 +41,8 @@ asks_beside (Some s) next = Do (step_before_repeat s)
 abbrev pub asks : Command → Progress → Next
 asks c p = asks_beside p.see (task_asks c p.task)
 
--- it goes on: something is unverified, and this is the first such reply to this step, or less is unverified than at the last
+-- it goes on: something is unverified, and this is the first such reply to this step, or less is unverified than at the
+-- last
 abbrev pub goes_on : ℕ → Option ℕ → Bool
 goes_on unverified None = nat_lt 0 unverified
 goes_on unverified (Some last) = nat_lt 0 unverified && nat_lt unverified last
@@ -52,18 +53,22 @@ step_answered c p r = fresh_progress (task_after c p.task r)
 
 -- a block is examined before the step is repeated
 abbrev pub examines_block : Progress → ℕ → ℕ → Progress
-examines_block p unverified next = record { task = p.task; full = Some unverified; inodes = p.inodes; see = Some (see.Block next) }
+examines_block p unverified next =
+    record { task = p.task; full = Some unverified; inodes = p.inodes; see = Some (see.Block next) }
 
 -- an inode is examined before the step is repeated
 abbrev pub examines_inode : Progress → ℕ → ℕ → Progress
-examines_inode p unverified next = record { task = p.task; full = p.full; inodes = Some unverified; see = Some (see.Inode next) }
+examines_inode p unverified next =
+    record { task = p.task; full = p.full; inodes = Some unverified; see = Some (see.Inode next) }
 
 -- after a step of the task that was refused
 abbrev pub after_refused : Command → Progress → Refusal → Progress
 after_refused c p (refusal.Full needed free unverified next) =
-    if goes_on unverified p.full then examines_block p unverified next else step_answered c p (reply.Refused (refusal.Full needed free unverified next))
+    if goes_on unverified p.full then examines_block p unverified next
+    else step_answered c p (reply.Refused (refusal.Full needed free unverified next))
 after_refused c p (refusal.InodesFull unverified next) =
-    if goes_on unverified p.inodes then examines_inode p unverified next else step_answered c p (reply.Refused (refusal.InodesFull unverified next))
+    if goes_on unverified p.inodes then examines_inode p unverified next
+    else step_answered c p (reply.Refused (refusal.InodesFull unverified next))
 -- any other refusal is no want of room
 after_refused c p r = step_answered c p (reply.Refused r)
 

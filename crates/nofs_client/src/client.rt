@@ -84,7 +84,8 @@ impl<S: Steps> Client<S> {
         lines: &mut LineList,
     ) -> Result<(), AllocError>
         requires { AreWellFormed commands.now }
-        ensures ran { OnOk result (RunsAll commands.now (S.made self.old.steps) (S.made self.new.steps) lines.old lines.new) }
+        ensures ran { OnOk result
+            (RunsAll commands.now (S.made self.old.steps) (S.made self.new.steps) lines.old lines.new) }
         ensures some { RunsSome commands.now (S.made self.old.steps) (S.made self.new.steps) lines.old lines.new }
         ensures goes { S.goes self.old.steps self.new.steps }
         ensures lines_follow { LinesFollow }

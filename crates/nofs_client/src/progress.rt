@@ -123,7 +123,8 @@ impl Asker<'_> {
     // A refusal for good, or for want of room that may be found yet.
     fn after_refused(&self, progress: Progress, refusal: &Refusal) -> Result<Progress, AllocError>
         requires { IsAnsweredTask self.now.command.now progress.task (Refused refusal.now) }
-        ensures { IfOk result (StandsAs self.now.command.now (refused_after self.now.command.now progress refusal.now)) }
+        ensures { IfOk result
+            (StandsAs self.now.command.now (refused_after self.now.command.now progress refusal.now)) }
     {
         match *refusal {
             Refusal::Full {

@@ -1,5 +1,6 @@
 -- Runs with crashes between them.
-use Rattle.std.specs.Prelude.{◌≡◌, ◌≢◌, ℕ, suc, ◌+◌, ◌^◌, ◌<◌, ◌≤◌, ◌⊎◌, true, Some, List, [], ◌∷◌, ◌++◌, length, map, get_or, if◌then◌else◌, ◌==◌, Contains}
+use Rattle.std.specs.Prelude.{◌≡◌, ◌≢◌, ℕ, suc, ◌+◌, ◌^◌, ◌<◌, ◌≤◌, ◌⊎◌, true, Some, List, [], ◌∷◌, ◌++◌, length, map}
+use Rattle.std.specs.Prelude.{get_or, if◌then◌else◌, ◌==◌, Contains}
 use Rattle.nofs_history.specs.declared.machine.history.Claims.{Claims}
 use Rattle.nofs_history.specs.declared.machine.history.Entry1.{Entry1}
 use Rattle.nofs_history.specs.Machine.{given_by}
@@ -10,13 +11,14 @@ use Rattle.nofs_history.specs.Claims.{claimed_blocks}
 use Rattle.nofs_history.specs.Next.{Run}
 use Rattle.nofs_history.specs.Good.{IsFresh}
 use Rattle.nofs_model.specs.Cells.{Super, is_null, tag_of, slot_limit}
-use Rattle.nofs_model.specs.Image.{is_super, Image, cell_at, super_at, inode, record_pointer, value, Files, files_in, agreed, is_used_inode}
+use Rattle.nofs_model.specs.Image.{is_super, Image, cell_at, super_at, inode, record_pointer, value, Files, files_in}
+use Rattle.nofs_model.specs.Image.{agreed, is_used_inode}
 use Rattle.nofs_model.specs.Image.{is_used_block, IsSound}
 use Rattle.nofs_model.specs.declared.image.value.Value.TheVariants.{Bytes}
 use Rattle.nofs_model.specs.declared.image.value.Value.{Value}
 
--- A life: its base, which is the disk as the mount's flush left it, with the raised number; the entries until the crash; and
--- the world at its end. A life that ended inside the raise of its mount number has no entries.
+-- A life: its base, which is the disk as the mount's flush left it, with the raised number; the entries until the
+-- crash; and the world at its end. A life that ended inside the raise of its mount number has no entries.
 pub record Life : Type 0 where
   pub base : Image
   pub first : ℕ
@@ -74,7 +76,8 @@ Lives (l ∷ k ∷ ls) = NextLife k l × IsLife l × Lives (k ∷ ls)
 -- an entry of one of these lives gave this content to slot k of (i, g)
 abbrev pub GivenIn : List Life → ℕ → ℕ → ℕ → List ℕ → Type 0
 GivenIn [] i g k content = ⊥
-GivenIn (l ∷ ls) i g k content = Contains (values_given (agreed_files l.base) l.history i g k) (Bytes content) ⊎ GivenIn ls i g k content
+GivenIn (l ∷ ls) i g k content = Contains (values_given (agreed_files l.base) l.history i g k) (Bytes content)
+    ⊎ GivenIn ls i g k content
 
 -- the generation and the stamps that were claimed, in order
 abbrev pub numbers_of : Claims → List ℕ
@@ -96,7 +99,8 @@ Rising low (x ∷ xs) = (low ≤ x) × Rising (suc x) xs
 -- Bytes in a base were given by an entry of an earlier life.
 abbrev pub LawLives : Type 0
 LawLives = (later : List Life) (l : Life) (earlier : List Life) → Lives (later ++ l ∷ earlier)
-    → (i g k : ℕ) (content : List ℕ) → k < slot_limit → is_generation l.base i g ≡ true → value l.base i k ≡ Bytes content → GivenIn earlier i g k content
+    → (i g k : ℕ) (content : List ℕ) → k < slot_limit → is_generation l.base i g ≡ true
+    → value l.base i k ≡ Bytes content → GivenIn earlier i g k content
 
 -- No generation and no stamp is claimed twice, in all lives together.
 abbrev pub LawOnce : Type 0
@@ -112,7 +116,8 @@ pub record GivenBy (F : Files) (H : List Entry1) (i g k : ℕ) (v : Value) : Typ
   pub gives : (given_by (files_along F before) entry).slots i g k ≡ Some v
 
 abbrev pub LawGiven : Type 0
-LawGiven = (F : Files) (H : List Entry1) (i g k : ℕ) (v : Value) → Contains (values_given F H i g k) v → GivenBy F H i g k v
+LawGiven = (F : Files) (H : List Entry1) (i g k : ℕ) (v : Value) → Contains (values_given F H i g k) v
+    → GivenBy F H i g k v
 
 -- block 0 is spelled as a superblock, payload and tag
 pub record HasSuperCell (X : Image) : Type 0 where

@@ -1,5 +1,6 @@
 -- Entries of a directory, and the 64 bytes that spell one.
-use Rattle.std.specs.Prelude.{◌≡◌, ℕ, ◌+◌, ◌*◌, ◌<◌, ◌≤◌, Bool, true, false, ◌&&◌, List, length, take, drop, Option, Some, None, if◌then◌else◌, nat_le, ◌==◌}
+use Rattle.std.specs.Prelude.{◌≡◌, ℕ, ◌+◌, ◌*◌, ◌<◌, ◌≤◌, Bool, true, false, ◌&&◌, List, length, take, drop, Option}
+use Rattle.std.specs.Prelude.{Some, None, if◌then◌else◌, nat_le, ◌==◌}
 use Rattle.std.specs.Prelude.{bytes_eq}
 use Rattle.std.specs.List.{list_all}
 use Rattle.nofs_disk.specs.Number.{number_at, put_bytes, put_number, zeros}

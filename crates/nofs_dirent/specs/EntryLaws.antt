@@ -1,5 +1,6 @@
 -- The bytes that spell an entry are read as it.
-use Rattle.std.proofs.Common.{◌≡◌, ℕ, ◌+◌, ◌-◌, ◌^◌, ◌<◌, ◌≤◌, Bool, true, false, ◌&&◌, List, ◌++◌, length, take, drop, Option, Some, None, if◌then◌else◌}
+use Rattle.std.proofs.Common.{◌≡◌, ℕ, ◌+◌, ◌-◌, ◌^◌, ◌<◌, ◌≤◌, Bool, true, false, ◌&&◌, List, ◌++◌, length, take, drop}
+use Rattle.std.proofs.Common.{Option, Some, None, if◌then◌else◌}
 use Rattle.std.proofs.Common.{◌==◌, arith, refl, sym, ap, ◌∙◌, le-leb, replicate}
 use Rattle.std.specs.List.{list_all}
 use Rattle.std.proofs.lemmas.Bool.{and_from}
@@ -7,11 +8,13 @@ use Rattle.std.proofs.lemmas.Option.{none-some}
 use Rattle.std.proofs.lemmas.List.{drop_at, drop-drop, take_at, length-take-le, drop-replicate}
 use Rattle.std.proofs.lemmas.List.Elements.{All-replicate}
 use Rattle.std.proofs.lemmas.List.Sums.{list_all-from_AllPass}
-use Rattle.nofs_disk.specs.Number.{number_at, put_bytes, put_number, zeros, length-zeros, length-put_number, number_at-put_same, number_at-put_before}
+use Rattle.nofs_disk.specs.Number.{number_at, put_bytes, put_number, zeros, length-zeros, length-put_number}
+use Rattle.nofs_disk.specs.Number.{number_at-put_same, number_at-put_before}
 use Rattle.nofs_disk.specs.Parts.{drop-put_number, length-put_bytes}
 use Rattle.nofs_dirent.specs.Names.{NameOk}
 use Rattle.nofs_dirent.specs.NameLaws.{is_name-Decides}
-use Rattle.nofs_dirent.specs.Entries.{HasEntrySpelling, entry_fields, entry_of, entry_with, has_entry_spelling, has_zeros_after, name_of, spelled_entry}
+use Rattle.nofs_dirent.specs.Entries.{HasEntrySpelling, entry_fields, entry_of, entry_with, has_entry_spelling}
+use Rattle.nofs_dirent.specs.Entries.{has_zeros_after, name_of, spelled_entry}
 use Rattle.nofs_dirent.specs.declared.entry.Entry.{Entry}
 
 -- these 64 bytes are read as this entry
@@ -20,12 +23,15 @@ pub record Spells (bytes : List ℕ) (e : Entry) : Type 0 where
   pub reads : entry_of bytes ≡ Some e
 
 -- bytes with the fields of an entry are read as it
-pub Spells-from : (bytes : List ℕ) (e : Entry) → HasEntrySpelling e → length bytes ≡ 64 → number_at 4 0 bytes ≡ e.inode → number_at 4 4 bytes ≡ length e.name
+pub Spells-from : (bytes : List ℕ) (e : Entry) → HasEntrySpelling e
+    → length bytes ≡ 64 → number_at 4 0 bytes ≡ e.inode → number_at 4 4 bytes ≡ length e.name
     → number_at 8 8 bytes ≡ e.generation
-    → take (length e.name) (drop 16 bytes) ≡ e.name → list_all (λ b. b == 0) (drop (16 + length e.name) bytes) ≡ true → Spells bytes e
+    → take (length e.name) (drop 16 bytes) ≡ e.name → list_all (λ b. b == 0) (drop (16 + length e.name) bytes) ≡ true
+    → Spells bytes e
 unfolding entry_of entry_fields
 Spells-from bytes e spelled len inode n generation name rest =
-    let fields : entry_fields bytes ≡ e = λ i. record { inode = inode i; generation = generation i; name = (ap (λ k. take k (drop 16 bytes)) n ∙ name) i } in
+    let fields : entry_fields bytes ≡ e =
+    λ i. record { inode = inode i; generation = generation i; name = (ap (λ k. take k (drop 16 bytes)) n ∙ name) i } in
     let zeros_after : has_zeros_after bytes (number_at 4 4 bytes) ≡ true =
     ap (has_zeros_after bytes) n ∙ and_from _ _ (le-leb (length e.name) 48 spelled.name.short) rest in
     let has : has_entry_spelling (entry_fields bytes) ≡ true =
@@ -47,7 +53,8 @@ module _ (inode generation : ℕ) (name : List ℕ) (short : length name ≤ 48)
   -- what stands from the name on
   tail-named : drop 16 with_name ≡ name ++ drop (16 + length name) (zeros 64)
   unfolding with_name put_bytes
-  tail-named = drop_at (take 16 (zeros 64)) (name ++ drop (16 + length name) (zeros 64)) 16 (length-take-le 16 (zeros 64) (omega (arith, length-zeros 64)))
+  tail-named = drop_at (take 16 (zeros 64)) (name ++ drop (16 + length name) (zeros 64)) 16
+      (length-take-le 16 (zeros 64) (omega (arith, length-zeros 64)))
 
   pub tail-spelled : drop 16 (spelled_entry inode generation name) ≡ name ++ drop (16 + length name) (zeros 64)
   unfolding spelled_entry with_name
@@ -55,7 +62,8 @@ module _ (inode generation : ℕ) (name : List ℕ) (short : length name ≤ 48)
       let l = length-named in
       let l1 = length-put_number 8 8 generation with_name (omega arith) in
       let l2 = length-put_number 4 4 (length name) (put_number 8 8 generation with_name) (omega arith) in
-      drop-put_number 4 0 inode 16 (put_number 4 4 (length name) (put_number 8 8 generation with_name)) (omega arith) (omega arith)
+      drop-put_number 4 0 inode 16 (put_number 4 4 (length name) (put_number 8 8 generation with_name))
+      (omega arith) (omega arith)
       ∙ drop-put_number 4 4 (length name) 16 (put_number 8 8 generation with_name) (omega arith) (omega arith)
       ∙ drop-put_number 8 8 generation 16 with_name (omega arith) (omega arith)
       ∙ tail-named
@@ -66,7 +74,8 @@ module _ (inode generation : ℕ) (name : List ℕ) (short : length name ≤ 48)
       let l = length-named in
       let l1 = length-put_number 8 8 generation with_name (omega arith) in
       let l2 = length-put_number 4 4 (length name) (put_number 8 8 generation with_name) (omega arith) in
-      length-put_number 4 0 inode (put_number 4 4 (length name) (put_number 8 8 generation with_name)) (omega arith) ∙ l2 ∙ l1 ∙ l
+      length-put_number 4 0 inode (put_number 4 4 (length name) (put_number 8 8 generation with_name))
+      (omega arith) ∙ l2 ∙ l1 ∙ l
 
   pub inode-spelled : inode < 2 ^ 32 → number_at 4 0 (spelled_entry inode generation name) ≡ inode
   unfolding spelled_entry with_name
@@ -74,7 +83,8 @@ module _ (inode generation : ℕ) (name : List ℕ) (short : length name ≤ 48)
       let l = length-named in
       let l1 = length-put_number 8 8 generation with_name (omega arith) in
       let l2 = length-put_number 4 4 (length name) (put_number 8 8 generation with_name) (omega arith) in
-      number_at-put_same 4 0 inode (put_number 4 4 (length name) (put_number 8 8 generation with_name)) small (omega arith)
+      number_at-put_same 4 0 inode
+      (put_number 4 4 (length name) (put_number 8 8 generation with_name)) small (omega arith)
 
   pub length-spelled : number_at 4 4 (spelled_entry inode generation name) ≡ length name
   unfolding spelled_entry with_name
@@ -82,7 +92,8 @@ module _ (inode generation : ℕ) (name : List ℕ) (short : length name ≤ 48)
       let l = length-named in
       let l1 = length-put_number 8 8 generation with_name (omega arith) in
       let l2 = length-put_number 4 4 (length name) (put_number 8 8 generation with_name) (omega arith) in
-      number_at-put_before 4 0 4 4 inode (put_number 4 4 (length name) (put_number 8 8 generation with_name)) (omega arith) (omega arith)
+      number_at-put_before 4 0 4 4 inode (put_number 4 4 (length name) (put_number 8 8 generation with_name))
+      (omega arith) (omega arith)
       ∙ number_at-put_same 4 4 (length name) (put_number 8 8 generation with_name) (omega arith) (omega arith)
 
   pub generation-spelled : generation < 2 ^ 64 → number_at 8 8 (spelled_entry inode generation name) ≡ generation
@@ -91,18 +102,22 @@ module _ (inode generation : ℕ) (name : List ℕ) (short : length name ≤ 48)
       let l = length-named in
       let l1 = length-put_number 8 8 generation with_name (omega arith) in
       let l2 = length-put_number 4 4 (length name) (put_number 8 8 generation with_name) (omega arith) in
-      number_at-put_before 4 0 8 8 inode (put_number 4 4 (length name) (put_number 8 8 generation with_name)) (omega arith) (omega arith)
+      number_at-put_before 4 0 8 8 inode (put_number 4 4 (length name) (put_number 8 8 generation with_name))
+      (omega arith) (omega arith)
       ∙ number_at-put_before 4 4 8 8 (length name) (put_number 8 8 generation with_name) (omega arith) (omega arith)
       ∙ number_at-put_same 8 8 generation with_name small (omega arith)
 
   zeros-after : list_all (λ b. b == 0) (drop (length name) (name ++ drop (16 + length name) (zeros 64))) ≡ true
   unfolding zeros
   zeros-after =
-      ap (list_all (λ b. b == 0)) (drop_at name (drop (16 + length name) (zeros 64)) (length name) refl ∙ drop-replicate (16 + length name) 64 0)
-      ∙ list_all-from_AllPass (λ b. b == 0) (replicate (64 - (16 + length name)) 0) (All-replicate (λ b. (b == 0) ≡ true) (64 - (16 + length name)) 0 refl)
+      ap (list_all (λ b. b == 0))
+      (drop_at name (drop (16 + length name) (zeros 64)) (length name) refl ∙ drop-replicate (16 + length name) 64 0)
+      ∙ list_all-from_AllPass (λ b. b == 0) (replicate (64 - (16 + length name)) 0)
+      (All-replicate (λ b. (b == 0) ≡ true) (64 - (16 + length name)) 0 refl)
 
 -- the spelled entry is read back as the entry
-pub spelled_entry-spells : (inode generation : ℕ) (name : List ℕ) → 1 ≤ inode → inode < 2 ^ 32 → 1 ≤ generation → generation < 2 ^ 64 → NameOk name
+pub spelled_entry-spells : (inode generation : ℕ) (name : List ℕ)
+    → 1 ≤ inode → inode < 2 ^ 32 → 1 ≤ generation → generation < 2 ^ 64 → NameOk name
     → Spells (spelled_entry inode generation name) (record { inode = inode; generation = generation; name = name })
 spelled_entry-spells inode generation name some small from below ok =
     let short = ok.short in
@@ -115,23 +130,29 @@ spelled_entry-spells inode generation name some small from below ok =
     (generation-spelled inode generation name short below)
     (ap (take (length name)) tail ∙ take_at name (drop (16 + length name) (zeros 64)) (length name) refl)
     (ap (list_all (λ b. b == 0)) (sym (ap (λ k. drop k (spelled_entry inode generation name)) (omega arith))
-    ∙ sym (drop-drop (length name) 16 (spelled_entry inode generation name)) ∙ ap (drop (length name)) tail) ∙ zeros-after inode generation name short)
+    ∙ sym (drop-drop (length name) 16 (spelled_entry inode generation name)) ∙ ap (drop (length name)) tail)
+    ∙ zeros-after inode generation name short)
 
 -- The name of the entry that bytes spell
 
-pub name_of-some : (bytes : List ℕ) (n : ℕ) (name : List ℕ) → n ≡ number_at 4 4 bytes → take n (drop 16 bytes) ≡ name → has_zeros_after bytes n ≡ true
-    → has_entry_spelling (entry_with (number_at 4 0 bytes) (number_at 8 8 bytes) name) ≡ true → Some name ≡ name_of (entry_of bytes)
+pub name_of-some : (bytes : List ℕ) (n : ℕ) (name : List ℕ) → n ≡ number_at 4 4 bytes
+    → take n (drop 16 bytes) ≡ name → has_zeros_after bytes n ≡ true
+    → has_entry_spelling (entry_with (number_at 4 0 bytes) (number_at 8 8 bytes) name) ≡ true
+    → Some name ≡ name_of (entry_of bytes)
 unfolding entry_of entry_fields
 name_of-some bytes n name e is rest has =
     let named : take (number_at 4 4 bytes) (drop 16 bytes) ≡ name = ap (λ k. take k (drop 16 bytes)) (sym e) ∙ is in
     rw (named, sym e, rest, has) refl
 
-pub name_of-rest : (bytes : List ℕ) (n : ℕ) → n ≡ number_at 4 4 bytes → has_zeros_after bytes n ≡ false → None ≡ name_of (entry_of bytes)
+pub name_of-rest : (bytes : List ℕ) (n : ℕ) → n ≡ number_at 4 4 bytes
+    → has_zeros_after bytes n ≡ false → None ≡ name_of (entry_of bytes)
 unfolding entry_of entry_fields
 name_of-rest bytes n e rest = rw (sym e, rest) refl
 
-pub name_of-none : (bytes : List ℕ) (n : ℕ) (name : List ℕ) → n ≡ number_at 4 4 bytes → take n (drop 16 bytes) ≡ name → has_zeros_after bytes n ≡ true
-    → has_entry_spelling (entry_with (number_at 4 0 bytes) (number_at 8 8 bytes) name) ≡ false → None ≡ name_of (entry_of bytes)
+pub name_of-none : (bytes : List ℕ) (n : ℕ) (name : List ℕ) → n ≡ number_at 4 4 bytes
+    → take n (drop 16 bytes) ≡ name → has_zeros_after bytes n ≡ true
+    → has_entry_spelling (entry_with (number_at 4 0 bytes) (number_at 8 8 bytes) name) ≡ false
+    → None ≡ name_of (entry_of bytes)
 unfolding entry_of entry_fields
 name_of-none bytes n name e is rest has =
     let named : take (number_at 4 4 bytes) (drop 16 bytes) ≡ name = ap (λ k. take k (drop 16 bytes)) (sym e) ∙ is in
@@ -145,10 +166,13 @@ name_or d (Some name) = name
 pub entry_of-named : (bytes name : List ℕ) → Some name ≡ name_of (entry_of bytes)
     → entry_of bytes ≡ Some (entry_with (number_at 4 0 bytes) (number_at 8 8 bytes) name)
 unfolding entry_of entry_fields
-entry_of-named bytes name e = go (has_zeros_after bytes (number_at 4 4 bytes) && has_entry_spelling (entry_fields bytes)) e
+entry_of-named bytes name e =
+    go (has_zeros_after bytes (number_at 4 4 bytes) && has_entry_spelling (entry_fields bytes)) e
   where
     go : (b : Bool) → Some name ≡ name_of (if b then Some (entry_fields bytes) else None)
-        → (if b then Some (entry_fields bytes) else None) ≡ Some (entry_with (number_at 4 0 bytes) (number_at 8 8 bytes) name)
+        → (if b then Some (entry_fields bytes) else None)
+        ≡ Some (entry_with (number_at 4 0 bytes) (number_at 8 8 bytes) name)
     go true e = let same : take (number_at 4 4 bytes) (drop 16 bytes) ≡ name =
-        ap (name_or (take (number_at 4 4 bytes) (drop 16 bytes))) (sym e) in ap (λ n. Some (entry_with (number_at 4 0 bytes) (number_at 8 8 bytes) n)) same
+        ap (name_or (take (number_at 4 4 bytes) (drop 16 bytes))) (sym e) in
+        ap (λ n. Some (entry_with (number_at 4 0 bytes) (number_at 8 8 bytes) n)) same
     go false e = absurd (none-some name (sym e))

@@ -2,12 +2,15 @@
 //! directory cells").
 //!
 //! Promise: what is written is read, an entry has one spelling, and other bytes stay.
-ghost use Rattle.std.specs.Prelude.{◌≡◌, ◌≢◌, ◌+◌, ◌*◌, ◌<◌, ◌≤◌, false, IfOk, IfSome, IfNone, None, Some, length, nat_eq, ℕ};
+ghost use Rattle.std.specs.Prelude.{◌≡◌, ◌≢◌, ◌+◌, ◌*◌, ◌<◌, ◌≤◌, false, IfOk, IfSome, IfNone, None, Some, length};
+ghost use Rattle.std.specs.Prelude.{nat_eq, ℕ};
 ghost use Rattle.std.specs.List.{list_all};
 ghost use Rattle.std.specs.Option.{option_copied as copied};
 ghost use Rattle.nofs_disk.specs.Number.{put_bytes, zeros};
 ghost use Rattle.nofs_dirent.specs.EntryLaws.{Spells};
-ghost use Rattle.nofs_dirent.specs.Entries.{HasEntrySpelling, IsFirstNamed, entry_bytes, entry_in, entry_of, entry_with, has_entry_spelling, has_name, has_zeros_after, name_of, spelled_entry};
+ghost use Rattle.nofs_dirent.specs.Entries.{HasEntrySpelling, IsFirstNamed, entry_bytes, entry_in, entry_of};
+ghost use Rattle.nofs_dirent.specs.Entries.{entry_with, has_entry_spelling, has_name, has_zeros_after, name_of};
+ghost use Rattle.nofs_dirent.specs.Entries.{spelled_entry};
 
 use crate::lists::Name;
 use crate::name::name_ok;
@@ -34,7 +37,8 @@ pub fn read_entry(alloc: Global, payload: &[u8; 1024], at: u32) -> Result<Option
     requires { at < 16 }
     ensures value { IfOk result (λ entry. entry ≡ entry_in payload.now at) }
     ensures spelling { IfOk result (λ entry. IfSome entry HasEntrySpelling) }
-    ensures one_spelling { IfOk result (λ entry. IfSome entry (λ e. entry_bytes payload.now at ≡ spelled_entry e.inode e.generation e.name)) }
+    ensures one_spelling { IfOk result
+        (λ entry. IfSome entry (λ e. entry_bytes payload.now at ≡ spelled_entry e.inode e.generation e.name)) }
 {
     spelled_entry(alloc, payload, at)
 }
@@ -69,7 +73,8 @@ pub fn find_name(payload: &[u8; 1024], name: &[u8], from: u32) -> Option<u32>
 pub fn write_entry(payload: &mut [u8; 1024], at: u32, it: &Entry)
     requires place { at < 16 }
     requires spelling { HasEntrySpelling it.now }
-    ensures put { payload.new ≡ put_bytes (64 * at) (spelled_entry it.now.inode it.now.generation it.now.name) payload.old }
+    ensures put { payload.new ≡ put_bytes (64 * at)
+        (spelled_entry it.now.inode it.now.generation it.now.name) payload.old }
     ensures written { entry_in payload.new at ≡ Some it.now }
     ensures others { (j : ℕ) → j ≢ at → j < 16 → entry_in payload.new j ≡ entry_in payload.old j }
 {

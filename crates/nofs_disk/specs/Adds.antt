@@ -1,9 +1,11 @@
 -- Calls that put only such cells on the disk, one after another.
 use Rattle.std.specs.Prelude.{Contains, Result}
-use Rattle.std.proofs.Common.{◌≡◌, ◌≢◌, ℕ, ◌+◌, ◌<◌, ◌≤◌, ◌⊎◌, inl, inr, Bool, true, false, eqb, eqb-true, List, length, refl, sym, ◌∙◌, subst, subst₂, arith}
+use Rattle.std.proofs.Common.{◌≡◌, ◌≢◌, ℕ, ◌+◌, ◌<◌, ◌≤◌, ◌⊎◌, inl, inr, Bool, true, false, eqb, eqb-true, List, length}
+use Rattle.std.proofs.Common.{refl, sym, ◌∙◌, subst, subst₂, arith}
 use Rattle.std.proofs.lemmas.Bool.{cases_lt}
 use Rattle.nofs_disk.specs.Chains.{IsSameDisk-refl, IsSameDisk-trans, KeepsPast-refl, KeepsPast-trans}
-use Rattle.nofs_disk.specs.Disk.{DiskState, Flushes, IsDisk, IsSameDisk, KeepsCells, KeepsPast, MakesReady, Picks, StaysButFaults, Writes, cell_at}
+use Rattle.nofs_disk.specs.Disk.{DiskState, Flushes, IsDisk, IsSameDisk, KeepsCells, KeepsPast, MakesReady, Picks}
+use Rattle.nofs_disk.specs.Disk.{StaysButFaults, Writes, cell_at}
 use Rattle.nofs_disk.specs.declared.Failed.{Failed}
 use Rattle.nofs_disk.specs.declared.tag.Cell.{Cell}
 
@@ -40,11 +42,13 @@ module _ (ok : ℕ → Cell → Type 0) where
   Adds-stays old new stays = Adds-keeps old new stays.disk stays.past stays.cells
 
   -- a call that makes room
-  pub Adds-readies : {E : Type 0} (old new : DiskState) (calls : ℕ) {result : Result (Unit {0}) E} → MakesReady old new calls result → Adds ok old new
+  pub Adds-readies : {E : Type 0} (old new : DiskState) (calls : ℕ) {result : Result (Unit {0}) E}
+      → MakesReady old new calls result → Adds ok old new
   Adds-readies old new calls ready = Adds-keeps old new ready.disk ready.past ready.cells
 
   -- a write of one of these cells
-  pub Adds-writes : (old new : DiskState) (block : ℕ) (cell : Cell) {result : Result (Unit {0}) Failed} → IsDisk new → Writes old new block cell result
+  pub Adds-writes : (old new : DiskState) (block : ℕ) (cell : Cell) {result : Result (Unit {0}) Failed} → IsDisk new
+      → Writes old new block cell result
       → ok block cell → Adds ok old new
   Adds-writes old new block cell is w good = record {
     disk = w.disk;
@@ -75,11 +79,16 @@ module _ (ok : ℕ → Cell → Type 0) where
           let ne : b ≢ block = λ q. let t : eqb b block ≡ true = rw q (grind arith) in cc (e, t) in
           inl (subst (λ (l : List Cell). Contains l c) (w.others b ne) has)
 
-      picked : (X : List Cell) → Picks new.may new.blocks X → (length X ≡ old.blocks) × ((b : ℕ) → b < old.blocks → WasOr ok old b (cell_at X b))
-      picked X p = (p.len ∙ w.disk.blocks, λ b low. go b (cell_at X b) (eqb b block) refl (p.each b (let e = w.disk.blocks in omega arith)))
+      picked : (X : List Cell) → Picks new.may new.blocks X
+          → (length X ≡ old.blocks) × ((b : ℕ) → b < old.blocks → WasOr ok old b (cell_at X b))
+      picked X p = (
+        p.len ∙ w.disk.blocks,
+        λ b low. go b (cell_at X b) (eqb b block) refl (p.each b (let e = w.disk.blocks in omega arith)),
+      )
 
   -- a flush
-  pub Adds-flushes : (old new : DiskState) {result : Result (Unit {0}) Failed} → IsDisk new → Flushes old new result → Adds ok old new
+  pub Adds-flushes : (old new : DiskState) {result : Result (Unit {0}) Failed} → IsDisk new → Flushes old new result
+      → Adds ok old new
   Adds-flushes old new is f = record {
     disk = f.disk;
     past = f.past;
@@ -94,8 +103,10 @@ module _ (ok : ℕ → Cell → Type 0) where
       | inr top ↦
           let e : m ≡ new.moment = let q = f.moment in omega arith in
           let F : ℕ → Type 0 = λ k. new.left k X in
-          let p = is.at_rest X (subst F e l) in
-          (p.len ∙ f.disk.blocks, λ b small. inl (was b (cell_at X b) (p.each b (let q = f.disk.blocks in omega arith))))
+          let p = is.at_rest X (subst F e l) in (
+            p.len ∙ f.disk.blocks,
+            λ b small. inl (was b (cell_at X b) (p.each b (let q = f.disk.blocks in omega arith))),
+          )
     ];
   }
     where

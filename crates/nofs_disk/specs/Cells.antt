@@ -28,7 +28,8 @@ same_cell-true a b e =
     λ i. record { payload = payload i; tag = tag i }
 
 pub same_cell-refl : (a : Cell) → same_cell a a ≡ true
-same_cell-refl a = and_from (pointwise nat_eq a.payload a.payload) (pointwise nat_eq a.tag a.tag) ((bytes_decides a.payload a.payload).1 refl)
+same_cell-refl a = and_from (pointwise nat_eq a.payload a.payload) (pointwise nat_eq a.tag a.tag)
+    ((bytes_decides a.payload a.payload).1 refl)
     ((bytes_decides a.tag a.tag).1 refl)
 
 -- whether a cell is among these
@@ -49,7 +50,8 @@ has_cell-true cells c e =
 pub Contains-known : (cells : List Cell) (c : Cell) → ∥ Contains cells c ∥₁ → Contains cells c
 Contains-known cells c known = has_cell-true cells c (∥∥₁_elim known (Bool-set _ _) (has_cell-from cells c))
 
-pub Picks-known : (may : ℕ → List Cell) (blocks : ℕ) (image : List Cell) → ∥ Picks may blocks image ∥₁ → Picks may blocks image
+pub Picks-known : (may : ℕ → List Cell) (blocks : ℕ) (image : List Cell) → ∥ Picks may blocks image ∥₁
+    → Picks may blocks image
 Picks-known may blocks image known = record {
   len = ∥∥₁_elim known (ℕ_set _ _) (λ p. p.len);
   each = λ b low. Contains-known (may b) (cell_at image b) (∥∥₁_elim known (∥∥₁_prop) (λ p. ∣ p.each b low ∣₁));
@@ -57,7 +59,8 @@ Picks-known may blocks image known = record {
 
 -- bytes that are known to be so many are
 pub IsBytes-known : (n : ℕ) (bytes : List ℕ) → ∥ IsBytes n bytes ∥₁ → IsBytes n bytes
-IsBytes-known n bytes known = record { len = ∥∥₁_elim known (ℕ_set _ _) (λ b. b.len); each = λ k. ∥∥₁_elim known le_prop (λ b. b.each k) }
+IsBytes-known n bytes known =
+    record { len = ∥∥₁_elim known (ℕ_set _ _) (λ b. b.len); each = λ k. ∥∥₁_elim known le_prop (λ b. b.each k) }
 
 -- a cell that is known to be sized is
 pub IsSizedCell-known : (c : Cell) → ∥ IsSizedCell c ∥₁ → IsSizedCell c
@@ -72,16 +75,19 @@ unfolding zero_cell
 IsSizedCell-zero = record { payload = IsBytes-zeros 1024; tag = IsBytes-zeros 32 }
 
 -- each cell that a disk that tells gives is sized
-pub now-sized : (d : DiskState) → IsDisk d → IsTrue d.tells → (block : ℕ) → block < d.blocks → IsSizedCell (cell_at d.now block)
+pub now-sized : (d : DiskState) → IsDisk d → IsTrue d.tells
+    → (block : ℕ) → block < d.blocks → IsSizedCell (cell_at d.now block)
 now-sized d is tells block low = is.sized block (cell_at d.now block) (is.has_now block tells low)
 
 -- each cell of an image that picks from what a disk may hold is sized
-pub image-sized : (d : DiskState) → IsDisk d → (image : List Cell) → Picks d.may d.blocks image → (block : ℕ) → block < d.blocks
+pub image-sized : (d : DiskState) → IsDisk d → (image : List Cell) → Picks d.may d.blocks image
+    → (block : ℕ) → block < d.blocks
     → IsSizedCell (cell_at image block)
 image-sized d is image picks block low = is.sized block (cell_at image block) (picks.each block low)
 
 -- a cell that a write may leave is sized, where the one that was written is
-pub writes-sized : (old new : DiskState) {block : ℕ} {cell : Cell} {result : Result (Unit {0}) Failed} → IsDisk old → IsSizedCell cell
+pub writes-sized : (old new : DiskState) {block : ℕ} {cell : Cell} {result : Result (Unit {0}) Failed} → IsDisk old
+    → IsSizedCell cell
     → Writes old new block cell result
     → (b : ℕ) (c : Cell) → Contains (new.may b) c → IsSizedCell c
 writes-sized old new {block} {cell} is size w b c has = elim (cases_eq b block) [

@@ -1,5 +1,6 @@
 -- What contracts see of a disk, what each of its calls does, and what a crash may leave.
-use Rattle.std.specs.Prelude.{◌≡◌, ◌≢◌, ◌↔◌, ℕ, ◌+◌, ◌*◌, ◌-◌, ◌^◌, ◌<◌, ◌≤◌, ◌⊎◌, min, List, [], ◌∷◌, length, Bool, IsTrue, Option, None, Result, Ok, IsOk}
+use Rattle.std.specs.Prelude.{◌≡◌, ◌≢◌, ◌↔◌, ℕ, ◌+◌, ◌*◌, ◌-◌, ◌^◌, ◌<◌, ◌≤◌, ◌⊎◌, min, List, [], ◌∷◌, length, Bool}
+use Rattle.std.specs.Prelude.{IsTrue, Option, None, Result, Ok, IsOk}
 use Rattle.std.specs.Prelude.{IfOk, IfSome, OnOk, OnErr, Contains, IsPermutation, slice_index_or, slice_set}
 use Rattle.nofs_disk.specs.Number.{IsBytes}
 use Rattle.nofs_disk.specs.declared.Failed.{Failed}
@@ -112,7 +113,8 @@ pub record Reads (old new : DiskState) (block : ℕ) (into : Cell) (result : Res
   pub cause : OnErr result (Rose old.faults new.faults)
   pub no_fault : OnOk result (new.faults ≡ old.faults)
 
--- `write(block, cell)`: the block's cell is this one, or, where it fails, may still be the old one; a crash may leave either
+-- `write(block, cell)`: the block's cell is this one, or, where it fails, may still be the old one; a crash may leave
+-- either
 pub record Writes (old new : DiskState) (block : ℕ) (cell : Cell) (result : Result (Unit {0}) Failed) : Type 0 where
   pub disk : IsSameDisk old new
   pub past : KeepsPast old new

@@ -1,5 +1,6 @@
 -- What a disk holds: its present cells, and for each block those that it may hold.
-use Rattle.std.specs.Prelude.{◌≡◌, ◌≢◌, ℕ, ◌<◌, ◌≤◌, ◌==◌, if◌then◌else◌, List, [], ◌∷◌, ◌++◌, length, slice_set, Contains}
+use Rattle.std.specs.Prelude.{◌≡◌, ◌≢◌, ℕ, ◌<◌, ◌≤◌, ◌==◌, if◌then◌else◌, List, [], ◌∷◌, ◌++◌, length, slice_set}
+use Rattle.std.specs.Prelude.{Contains}
 use Rattle.std.proofs.lemmas.Bool.{eq-eqb, ne_eqb}
 use Rattle.std.proofs.Common.{refl}
 use Rattle.nofs_disk.specs.declared.tag.Cell.{Cell}
@@ -13,10 +14,14 @@ pub record Held : Type 0 where
 -- a cell was written
 abbrev pub written : Held → ℕ → Cell → Held
 written held block cell =
-    record { now = slice_set held.now block cell; may = λ b. if b == block then held.may b ++ cell ∷ [] else held.may b }
+    record {
+      now = slice_set held.now block cell;
+      may = λ b. if b == block then held.may b ++ cell ∷ [] else held.may b;
+    }
 
 -- the cells of the block that was written, and of another
-pub written_here : (held : Held) (block : ℕ) (cell : Cell) → (written held block cell).may block ≡ held.may block ++ cell ∷ []
+pub written_here : (held : Held) (block : ℕ) (cell : Cell)
+    → (written held block cell).may block ≡ held.may block ++ cell ∷ []
 written_here held block cell = rw (eq-eqb block block refl)
 
 pub written_other : (held : Held) (block b : ℕ) (cell : Cell) → b ≢ block → (written held block cell).may b ≡ held.may b

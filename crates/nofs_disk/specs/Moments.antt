@@ -19,7 +19,8 @@ after old new m e le = elim (cases_lt m (old + 1)) [
 ]
 
 -- a call that makes no moment goes on
-pub AtEach-stays : (P : ℕ → List Cell → Type 0) (from : ℕ) (old new : DiskState) → KeepsPast old new → new.moment ≡ old.moment → AtEach P from old
+pub AtEach-stays : (P : ℕ → List Cell → Type 0) (from : ℕ) (old new : DiskState) → KeepsPast old new
+    → new.moment ≡ old.moment → AtEach P from old
     → AtEach P from new
 AtEach-stays P from old new past same at = record {
   begun = let b = at.begun in omega arith;
@@ -27,7 +28,8 @@ AtEach-stays P from old new past same at = record {
 }
 
 -- a call that makes two moments goes on, where the images of these have the property
-pub AtEach-moves : (P : ℕ → List Cell → Type 0) (from : ℕ) (old new : DiskState) → KeepsPast old new → new.moment ≡ old.moment + 2
+pub AtEach-moves : (P : ℕ → List Cell → Type 0) (from : ℕ) (old new : DiskState) → KeepsPast old new
+    → new.moment ≡ old.moment + 2
     → ((image : List Cell) → new.left (old.moment + 1) image → P (old.moment + 1) image)
     → ((image : List Cell) → new.left new.moment image → P new.moment image)
     → AtEach P from old → AtEach P from new
@@ -45,24 +47,29 @@ AtEach-moves P from old new past moved during rest at = record {
 }
 
 -- a write goes on where each image that picks from what it leaves has the property at the two moments that it makes
-pub AtEach-writes : (P : ℕ → List Cell → Type 0) (from : ℕ) (old new : DiskState) {block : ℕ} {cell : Cell} {result : Result (Unit {0}) Failed}
+pub AtEach-writes : (P : ℕ → List Cell → Type 0) (from : ℕ)
+    (old new : DiskState) {block : ℕ} {cell : Cell} {result : Result (Unit {0}) Failed}
     → IsDisk new → Writes old new block cell result
     → ((image : List Cell) → Picks new.may new.blocks image → P (old.moment + 1) image × P new.moment image)
     → AtEach P from old → AtEach P from new
 AtEach-writes P from old new is w has at =
-    AtEach-moves P from old new w.past w.moment (λ image left. (has image (w.during image left)).0) (λ image left. (has image (is.at_rest image left)).1) at
+    AtEach-moves P from old new w.past w.moment (λ image left. (has image (w.during image left)).0)
+    (λ image left. (has image (is.at_rest image left)).1) at
 
--- a flush goes on where each image that picks from what was there has the property at the moment during it, and each that picks from what is left at its end
+-- a flush goes on where each image that picks from what was there has the property at the moment during it, and each
+-- that picks from what is left at its end
 pub AtEach-flushes : (P : ℕ → List Cell → Type 0) (from : ℕ) (old new : DiskState) {result : Result (Unit {0}) Failed}
     → IsDisk new → Flushes old new result
     → ((image : List Cell) → Picks old.may old.blocks image → P (old.moment + 1) image)
     → ((image : List Cell) → Picks new.may new.blocks image → P new.moment image)
     → AtEach P from old → AtEach P from new
 AtEach-flushes P from old new is f during rest at =
-    AtEach-moves P from old new f.past f.moment (λ image left. during image (f.during image left)) (λ image left. rest image (is.at_rest image left)) at
+    AtEach-moves P from old new f.past f.moment (λ image left. during image (f.during image left))
+    (λ image left. rest image (is.at_rest image left)) at
 
 -- a write-out goes on where each image that picks from what is left has the property at the present moment
-pub AtEach-writes_out : (P : ℕ → List Cell → Type 0) (from : ℕ) (old new : DiskState) {result : Result (Option ℕ) Failed}
+pub AtEach-writes_out : (P : ℕ → List Cell → Type 0) (from : ℕ)
+    (old new : DiskState) {result : Result (Option ℕ) Failed}
     → IsDisk new → WritesOut old new result
     → ((image : List Cell) → Picks new.may new.blocks image → P new.moment image)
     → AtEach P from old → AtEach P from new

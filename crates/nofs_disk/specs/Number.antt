@@ -1,10 +1,13 @@
 -- Numbers in a list of bytes, the lowest byte first.
-use Rattle.std.specs.Prelude.{◌≡◌, ℕ, zero, suc, ◌+◌, ◌-◌, ◌^◌, ◌<◌, ◌≤◌, List, [], ◌∷◌, ◌++◌, length, take, drop, replicate, slice_index}
+use Rattle.std.specs.Prelude.{◌≡◌, ℕ, zero, suc, ◌+◌, ◌-◌, ◌^◌, ◌<◌, ◌≤◌, List, [], ◌∷◌, ◌++◌, length, take, drop}
+use Rattle.std.specs.Prelude.{replicate, slice_index}
 use Rattle.std.proofs.Common.{arith, sym, ap, ◌∙◌, length-append}
-use Rattle.std.proofs.lemmas.List.{drop_at, drop-drop, drop-append-le, length-replicate, length-take-le, length-drop, take-append-drop, get_or-drop}
+use Rattle.std.proofs.lemmas.List.{drop_at, drop-drop, drop-append-le, length-replicate, length-take-le, length-drop}
+use Rattle.std.proofs.lemmas.List.{take-append-drop, get_or-drop}
 use Rattle.std.specs.Int.{byte_at, bytes_low_first}
 use Rattle.byteorder.specs.Endian.{little_bytes, little_number}
-use Rattle.byteorder.specs.Numbers.{little_number-reads_back, little_from-append, little_from-lt, length-bytes_low_first}
+use Rattle.byteorder.specs.Numbers.{little_number-reads_back, little_from-append, little_from-lt}
+use Rattle.byteorder.specs.Numbers.{length-bytes_low_first}
 
 -- the number in the n bytes at a place
 unfoldable pub number_at : ℕ → ℕ → List ℕ → ℕ
@@ -31,7 +34,8 @@ pub record IsBytes (n : ℕ) (bytes : List ℕ) : Type 0 where
   pub len : length bytes ≡ n
   pub each : (k : ℕ) → slice_index bytes k < 256
 
-pub length-put_number : (n at x : ℕ) (bytes : List ℕ) → at + n ≤ length bytes → length (put_number n at x bytes) ≡ length bytes
+pub length-put_number : (n at x : ℕ) (bytes : List ℕ) → at + n ≤ length bytes
+    → length (put_number n at x bytes) ≡ length bytes
 unfolding put_number
 length-put_number n at x bytes fits =
     omega (
@@ -44,10 +48,12 @@ length-put_number n at x bytes fits =
     )
 
 -- what was put is read
-pub number_at-put_same : (n at x : ℕ) (bytes : List ℕ) → x < 256 ^ n → at + n ≤ length bytes → number_at n at (put_number n at x bytes) ≡ x
+pub number_at-put_same : (n at x : ℕ) (bytes : List ℕ) → x < 256 ^ n → at + n ≤ length bytes
+    → number_at n at (put_number n at x bytes) ≡ x
 unfolding number_at put_number
 number_at-put_same n at x bytes small fits =
-    ap (little_number n) (drop_at (take at bytes) (little_bytes n x ++ drop (at + n) bytes) at (length-take-le at bytes (omega arith)))
+    ap (little_number n)
+    (drop_at (take at bytes) (little_bytes n x ++ drop (at + n) bytes) at (length-take-le at bytes (omega arith)))
     ∙ little_number-reads_back n x (drop (at + n) bytes) small
 
 -- a number behind what was put stays
@@ -57,20 +63,25 @@ unfolding number_at put_number
 number_at-put_before n at m to x bytes fits after =
     let cut : drop (at + n) (take at bytes ++ (little_bytes n x ++ drop (at + n) bytes)) ≡ drop (at + n) bytes =
     sym (drop-drop n at (take at bytes ++ (little_bytes n x ++ drop (at + n) bytes)))
-    ∙ ap (drop n) (drop_at (take at bytes) (little_bytes n x ++ drop (at + n) bytes) at (length-take-le at bytes (omega arith)))
+    ∙ ap (drop n)
+    (drop_at (take at bytes) (little_bytes n x ++ drop (at + n) bytes) at (length-take-le at bytes (omega arith)))
     ∙ drop_at (little_bytes n x) (drop (at + n) bytes) n (length-bytes_low_first 0 n x) in
     let whole : (l : List ℕ) → drop (to - (at + n)) (drop (at + n) l) ≡ drop to l =
     λ l. drop-drop (to - (at + n)) (at + n) l ∙ ap (λ k. drop k l) (omega arith) in
-    ap (little_number m) (sym (whole (take at bytes ++ (little_bytes n x ++ drop (at + n) bytes))) ∙ ap (drop (to - (at + n))) cut ∙ whole bytes)
+    ap (little_number m) (sym (whole (take at bytes ++ (little_bytes n x ++ drop (at + n) bytes)))
+    ∙ ap (drop (to - (at + n))) cut ∙ whole bytes)
 
 -- a number before what was put stays
 pub number_at-put_after : (n at m to x : ℕ) (bytes : List ℕ) → at + n ≤ length bytes → to + m ≤ at
     → number_at m to (put_number n at x bytes) ≡ number_at m to bytes
 unfolding number_at put_number
 number_at-put_after n at m to x bytes fits before =
-    let front : (rest : List ℕ) → little_number m (drop to (take at bytes ++ rest)) ≡ little_number m (drop to (take at bytes)) =
-    λ rest. ap (little_number m) (drop-append-le to (take at bytes) rest (omega (arith, length-take-le at bytes (omega arith))))
-    ∙ little_from-append m (drop to (take at bytes)) rest (omega (arith, length-take-le at bytes (omega arith), length-drop to (take at bytes))) in
+    let front : (rest : List ℕ)
+    → little_number m (drop to (take at bytes ++ rest)) ≡ little_number m (drop to (take at bytes)) =
+    λ rest. ap (little_number m)
+    (drop-append-le to (take at bytes) rest (omega (arith, length-take-le at bytes (omega arith))))
+    ∙ little_from-append m (drop to (take at bytes)) rest
+    (omega (arith, length-take-le at bytes (omega arith), length-drop to (take at bytes))) in
     front (little_bytes n x ++ drop (at + n) bytes)
     ∙ sym (front (drop at bytes))
     ∙ ap (λ l. little_number m (drop to l)) (take-append-drop at bytes)
@@ -82,10 +93,12 @@ number_at-lt n at bytes each =
     little_from-lt 0 n (drop at bytes) (λ k. let e = get_or-drop at bytes k 0 in omega (arith, e, each (at + k)))
 
 -- what numbers read after others were put
-pub ruleset puts = (arith, length-zeros, length-put_number, number_at-put_same, number_at-put_before, number_at-put_after)
+pub ruleset puts =
+    (arith, length-zeros, length-put_number, number_at-put_same, number_at-put_before, number_at-put_after)
 
 -- lists of bytes below 256 that are put together, or cut
-pub append-byte : (xs ys : List ℕ) → ((k : ℕ) → slice_index xs k < 256) → ((k : ℕ) → slice_index ys k < 256) → (k : ℕ) → slice_index (xs ++ ys) k < 256
+pub append-byte : (xs ys : List ℕ) → ((k : ℕ) → slice_index xs k < 256) → ((k : ℕ) → slice_index ys k < 256)
+    → (k : ℕ) → slice_index (xs ++ ys) k < 256
 append-byte [] ys small_x small_y k = small_y k
 append-byte (x ∷ xs) ys small_x small_y zero = small_x zero
 append-byte (x ∷ xs) ys small_x small_y (suc k) = append-byte xs ys (λ j. small_x (suc j)) small_y k
@@ -114,22 +127,27 @@ zeros-byte zero k = omega arith
 zeros-byte (suc n) zero = omega arith
 zeros-byte (suc n) (suc k) = zeros-byte n k
 
-pub put_number-byte : (n at x : ℕ) (bytes : List ℕ) → ((k : ℕ) → slice_index bytes k < 256) → (k : ℕ) → slice_index (put_number n at x bytes) k < 256
+pub put_number-byte : (n at x : ℕ) (bytes : List ℕ) → ((k : ℕ) → slice_index bytes k < 256)
+    → (k : ℕ) → slice_index (put_number n at x bytes) k < 256
 unfolding put_number
-put_number-byte n at x bytes small = append-byte (take at bytes) (little_bytes n x ++ drop (at + n) bytes) (take-byte at bytes small)
+put_number-byte n at x bytes small =
+    append-byte (take at bytes) (little_bytes n x ++ drop (at + n) bytes) (take-byte at bytes small)
     (append-byte (little_bytes n x) (drop (at + n) bytes) (little_bytes-byte 0 n x) (drop-byte (at + n) bytes small))
 
-pub put_bytes-byte : (at : ℕ) (part bytes : List ℕ) → ((k : ℕ) → slice_index part k < 256) → ((k : ℕ) → slice_index bytes k < 256) → (k : ℕ)
+pub put_bytes-byte : (at : ℕ) (part bytes : List ℕ) → ((k : ℕ) → slice_index part k < 256)
+    → ((k : ℕ) → slice_index bytes k < 256) → (k : ℕ)
     → slice_index (put_bytes at part bytes) k < 256
 unfolding put_bytes
-put_bytes-byte at part bytes small_part small = append-byte (take at bytes) (part ++ drop (at + length part) bytes) (take-byte at bytes small)
+put_bytes-byte at part bytes small_part small =
+    append-byte (take at bytes) (part ++ drop (at + length part) bytes) (take-byte at bytes small)
     (append-byte part (drop (at + length part) bytes) small_part (drop-byte (at + length part) bytes small))
 
 -- zeros are bytes, and bytes with a number in them
 pub IsBytes-zeros : (n : ℕ) → IsBytes n (zeros n)
 IsBytes-zeros n = record { len = length-zeros n; each = zeros-byte n }
 
-pub IsBytes-put_number : (m n at x : ℕ) (bytes : List ℕ) → at + n ≤ m → IsBytes m bytes → IsBytes m (put_number n at x bytes)
+pub IsBytes-put_number : (m n at x : ℕ) (bytes : List ℕ) → at + n ≤ m → IsBytes m bytes
+    → IsBytes m (put_number n at x bytes)
 IsBytes-put_number m n at x bytes fits is =
     let l = is.len in
     record { len = length-put_number n at x bytes (omega arith) ∙ is.len; each = put_number-byte n at x bytes is.each }

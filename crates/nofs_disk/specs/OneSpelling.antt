@@ -25,23 +25,28 @@ little_from-same i (suc n) xs ys small_x small_y e k low high =
       | inr other ↦ little_from-same (suc i) n xs ys small_x small_y rest k (omega arith) (omega arith)
     ]
 
-pub number_at-same : (n at : ℕ) (xs ys : List ℕ) → ((k : ℕ) → slice_index xs k < 256) → ((k : ℕ) → slice_index ys k < 256)
+pub number_at-same : (n at : ℕ) (xs ys : List ℕ) → ((k : ℕ) → slice_index xs k < 256)
+    → ((k : ℕ) → slice_index ys k < 256)
     → number_at n at xs ≡ number_at n at ys → (k : ℕ) → at ≤ k → k < at + n → slice_index xs k ≡ slice_index ys k
 unfolding number_at
 number_at-same n at xs ys small_x small_y e k low high =
     let i : at + (k - at) ≡ k = omega arith in
-    let moved : (l : List ℕ) → slice_index (drop at l) (k - at) ≡ slice_index l k = λ l. get_or-drop at l (k - at) 0 ∙ ap (slice_index l) i in
+    let moved : (l : List ℕ) → slice_index (drop at l) (k - at) ≡ slice_index l k = λ l. get_or-drop at l (k - at) 0
+    ∙ ap (slice_index l) i in
     sym (moved xs)
-    ∙ little_from-same 0 n (drop at xs) (drop at ys) (λ j. let d = get_or-drop at xs j 0 in let s = small_x (at + j) in omega arith) (λ j. let d =
+    ∙ little_from-same 0 n (drop at xs) (drop at ys)
+    (λ j. let d = get_or-drop at xs j 0 in let s = small_x (at + j) in omega arith) (λ j. let d =
     get_or-drop at ys j 0 in let s = small_y (at + j) in omega arith) e (k - at) (omega arith) (omega arith)
     ∙ moved ys
 
 -- a tag has one spelling
-pub SpellsTag-same : (xs ys : List ℕ) (t : Tag) → IsBytes 32 xs → IsBytes 32 ys → SpellsTag xs t → SpellsTag ys t → xs ≡ ys
+pub SpellsTag-same : (xs ys : List ℕ) (t : Tag) → IsBytes 32 xs → IsBytes 32 ys → SpellsTag xs t
+    → SpellsTag ys t → xs ≡ ys
 SpellsTag-same xs ys t is_x is_y spells_x spells_y =
     ext_get_or 0 xs ys (is_x.len ∙ sym is_y.len) (λ k low.
     let l = is_x.len in
-    let part : (n at : ℕ) → number_at n at xs ≡ number_at n at ys → at ≤ k → k < at + n → slice_index xs k ≡ slice_index ys k =
+    let part : (n at : ℕ) → number_at n at xs ≡ number_at n at ys
+    → at ≤ k → k < at + n → slice_index xs k ≡ slice_index ys k =
     λ n at e a b. number_at-same n at xs ys is_x.each is_y.each e k a b in
     elim (cases_lt k 4) [
       | inl a ↦ part 4 0 (spells_x.kind ∙ sym spells_y.kind) (omega arith) (omega arith)
@@ -101,18 +106,28 @@ SpellsTag-tag_bytes t is allowed =
     let g = is.generation in
     let s = is.slot in
     let m = is.stamp in
-    record { kind = grind puts; inode = grind puts; generation = grind puts; slot = grind puts; stamp = grind puts; allowed = allowed }
+    record {
+      kind = grind puts;
+      inode = grind puts;
+      generation = grind puts;
+      slot = grind puts;
+      stamp = grind puts;
+      allowed = allowed;
+    }
 
 -- what spells a tag is its spelling
 pub SpellsTag-one : (bytes : List ℕ) (t : Tag) → IsBytes 32 bytes → IsTag t → SpellsTag bytes t → bytes ≡ tag_bytes t
-SpellsTag-one bytes t is_bytes is spells = SpellsTag-same bytes (tag_bytes t) t is_bytes (IsBytes-tag_bytes t) spells (SpellsTag-tag_bytes t is spells.allowed)
+SpellsTag-one bytes t is_bytes is spells =
+    SpellsTag-same bytes (tag_bytes t) t is_bytes (IsBytes-tag_bytes t) spells (SpellsTag-tag_bytes t is spells.allowed)
 
 -- what spells a tag is read as it
 pub tag_of-spells : (bytes : List ℕ) (t : Tag) → SpellsTag bytes t → tag_of bytes ≡ Some t
 unfolding tag_of
-tag_of-spells bytes t s = go t.kind t.inode t.generation t.slot t.stamp s.kind s.inode s.generation s.slot s.stamp s.allowed
+tag_of-spells bytes t s =
+    go t.kind t.inode t.generation t.slot t.stamp s.kind s.inode s.generation s.slot s.stamp s.allowed
   where
-    go : (k : Kind) (i g n m : ℕ) → number_at 4 0 bytes ≡ kind_number k → number_at 4 4 bytes ≡ i → number_at 8 8 bytes ≡ g → number_at 8 16 bytes ≡ n
+    go : (k : Kind) (i g n m : ℕ) → number_at 4 0 bytes ≡ kind_number k
+        → number_at 4 4 bytes ≡ i → number_at 8 8 bytes ≡ g → number_at 8 16 bytes ≡ n
         → number_at 8 24 bytes ≡ m
         → AllowsParts k (record { kind = k; inode = i; generation = g; slot = n; stamp = m })
         → tag_of bytes ≡ Some (record { kind = k; inode = i; generation = g; slot = n; stamp = m })

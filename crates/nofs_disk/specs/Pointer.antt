@@ -1,7 +1,8 @@
 -- Pointers, and the 16 bytes that hold one: the block, then the stamp.
 use Rattle.std.specs.Prelude.{◌≡◌, ℕ, ◌+◌, ◌^◌, ◌<◌, ◌≤◌, ◌==◌, ◌&&◌, Bool, List, length}
 use Rattle.std.proofs.Common.{arith, ◌∙◌}
-use Rattle.nofs_disk.specs.Number.{number_at, put_number, length-put_number, number_at-put_same, number_at-put_before, number_at-put_after}
+use Rattle.nofs_disk.specs.Number.{number_at, put_number, length-put_number, number_at-put_same, number_at-put_before}
+use Rattle.nofs_disk.specs.Number.{number_at-put_after}
 use Rattle.nofs_disk.specs.declared.tag.Pointer.{Pointer}
 
 -- the pointer that names no block
@@ -25,7 +26,8 @@ pub record IsPointer (it : Pointer) : Type 0 where
   pub block : it.block < 2 ^ 64
   pub stamp : it.stamp < 2 ^ 64
 
-pub length-put_pointer : (at : ℕ) (it : Pointer) (bytes : List ℕ) → at + 16 ≤ length bytes → length (put_pointer at it bytes) ≡ length bytes
+pub length-put_pointer : (at : ℕ) (it : Pointer) (bytes : List ℕ) → at + 16 ≤ length bytes
+    → length (put_pointer at it bytes) ≡ length bytes
 unfolding put_pointer
 length-put_pointer at it bytes fits =
     let first = length-put_number 8 at it.block bytes (omega arith) in
@@ -50,7 +52,8 @@ number_at-put_pointer_after at m to it bytes fits before =
     ∙ number_at-put_after 8 at m to it.block bytes (omega arith) (omega arith)
 
 -- the pointer that was put is read
-pub pointer_in-put_same : (at : ℕ) (it : Pointer) (bytes : List ℕ) → IsPointer it → at + 16 ≤ length bytes → pointer_in at (put_pointer at it bytes) ≡ it
+pub pointer_in-put_same : (at : ℕ) (it : Pointer) (bytes : List ℕ) → IsPointer it → at + 16 ≤ length bytes
+    → pointer_in at (put_pointer at it bytes) ≡ it
 unfolding pointer_in put_pointer
 pointer_in-put_same at it bytes is fits =
     let len = length-put_number 8 at it.block bytes (omega arith) in

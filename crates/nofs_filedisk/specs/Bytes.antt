@@ -1,5 +1,6 @@
 -- What contracts see of a file of bytes, and what each of its calls does.
-use Rattle.std.specs.Prelude.{◌≡◌, ℕ, ◌+◌, ◌^◌, ◌<◌, ◌≤◌, ◌⊎◌, nat_lt, if◌then◌else◌, max, Bool, IsTrue, List, length, take, drop, slice_index}
+use Rattle.std.specs.Prelude.{◌≡◌, ℕ, ◌+◌, ◌^◌, ◌<◌, ◌≤◌, ◌⊎◌, nat_lt, if◌then◌else◌, max, Bool, IsTrue, List, length}
+use Rattle.std.specs.Prelude.{take, drop, slice_index}
 use Rattle.std.specs.Prelude.{Result, IfOk, OnOk, OnErr}
 use Rattle.nofs_disk.specs.Disk.{Rose}
 use Rattle.nofs_disk.specs.declared.Failed.{Failed}
@@ -67,7 +68,8 @@ pub record ReadsSome (old new : HostFileState) (at : ℕ) (from into : List ℕ)
   pub no_fault : OnOk result (new.faults ≡ old.faults)
 
 -- some bytes are read behind the first ones of a slice, which are done
-pub record ReadsBehind (old new : HostFileState) (at first : ℕ) (from into : List ℕ) (result : Result ℕ Failed) : Type 0 where
+pub record ReadsBehind (old new : HostFileState) (at first : ℕ) (from into : List ℕ)
+    (result : Result ℕ Failed) : Type 0 where
   -- the file stays
   pub keeps : KeepsBytes old new
   -- so do the length of the slice and its first bytes
@@ -96,7 +98,8 @@ pub record WritesSome (old new : HostFileState) (at : ℕ) (part : List ℕ) (re
 -- of each cell the durable bytes are what they were, or those of the file
 abbrev pub LastsOrMoves : HostFileState → HostFileState → Type 0
 LastsOrMoves old new =
-    IsTrue old.tells → (b : ℕ) → (cell_in new.durable b ≡ cell_in old.durable b) ⊎ (cell_in new.durable b ≡ cell_in old.bytes b)
+    IsTrue old.tells
+    → (b : ℕ) → (cell_in new.durable b ≡ cell_in old.durable b) ⊎ (cell_in new.durable b ≡ cell_in old.bytes b)
 
 -- what a file that tells holds is durable
 abbrev pub IsSynced : HostFileState → Type 0

@@ -9,4 +9,5 @@ part_of bytes at n = map (slice_index bytes) (range_with_len at n)
 
 -- the cell of a block
 unfoldable pub cell_in : List ℕ → ℕ → Cell
-cell_in bytes block = record { payload = part_of bytes (1056 * block) 1024; tag = part_of bytes (1056 * block + 1024) 32 }
+cell_in bytes block =
+    record { payload = part_of bytes (1056 * block) 1024; tag = part_of bytes (1056 * block + 1024) 32 }

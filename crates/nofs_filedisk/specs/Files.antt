@@ -52,11 +52,14 @@ LastsWithin file first calls =
 
 -- what contracts see of it
 abbrev pub file_state : HostFileState → HostFileState → List Call → ℕ → DiskState
-file_state file first calls spare = telling_disk file.tells 1048576 (state_of 0 (cells_in first.bytes) calls spare file.faults)
+file_state file first calls spare =
+    telling_disk file.tells 1048576 (state_of 0 (cells_in first.bytes) calls spare file.faults)
 
-pub file_is : (file first : HostFileState) (calls : List Call) (moment spare : ℕ) → IsHostFile file → moment ≡ 2 * length calls
+pub file_is : (file first : HostFileState) (calls : List Call) (moment spare : ℕ) → IsHostFile file
+    → moment ≡ 2 * length calls
     → 2 * spare + moment < 2 ^ 64 → FileSized first calls → IsDisk (file_state file first calls spare)
 file_is file first calls moment spare is made room sized =
     let low : 2 * spare + (0 + 2 * length calls) < 2 ^ 64 = omega arith in
-    telling_disk-is file.tells 1048576 (state_of 0 (cells_in first.bytes) calls spare file.faults) (length-cells_in first.bytes) refl
+    telling_disk-is file.tells 1048576 (state_of 0 (cells_in first.bytes) calls spare file.faults)
+    (length-cells_in first.bytes) refl
     (state_of-is 0 (cells_in first.bytes) calls spare file.faults low is.counted sized)

@@ -7,7 +7,8 @@ use Rattle.nofs_filedisk.specs.declared.memory.MemFile.{MemFile}
 abbrev pub telling_file : List ℕ → List ℕ → ℕ → HostFileState
 telling_file bytes durable faults = record { tells = true; bytes = bytes; durable = durable; faults = faults }
 
-pub telling_file-is : (bytes durable : List ℕ) (faults : ℕ) → faults < 2 ^ 64 → ((k : ℕ) → slice_index bytes k < 256) → IsHostFile (telling_file bytes durable faults)
+pub telling_file-is : (bytes durable : List ℕ) (faults : ℕ) → faults < 2 ^ 64 → ((k : ℕ) → slice_index bytes k < 256)
+    → IsHostFile (telling_file bytes durable faults)
 telling_file-is bytes durable faults low small = record { counted = low; small = small }
 
 -- a file stays but for its counts of calls and of faults

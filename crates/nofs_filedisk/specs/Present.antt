@@ -20,12 +20,14 @@ pub record IsPresent (bytes : List ℕ) (run : Run) (now : List Cell) : Type 0 w
 
 -- what reads give stays
 abbrev pub StaysPresent : HostFileState → Run → HostFileState → Run → Type 0
-StaysPresent old before new after = IsTrue old.tells → (now : List Cell) → IsPresent old.bytes before now → IsPresent new.bytes after now
+StaysPresent old before new after = IsTrue old.tells → (now : List Cell) → IsPresent old.bytes before now
+    → IsPresent new.bytes after now
 
 -- the file has each cell that reads gave
 abbrev pub HasAllCells : HostFileState → Run → HostFileState → Type 0
 HasAllCells old before new =
-    IsTrue old.tells → (now : List Cell) → IsPresent old.bytes before now → (b : ℕ) → b < 1048576 → cell_at now b ≡ cell_in new.bytes b
+    IsTrue old.tells → (now : List Cell) → IsPresent old.bytes before now
+    → (b : ℕ) → b < 1048576 → cell_at now b ≡ cell_in new.bytes b
 
 -- of each block the durable cell is what it was, or what a read gives
 abbrev pub LastsOrPresent : HostFileState → Run → HostFileState → Type 0
@@ -36,4 +38,5 @@ LastsOrPresent old before new =
 -- a read of this block gives this cell, and what reads of others give stays
 abbrev pub TakesCell : HostFileState → Run → HostFileState → Run → ℕ → Cell → Type 0
 TakesCell old before new after block cell =
-    IsTrue old.tells → (now : List Cell) → length now ≡ 1048576 → IsPresent old.bytes before now → IsPresent new.bytes after (slice_set now block cell)
+    IsTrue old.tells → (now : List Cell) → length now ≡ 1048576 → IsPresent old.bytes before now
+    → IsPresent new.bytes after (slice_set now block cell)

@@ -8,7 +8,8 @@ abbrev pub telling_disk : Bool → ℕ → DiskState → DiskState
 telling_disk tells blocks d = record d { tells = tells; blocks = blocks }
 
 -- it is a disk where that one is, has so many blocks, and tells
-pub telling_disk-is : (tells : Bool) (blocks : ℕ) (d : DiskState) → d.blocks ≡ blocks → IsTrue d.tells → IsDisk d → IsDisk (telling_disk tells blocks d)
+pub telling_disk-is : (tells : Bool) (blocks : ℕ) (d : DiskState) → d.blocks ≡ blocks → IsTrue d.tells → IsDisk d
+    → IsDisk (telling_disk tells blocks d)
 telling_disk-is tells blocks d same telling is = record {
   room = is.room;
   counted = is.counted;

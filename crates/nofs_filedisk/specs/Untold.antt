@@ -12,4 +12,5 @@ zero_small : {n : ℕ} → n ≡ 0 → n < 256
 zero_small e = omega arith
 
 pub untold_is : (faults : ℕ) → faults < 2 ^ 64 → IsHostFile (untold faults)
-untold_is faults low = record { counted = low; small = λ k. zero_small (get_or-eq_default {A = ℕ} [] 0 {n = k} (omega arith)) }
+untold_is faults low =
+    record { counted = low; small = λ k. zero_small (get_or-eq_default {A = ℕ} [] 0 {n = k} (omega arith)) }

@@ -11,7 +11,8 @@ ghost use Rattle.std.specs.Prelude.{◌≡◌, ◌+◌, ◌*◌, ◌<◌, ◌≤
 ghost use Rattle.nofs_disk.specs.declared.tag.Cell.{Cell};
 ghost use Rattle.nofs_disk.specs.Disk.{Rose, cell_at};
 ghost use Rattle.nofs_filedisk.specs.Bytes.{IsPut, KeepsBytes, KeepsDurable};
-ghost use Rattle.nofs_filedisk.specs.Present.{HasAllCells, HasPlace, IsPresent, LastsOrPresent, StaysPresent, TakesCell};
+ghost use Rattle.nofs_filedisk.specs.Present.{HasAllCells, HasPlace, IsPresent, LastsOrPresent, StaysPresent};
+ghost use Rattle.nofs_filedisk.specs.Present.{TakesCell};
 ghost use Rattle.nofs_filedisk.specs.Windows.{IsShown, ShowsFile};
 
 use crate::moving::write_part;
@@ -33,7 +34,8 @@ pub struct Contents<B: Positioned + Drop> {
 // The windows show the cells of a run that was put into the file.
 fn show(run: &Run, windows: &mut Windows)
     requires { 0 < run.now.count }
-    ensures { (old new : List ℕ) → IsPut (1056 * run.now.first) (take (1056 * run.now.count) run.now.bytes.items) old new
+    ensures { (old new : List ℕ)
+        → IsPut (1056 * run.now.first) (take (1056 * run.now.count) run.now.bytes.items) old new
         → All (IsShown old) windows.old.windows.items → All (IsShown new) windows.new.windows.items }
 {
     for place in 0..run.count {
@@ -67,7 +69,8 @@ impl<B: Positioned + Drop> Contents<B> {
         ensures keeps { KeepsBytes (B.state self.old.file) (B.state self.new.file) }
         ensures run { self.new.run ≡ self.old.run }
         ensures cell { OnOk result (IsTrue (B.state self.old.file).tells
-            → (now : List Cell) → IsPresent (B.state self.old.file).bytes self.old.run now → into.new ≡ cell_at now block) }
+            → (now : List Cell) → IsPresent (B.state self.old.file).bytes self.old.run now
+            → into.new ≡ cell_at now block) }
         ensures cause { OnErr result (Rose (B.state self.old.file).faults (B.state self.new.file).faults) }
         ensures no_fault { OnOk result ((B.state self.new.file).faults ≡ (B.state self.old.file).faults) }
     {
@@ -82,8 +85,10 @@ impl<B: Positioned + Drop> Contents<B> {
     pub fn write(&mut self, block: u64, cell: &Cell) -> Result<(), Failed>
         requires { block < 1048576 }
         ensures keeps { KeepsDurable (B.state self.old.file) (B.state self.new.file) }
-        ensures takes { OnOk result (TakesCell (B.state self.old.file) self.old.run (B.state self.new.file) self.new.run block cell.now) }
-        ensures stays { OnErr result (StaysPresent (B.state self.old.file) self.old.run (B.state self.new.file) self.new.run) }
+        ensures takes { OnOk result
+            (TakesCell (B.state self.old.file) self.old.run (B.state self.new.file) self.new.run block cell.now) }
+        ensures stays { OnErr result
+            (StaysPresent (B.state self.old.file) self.old.run (B.state self.new.file) self.new.run) }
         ensures cause { OnErr result (Rose (B.state self.old.file).faults (B.state self.new.file).faults) }
         ensures no_fault { OnOk result ((B.state self.new.file).faults ≡ (B.state self.old.file).faults) }
     {
@@ -127,7 +132,8 @@ impl<B: Positioned + Drop> Contents<B> {
         ensures keeps { KeepsDurable (B.state self.old.file) (B.state self.new.file) }
         ensures run { self.new.run ≡ self.old.run }
         ensures all { OnOk result (HasAllCells (B.state self.old.file) self.old.run (B.state self.new.file)) }
-        ensures stays { OnErr result (StaysPresent (B.state self.old.file) self.old.run (B.state self.new.file) self.new.run) }
+        ensures stays { OnErr result
+            (StaysPresent (B.state self.old.file) self.old.run (B.state self.new.file) self.new.run) }
         ensures cause { OnErr result (Rose (B.state self.old.file).faults (B.state self.new.file).faults) }
         ensures no_fault { OnOk result ((B.state self.new.file).faults ≡ (B.state self.old.file).faults) }
     {

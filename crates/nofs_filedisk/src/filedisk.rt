@@ -41,7 +41,8 @@ pub struct FileDisk<B: Positioned + Drop> {
     ghost room: { 2 * spare + moment < 2 ^ 64 },
     ghost sized: { FileSized (B.state first.value) (file_calls past.value) },
     ghost present: { IsTrue (B.state contents.file).tells
-        → IsPresent (B.state contents.file).bytes contents.run (file_held (B.state first.value) (file_calls past.value)).now },
+        → IsPresent (B.state contents.file).bytes contents.run
+        (file_held (B.state first.value) (file_calls past.value)).now },
     ghost lasting: { LastsWithin (B.state contents.file) (B.state first.value) (file_calls past.value) },
 }
 
@@ -88,7 +89,8 @@ impl<B: Positioned + Drop> FileDisk<B> {
     pub fn file(self) -> B
         ensures file { result ≡ self.contents.file }
         ensures left { IsTrue (B.state result).tells
-            → (⟦<FileDisk<B> as Disk>⟧.state self).left (⟦<FileDisk<B> as Disk>⟧.state self).moment (cells_in (B.state result).durable) }
+            → (⟦<FileDisk<B> as Disk>⟧.state self).left (⟦<FileDisk<B> as Disk>⟧.state self).moment
+            (cells_in (B.state result).durable) }
     {
         self.contents.into_file()
     }
@@ -97,9 +99,11 @@ impl<B: Positioned + Drop> FileDisk<B> {
 impl<B: Positioned + Drop> Disk for FileDisk<B> {
     ghost use Rattle.nofs_filedisk.specs.Files.{file_is, file_state};
 
-    ghost state = { λ d. file_state (B.state d.contents.file) (B.state d.first.value) (file_calls d.past.value) d.spare };
+    ghost state = { λ d. file_state (B.state d.contents.file) (B.state d.first.value)
+        (file_calls d.past.value) d.spare };
 
-    ghost is_disk = { λ d. file_is (B.state d.contents.file) (B.state d.first.value) (file_calls d.past.value) d.moment d.spare
+    ghost is_disk = { λ d. file_is (B.state d.contents.file) (B.state d.first.value)
+        (file_calls d.past.value) d.moment d.spare
         (B.is_file d.contents.file) d.made d.room d.sized };
 
     fn blocks(&self) -> u64 {
@@ -109,7 +113,8 @@ impl<B: Positioned + Drop> Disk for FileDisk<B> {
     /// A crash now may leave each image that picks.
     fn moment(&self) -> u64
         ensures moment { result ≡ (⟦<FileDisk<B> as Disk>⟧.state self.now).moment }
-        ensures leaves { (image : List Cell) → Picks (⟦<FileDisk<B> as Disk>⟧.state self.now).may (⟦<FileDisk<B> as Disk>⟧.state self.now).blocks image
+        ensures leaves { (image : List Cell)
+            → Picks (⟦<FileDisk<B> as Disk>⟧.state self.now).may (⟦<FileDisk<B> as Disk>⟧.state self.now).blocks image
             → (⟦<FileDisk<B> as Disk>⟧.state self.now).left (⟦<FileDisk<B> as Disk>⟧.state self.now).moment image }
     {
         self.moment
@@ -133,9 +138,12 @@ impl<B: Positioned + Drop> Disk for FileDisk<B> {
     fn write(&mut self, block: u64, cell: &Cell) -> Result<(), Failed>
         requires block { block < (⟦<FileDisk<B> as Disk>⟧.state self.old).blocks }
         requires spare { 1 ≤ (⟦<FileDisk<B> as Disk>⟧.state self.old).spare }
-        ensures writes { Writes (⟦<FileDisk<B> as Disk>⟧.state self.old) (⟦<FileDisk<B> as Disk>⟧.state self.new) block cell.now result }
-        ensures leaves { (image : List Cell) → Picks (⟦<FileDisk<B> as Disk>⟧.state self.new).may (⟦<FileDisk<B> as Disk>⟧.state self.new).blocks image
-            → (⟦<FileDisk<B> as Disk>⟧.state self.new).left ((⟦<FileDisk<B> as Disk>⟧.state self.old).moment + 1) image }
+        ensures writes { Writes (⟦<FileDisk<B> as Disk>⟧.state self.old)
+            (⟦<FileDisk<B> as Disk>⟧.state self.new) block cell.now result }
+        ensures leaves { (image : List Cell)
+            → Picks (⟦<FileDisk<B> as Disk>⟧.state self.new).may (⟦<FileDisk<B> as Disk>⟧.state self.new).blocks image
+            → (⟦<FileDisk<B> as Disk>⟧.state self.new).left
+            ((⟦<FileDisk<B> as Disk>⟧.state self.old).moment + 1) image }
     {
         cell.note_sizes();
         self.moment += 2;
@@ -155,11 +163,15 @@ impl<B: Positioned + Drop> Disk for FileDisk<B> {
     /// After one that succeeded the durable bytes of the file show what a read gives.
     fn flush(&mut self) -> Result<(), Failed>
         requires { 1 ≤ (⟦<FileDisk<B> as Disk>⟧.state self.old).spare }
-        ensures flushes { Flushes (⟦<FileDisk<B> as Disk>⟧.state self.old) (⟦<FileDisk<B> as Disk>⟧.state self.new) result }
-        ensures leaves { (image : List Cell) → Picks (⟦<FileDisk<B> as Disk>⟧.state self.old).may (⟦<FileDisk<B> as Disk>⟧.state self.old).blocks image
-            → (⟦<FileDisk<B> as Disk>⟧.state self.new).left ((⟦<FileDisk<B> as Disk>⟧.state self.old).moment + 1) image }
+        ensures flushes { Flushes (⟦<FileDisk<B> as Disk>⟧.state self.old)
+            (⟦<FileDisk<B> as Disk>⟧.state self.new) result }
+        ensures leaves { (image : List Cell)
+            → Picks (⟦<FileDisk<B> as Disk>⟧.state self.old).may (⟦<FileDisk<B> as Disk>⟧.state self.old).blocks image
+            → (⟦<FileDisk<B> as Disk>⟧.state self.new).left
+            ((⟦<FileDisk<B> as Disk>⟧.state self.old).moment + 1) image }
         ensures lasts { OnOk result (IsTrue (B.state self.old.contents.file).tells → (b : ℕ) → b < 1048576
-            → cell_in (B.state self.new.contents.file).durable b ≡ cell_at (⟦<FileDisk<B> as Disk>⟧.state self.new).now b) }
+            → cell_in (B.state self.new.contents.file).durable b
+            ≡ cell_at (⟦<FileDisk<B> as Disk>⟧.state self.new).now b) }
     {
         self.moment += 2;
         self.spare -= 1;

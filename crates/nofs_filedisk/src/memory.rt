@@ -1,7 +1,8 @@
 //! A file in memory, which tells its bytes.
 //!
 //! Promise: a call fails where its number was named, or where there is no memory to grow.
-ghost use Rattle.std.specs.Prelude.{◌≡◌, ◌+◌, ◌≤◌, ◌<◌, ◌^◌, ◌-◌, ◌==◌, max, min, IfOk, OnErr, OnOk, is_err, length, slice_index, slice_range, take, ℕ};
+ghost use Rattle.std.specs.Prelude.{◌≡◌, ◌+◌, ◌≤◌, ◌<◌, ◌^◌, ◌-◌, ◌==◌, max, min, IfOk, OnErr, OnOk, is_err, length};
+ghost use Rattle.std.specs.Prelude.{slice_index, slice_range, take, ℕ};
 ghost use Rattle.std.specs.List.{list_any};
 ghost use Rattle.nofs_disk.specs.Disk.{Rose};
 ghost use Rattle.nofs_filedisk.specs.Bytes.{IsPut, IsSynced};

@@ -59,8 +59,10 @@ fn clear_on(into: &mut [u8], done: usize)
 pub fn write_part<B: Positioned>(file: &mut B, at: u64, part: &[u8]) -> Result<(), Failed>
     requires { at + length part.now < 2 ^ 63 }
     ensures keeps { KeepsDurable (B.state file.old) (B.state file.new) }
-    ensures put { OnOk result (IsTrue (B.state file.old).tells → IsPut at part.now (B.state file.old).bytes (B.state file.new).bytes) }
-    ensures err { OnErr result (IsTrue (B.state file.old).tells → IsPartlyPut at part.now (B.state file.old).bytes (B.state file.new).bytes) }
+    ensures put { OnOk result
+        (IsTrue (B.state file.old).tells → IsPut at part.now (B.state file.old).bytes (B.state file.new).bytes) }
+    ensures err { OnErr result
+        (IsTrue (B.state file.old).tells → IsPartlyPut at part.now (B.state file.old).bytes (B.state file.new).bytes) }
     ensures cause { OnErr result (Rose (B.state file.old).faults (B.state file.new).faults) }
     ensures no_fault { OnOk result ((B.state file.new).faults ≡ (B.state file.old).faults) }
 {

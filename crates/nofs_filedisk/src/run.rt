@@ -1,7 +1,8 @@
 //! The cells that were written last and are not yet in the file, where they are of neighbouring blocks.
 //!
 //! Promise: a cell that is put is given back, and those beside it stay.
-ghost use Rattle.std.specs.Prelude.{◌≡◌, ◌≢◌, ◌⊎◌, ℕ, ◌+◌, ◌-◌, ◌*◌, ◌<◌, ◌≤◌, IfOk, IsFalse, IsTrue, length, max, slice_range, take};
+ghost use Rattle.std.specs.Prelude.{◌≡◌, ◌≢◌, ◌⊎◌, ℕ, ◌+◌, ◌-◌, ◌*◌, ◌<◌, ◌≤◌, IfOk, IsFalse, IsTrue, length, max};
+ghost use Rattle.std.specs.Prelude.{slice_range, take};
 ghost use Rattle.nofs_disk.specs.Number.{put_bytes};
 ghost use Rattle.nofs_filedisk.specs.Cells.{cell_in};
 
@@ -31,7 +32,8 @@ pub struct Run {
 // Puts a cell at a place of some bytes.
 fn put_parts(bytes: &mut Vec<u8>, at: usize, cell: &Cell)
     requires { at + 1056 ≤ length bytes.old.items }
-    ensures value { bytes.new.items ≡ put_bytes (at + 1024) cell.now.tag (put_bytes at cell.now.payload bytes.old.items) }
+    ensures value { bytes.new.items ≡ put_bytes (at + 1024) cell.now.tag
+        (put_bytes at cell.now.payload bytes.old.items) }
     ensures len { length bytes.new.items ≡ length bytes.old.items }
 {
     write_bytes_at(bytes.as_mut_slice(), at, &cell.payload);
@@ -94,7 +96,8 @@ impl Run {
         ensures first { self.new.first ≡ self.old.first }
         ensures count { self.new.count ≡ max self.old.count (block - self.old.first + 1) }
         ensures here { cell_in self.new.bytes.items (block - self.old.first) ≡ cell.now }
-        ensures others { (k : ℕ) → k ≢ block - self.old.first → cell_in self.new.bytes.items k ≡ cell_in self.old.bytes.items k }
+        ensures others { (k : ℕ)
+            → k ≢ block - self.old.first → cell_in self.new.bytes.items k ≡ cell_in self.old.bytes.items k }
     {
         cell.note_sizes();
         let place = block - self.first;

@@ -2,12 +2,13 @@
 //!
 //! Promise: each window that has a number shows the bytes of the file, also after a write.
 //!
-//! A window takes some fifteen times what a cell takes to read, so it is read only where its other cells are likely to be asked for:
-//! where no window is kept yet, where many cells of the one beside it were read, or where some of its own were read alone lately. Any
-//! other cell is read alone. How many those some are is learned: one at first, twice as many after each window that was given up
-//! with few reads, and one again after a window that was of use. So reads without neighbours, which an image can ask for as well as
-//! an honest order, cost a cell each.
-ghost use Rattle.std.specs.Prelude.{◌≡◌, ◌≢◌, ◌+◌, ◌*◌, ◌/◌, ◌%◌, ◌<◌, ◌≤◌, All, IfOk, IfSome, IsFalse, IsTrue, List, None, OnErr, OnOk, Some, length, slice_range, ℕ};
+//! A window takes some fifteen times what a cell takes to read, so it is read only where its other cells are likely to
+//! be asked for: where no window is kept yet, where many cells of the one beside it were read, or where some of its own
+//! were read alone lately. Any other cell is read alone. How many those some are is learned: one at first, twice as
+//! many after each window that was given up with few reads, and one again after a window that was of use. So reads
+//! without neighbours, which an image can ask for as well as an honest order, cost a cell each.
+ghost use Rattle.std.specs.Prelude.{◌≡◌, ◌≢◌, ◌+◌, ◌*◌, ◌/◌, ◌%◌, ◌<◌, ◌≤◌, All, IfOk, IfSome, IsFalse, IsTrue, List};
+ghost use Rattle.std.specs.Prelude.{None, OnErr, OnOk, Some, length, slice_range, ℕ};
 ghost use Rattle.nofs_disk.specs.Disk.{Rose};
 ghost use Rattle.nofs_disk.specs.Number.{put_bytes};
 ghost use Rattle.nofs_filedisk.specs.Bytes.{HostFileState, IsPart, IsPut, KeepsBytes};
@@ -121,7 +122,8 @@ fn read_window<B: Positioned>(file: &mut B, number: u64, into: &mut Vec<u8>) -> 
     requires size { length into.old.items ≡ 67584 }
     ensures keeps { KeepsBytes (B.state file.old) (B.state file.new) }
     ensures size { length into.new.items ≡ 67584 }
-    ensures part { OnOk result (IsTrue (B.state file.old).tells → IsPart (B.state file.old).bytes (67584 * number) into.new.items) }
+    ensures part { OnOk result
+        (IsTrue (B.state file.old).tells → IsPart (B.state file.old).bytes (67584 * number) into.new.items) }
     ensures cause { OnErr result (Rose (B.state file.old).faults (B.state file.new).faults) }
     ensures no_fault { OnOk result ((B.state file.new).faults ≡ (B.state file.old).faults) }
 {
@@ -233,7 +235,8 @@ impl Window {
     // A cell of the file was written.
     fn put(&mut self, block: u64, cell: &[u8])
         requires { length cell.now ≡ 1056 }
-        ensures { (old new : List ℕ) → IsPut (1056 * block) cell.now old new → IsShown old self.old → IsShown new self.new }
+        ensures { (old new : List ℕ) → IsPut (1056 * block) cell.now old new → IsShown old self.old
+            → IsShown new self.new }
     {
         if self.has(block) {
             put_cell(&mut self.bytes, place_of(block), cell);
@@ -270,7 +273,8 @@ impl Windows {
         requires shows { ShowsFile (B.state file.old) self.old }
         ensures keeps { KeepsBytes (B.state file.old) (B.state file.new) }
         ensures shows { ShowsFile (B.state file.new) self.new }
-        ensures cell { OnOk result (IsTrue (B.state file.old).tells → into.new ≡ cell_in (B.state file.old).bytes block) }
+        ensures cell { OnOk result
+            (IsTrue (B.state file.old).tells → into.new ≡ cell_in (B.state file.old).bytes block) }
         ensures cause { OnErr result (Rose (B.state file.old).faults (B.state file.new).faults) }
         ensures no_fault { OnOk result ((B.state file.new).faults ≡ (B.state file.old).faults) }
     {
@@ -288,8 +292,8 @@ impl Windows {
         }
     }
 
-    // The place of the window with a number. Where there is none, it is read, or it is not, where no other of its cells is likely to be
-    // asked for.
+    // The place of the window with a number. Where there is none, it is read, or it is not, where no other of its cells
+    // is likely to be asked for.
     fn showing<B: Positioned>(&mut self, file: &mut B, number: u64) -> Result<Option<usize>, Failed>
         requires number { number < 16384 }
         requires shows { ShowsFile (B.state file.old) self.old }

@@ -1,6 +1,8 @@
 -- What Put owes and answers.
-use Rattle.std.specs.Prelude.{◌≡◌, ◌≢◌, ℕ, ◌+◌, ◌-◌, ◌*◌, ◌/◌, ◌%◌, ◌^◌, ◌<◌, ◌≤◌, ◌&&◌, ◌||◌, ◌==◌, max, not, nat_lt, nat_le, Bool, true, false}
-use Rattle.std.specs.Prelude.{List, length, [], ◌∷◌, if◌then◌else◌, IsTrue, Some, Result, Ok, Err, OnOk, IfErr, slice_set}
+use Rattle.std.specs.Prelude.{◌≡◌, ◌≢◌, ℕ, ◌+◌, ◌-◌, ◌*◌, ◌/◌, ◌%◌, ◌^◌, ◌<◌, ◌≤◌, ◌&&◌, ◌||◌, ◌==◌, max, not, nat_lt}
+use Rattle.std.specs.Prelude.{nat_le, Bool, true, false}
+use Rattle.std.specs.Prelude.{List, length, [], ◌∷◌, if◌then◌else◌, IsTrue, Some, Result, Ok, Err, OnOk, IfErr}
+use Rattle.std.specs.Prelude.{slice_set}
 use Rattle.nofs_disk.specs.Disk.{DiskState, StaysButFaults, Rose, cell_at}
 use Rattle.nofs_disk.specs.Number.{zeros}
 use Rattle.nofs_ptrs.specs.Paths.{slot_limit}
@@ -99,7 +101,8 @@ pub record IsFar (slot j n : ℕ) : Type 0 where
 -- the cell of a slot that had no bytes
 pub record IsContent (p : Put) (size stamp : ℕ) (c : Cell) : Type 0 where
   pub payload : c.payload ≡ put_content (Bytes (zeros 1024)) size p.slot p.at p.bytes.now
-  pub tag : tag_of c.tag ≡ Some (record { kind = Content; inode = p.inode; generation = p.generation; slot = p.slot; stamp = stamp })
+  pub tag : tag_of c.tag
+      ≡ Some (record { kind = Content; inode = p.inode; generation = p.generation; slot = p.slot; stamp = stamp })
 
 -- a new block of pointers with one pointer
 pub record OnePointer (i g : ℕ) (a : Path) (n : ℕ) (x : Pointer) (stamp : ℕ) (c : Cell) : Type 0 where
@@ -113,7 +116,8 @@ pub record IsRecordCell (old : Cell) (i : ℕ) (r : Record) (new : Cell) : Type 
   pub tag : tag_of new.tag ≡ Some (table_tag (1 + (i - 1) / 4))
 
 -- the cell of the table where the record of inode i stands is read
-pub record ReadsTable (old new : DiskState) (i : ℕ) (last : LastRead) (result : Result (Unit {0}) Refusal) : Type 0 where
+pub record ReadsTable (old new : DiskState) (i : ℕ) (last : LastRead)
+    (result : Result (Unit {0}) Refusal) : Type 0 where
   pub stays : StaysButFaults old new
   pub cell : OnOk result (IsTrue old.tells → last.cell ≡ cell_at old.now (1 + (i - 1) / 4))
   pub kept : OnOk result (IsLast new last)
@@ -173,7 +177,8 @@ is_lost_under size k at len = nat_lt k (slots_in size) && not ((at == 0) && nat_
 
 -- the record with another size and another pointer of its leaf, place 8, or of its top
 abbrev pub rooted : Record → ℕ → ℕ → Pointer → Record
-rooted r n place x = record r { size = n; leaf = if place == 8 then x else r.leaf; top = if place == 8 then r.top else x }
+rooted r n place x =
+    record r { size = n; leaf = if place == 8 then x else r.leaf; top = if place == 8 then r.top else x }
 
 -- the least bit of a map that is set
 pub record IsOneFree (bits : List Bool) (a : ℕ) : Type 0 where

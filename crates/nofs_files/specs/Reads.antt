@@ -1,6 +1,7 @@
 -- What the steps on files answer.
 use Rattle.nofs_state.specs.Writes.Cells.{stopped_books}
-use Rattle.std.specs.Prelude.{◌≡◌, ℕ, Bool, true, List, Option, Some, if◌then◌else◌, ◌==◌, IsTrue, Result, Ok, Err, IfOk, IfErr, OnOk, OnErr, count_by}
+use Rattle.std.specs.Prelude.{◌≡◌, ℕ, Bool, true, List, Option, Some, if◌then◌else◌, ◌==◌, IsTrue, Result, Ok, Err}
+use Rattle.std.specs.Prelude.{IfOk, IfErr, OnOk, OnErr, count_by}
 use Rattle.nofs_ptrs.specs.Paths.{slot_limit}
 use Rattle.nofs_disk.specs.declared.Failed.{Failed}
 use Rattle.nofs_disk.specs.Disk.{DiskState, Flushes, StaysButFaults, Rose}
@@ -28,9 +29,11 @@ abbrev pub stat_answer : Result Stat Refusal → Reply
 stat_answer (Ok it) = reply.Stat it
 stat_answer (Err why) = reply.Refused why
 
-pub record CountsLinks (old new : DiskState) (known : List (Option Bool)) (i : ℕ) (r : Record) (result : Result ℕ Failed) : Type 0 where
+pub record CountsLinks (old new : DiskState) (known : List (Option Bool)) (i : ℕ) (r : Record)
+    (result : Result ℕ Failed) : Type 0 where
   pub stays : StaysButFaults old new
-  pub count : IfOk result (λ n. IsTrue old.tells → AreTrue old.now known → n ≡ count_by (is_agreed_link (files_in old.now) i) r.links)
+  pub count : IfOk result
+      (λ n. IsTrue old.tells → AreTrue old.now known → n ≡ count_by (is_agreed_link (files_in old.now) i) r.links)
   pub cause : OnErr result (Rose old.faults new.faults)
 
 -- how many slots a file can have
@@ -39,11 +42,13 @@ slots_of at = if at.version == 1 then 72 else slot_limit
 
 -- why no file of this generation is there to be read or written
 abbrev pub file_row : Image → ℕ → ℕ → Option Refusal
-file_row X i g = if is_current X i g then row (is_kind kind.Directory (inode X i).kind) refusal.IsDirectory else Some refusal.Stale
+file_row X i g = if is_current X i g then row (is_kind kind.Directory (inode X i).kind) refusal.IsDirectory
+    else Some refusal.Stale
 
 -- why a file was not opened: by its row, or by a failed read
 pub data FileFails (old new : DiskState) (k : Books) (i g : ℕ) (why : Refusal) : Type 0 where
-  FailsByRow : is_plain why ≡ true → InRange why → (IsTrue old.tells → AreTrue old.now k.agreement → file_row old.now i g ≡ Some why)
+  FailsByRow : is_plain why ≡ true → InRange why
+      → (IsTrue old.tells → AreTrue old.now k.agreement → file_row old.now i g ≡ Some why)
       → FileFails old new k i g why
   FailsByRead : why ≡ refusal.ReadFault → Rose old.faults new.faults → FileFails old new k i g why
 
@@ -53,7 +58,8 @@ pub record IsFile (d : DiskState) (at : SuperBlock) (i g : ℕ) (r : Record) : T
   pub kind : r.kind ≡ Some kind.File
   pub generation : r.generation ≡ g
 
-pub record OpensFile (old new : DiskState) (k : Books) (i g : ℕ) (last : LastRead) (result : Result Record Refusal) : Type 0 where
+pub record OpensFile (old new : DiskState) (k : Books) (i g : ℕ) (last : LastRead)
+    (result : Result Record Refusal) : Type 0 where
   pub stays : StaysButFaults old new
   pub refused : IfErr result (FileFails old new k i g)
   pub file : IfOk result (IsFile new k.at i g)
@@ -71,6 +77,8 @@ flush_answer (Ok done) = reply.Flushed
 flush_answer (Err why) = reply.Refused why
 
 -- the disk is flushed, or the mount is stopped
-pub data FlushesDisk (old : DiskState) (k : Books) (new : DiskState) (l : Books) (result : Result (Unit {0}) Refusal) : Type 0 where
+pub data FlushesDisk (old : DiskState) (k : Books) (new : DiskState) (l : Books)
+    (result : Result (Unit {0}) Refusal) : Type 0 where
   Flushed : Flushes old new (Ok tt) → l ≡ k → result ≡ Ok tt → FlushesDisk old k new l result
-  NotFlushed : (x : Failed) → Flushes old new (Err x) → l ≡ stopped_books k → result ≡ Err refusal.WriteFault → FlushesDisk old k new l result
+  NotFlushed : (x : Failed) → Flushes old new (Err x) → l ≡ stopped_books k → result ≡ Err refusal.WriteFault
+      → FlushesDisk old k new l result

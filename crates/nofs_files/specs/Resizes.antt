@@ -1,7 +1,8 @@
 -- What a change of size cuts off, what it reads and writes, and what it answers.
 use Rattle.std.specs.Prelude.{◌≡◌, ◌≢◌, ℕ, ◌+◌, ◌-◌, ◌*◌, ◌/◌, ◌%◌, ◌^◌, ◌<◌, ◌≤◌, ◌⊎◌}
 use Rattle.std.specs.Prelude.{min, nat_lt, nat_le, Bool, true, false, List, [], ◌∷◌, ◌++◌, length, take}
-use Rattle.std.specs.Prelude.{replicate, Option, None, Some, if◌then◌else◌, IsTrue, Result, Ok, Err, IfOk, IfErr, IfSome, OnOk}
+use Rattle.std.specs.Prelude.{replicate, Option, None, Some, if◌then◌else◌, IsTrue, Result, Ok, Err, IfOk, IfErr}
+use Rattle.std.specs.Prelude.{IfSome, OnOk}
 use Rattle.nofs_ptrs.specs.Paths.{slot_limit}
 use Rattle.nofs_bits.specs.Bits.{is_set}
 use Rattle.nofs_inode.specs.InodeRecords.{largest_size}
@@ -94,11 +95,13 @@ pub record IsCutCell (from : ℕ) (old new : Cell) : Type 0 where
 abbrev pub IsCutBlock : Image → PathAnswer → ℕ → Option NewCell → Type 0
 IsCutBlock X answer.Hole from cut = cut ≡ None
 IsCutBlock X answer.Lost from cut = ⊥
-IsCutBlock X (answer.Holds x) from cut = (it : NewCell) × (cut ≡ Some it) × (it.block ≡ x.block) × IsCutCell from (cell_at X x.block) it.cell
+IsCutBlock X (answer.Holds x) from cut = (it : NewCell) × (cut ≡ Some it) × (it.block ≡ x.block)
+    × IsCutCell from (cell_at X x.block) it.cell
 
 -- why a block is not cut: it is lost, or a read failed
 abbrev pub CutFails : DiskState → DiskState → ℕ → Path → ℕ → Refusal → Type 0
-CutFails old new i path slot why = ((why ≡ refusal.LostSlot slot) × (IsTrue old.tells → find old.now i path ≡ answer.Lost)) ⊎
+CutFails old new i path slot why =
+    ((why ≡ refusal.LostSlot slot) × (IsTrue old.tells → find old.now i path ≡ answer.Lost)) ⊎
     ((why ≡ refusal.ReadFault) × Rose old.faults new.faults)
 
 pub record CutsBlock (old new : DiskState) (at : SuperBlock) (i : ℕ) (path : Path) (from slot : ℕ) (last : LastRead)
@@ -116,7 +119,8 @@ last_child kept = (kept - 73) / 64
 -- the top and its last child, of a file that keeps slots under a child
 pub record IsFarEdge (X : Image) (i kept : ℕ) (edge : Edge) : Type 0 where
   pub top : IsCutBlock X (find X i (InRecord 9)) (last_child kept + 1) edge.above
-  pub child : IsCutBlock X (find X i (Under (InRecord 9) (last_child kept))) (kept - (72 + 64 * last_child kept)) edge.below
+  pub child : IsCutBlock X (find X i (Under (InRecord 9) (last_child kept)))
+      (kept - (72 + 64 * last_child kept)) edge.below
 
 -- the blocks of pointers that are cut inside
 pub record IsEdge (X : Image) (i kept : ℕ) (edge : Edge) : Type 0 where
@@ -132,24 +136,29 @@ pub record EdgeInData (at : SuperBlock) (edge : Edge) : Type 0 where
 
 -- why the edge is not found: what is cut inside is lost, or a read failed
 pub data EdgeFails (old new : DiskState) (i kept : ℕ) (why : Refusal) : Type 0 where
-  LostLeaf : why ≡ refusal.LostSlot 8 → (IsTrue old.tells → (8 < kept) × (find old.now i (InRecord 8) ≡ answer.Lost)) → EdgeFails old new i kept why
+  LostLeaf : why ≡ refusal.LostSlot 8 → (IsTrue old.tells → (8 < kept) × (find old.now i (InRecord 8) ≡ answer.Lost))
+      → EdgeFails old new i kept why
   LostTop : why ≡ refusal.LostSlot 72 → (IsTrue old.tells → (72 < kept) × (find old.now i (InRecord 8) ≢ answer.Lost) ×
       (find old.now i (InRecord 9) ≡ answer.Lost)) → EdgeFails old new i kept why
   LostChild : why ≡ refusal.LostSlot (72 + 64 * last_child kept)
-      → (IsTrue old.tells → (72 < kept) × (find old.now i (InRecord 8) ≢ answer.Lost) × (find old.now i (InRecord 9) ≢ answer.Lost) ×
+      → (IsTrue old.tells
+      → (72 < kept) × (find old.now i (InRecord 8) ≢ answer.Lost) × (find old.now i (InRecord 9) ≢ answer.Lost) ×
       (find old.now i (Under (InRecord 9) (last_child kept)) ≡ answer.Lost)) → EdgeFails old new i kept why
   EdgeUnread : why ≡ refusal.ReadFault → Rose old.faults new.faults → EdgeFails old new i kept why
 
 -- why the top or its last child is not found
 pub data FarFails (old new : DiskState) (i kept : ℕ) (why : Refusal) : Type 0 where
-  FarTop : why ≡ refusal.LostSlot 72 → (IsTrue old.tells → find old.now i (InRecord 9) ≡ answer.Lost) → FarFails old new i kept why
+  FarTop : why ≡ refusal.LostSlot 72 → (IsTrue old.tells → find old.now i (InRecord 9) ≡ answer.Lost)
+      → FarFails old new i kept why
   FarChild : why ≡ refusal.LostSlot (72 + 64 * last_child kept)
-      → (IsTrue old.tells → (find old.now i (InRecord 9) ≢ answer.Lost) × (find old.now i (Under (InRecord 9) (last_child kept)) ≡ answer.Lost))
+      → (IsTrue old.tells → (find old.now i (InRecord 9) ≢ answer.Lost)
+      × (find old.now i (Under (InRecord 9) (last_child kept)) ≡ answer.Lost))
       → FarFails old new i kept why
   FarUnread : why ≡ refusal.ReadFault → Rose old.faults new.faults → FarFails old new i kept why
 
 -- an edge is found, or there is a reason
-pub record FindsEdgeOf (Is : Edge → Type 0) (Fails : Refusal → Type 0) (old new : DiskState) (at : SuperBlock) (last : LastRead)
+pub record FindsEdgeOf (Is : Edge → Type 0) (Fails : Refusal → Type 0) (old new : DiskState) (at : SuperBlock)
+    (last : LastRead)
     (result : Result Edge Refusal) : Type 0 where
   pub stays : StaysButFaults old new
   pub edge : IfOk result (λ e. IsTrue old.tells → Is e)
@@ -158,16 +167,19 @@ pub record FindsEdgeOf (Is : Edge → Type 0) (Fails : Refusal → Type 0) (old 
   pub refused : IfErr result Fails
 
 abbrev pub FindsFar : DiskState → DiskState → SuperBlock → ℕ → ℕ → LastRead → Result Edge Refusal → Type 0
-FindsFar old new at i kept last result = FindsEdgeOf (IsFarEdge old.now i kept) (FarFails old new i kept) old new at last result
+FindsFar old new at i kept last result =
+    FindsEdgeOf (IsFarEdge old.now i kept) (FarFails old new i kept) old new at last result
 
 abbrev pub FindsEdge : DiskState → DiskState → SuperBlock → ℕ → ℕ → LastRead → Result Edge Refusal → Type 0
-FindsEdge old new at i kept last result = FindsEdgeOf (IsEdge old.now i kept) (EdgeFails old new i kept) old new at last result
+FindsEdge old new at i kept last result =
+    FindsEdgeOf (IsEdge old.now i kept) (EdgeFails old new i kept) old new at last result
 
 -- the block of a slot, with zeros behind the end
 abbrev pub IsTailOf : Image → PathAnswer → ℕ → Option NewCell → Type 0
 IsTailOf X answer.Hole cut tail = tail ≡ None
 IsTailOf X answer.Lost cut tail = tail ≡ None
-IsTailOf X (answer.Holds x) cut tail = (it : NewCell) × (tail ≡ Some it) × (it.block ≡ x.block) × (it.cell.tag ≡ (cell_at X x.block).tag) ×
+IsTailOf X (answer.Holds x) cut tail = (it : NewCell) × (tail ≡ Some it) × (it.block ≡ x.block)
+    × (it.cell.tag ≡ (cell_at X x.block).tag) ×
     (it.cell.payload ≡ trimmed cut (cell_at X x.block).payload)
 
 -- the end of the content, where a file does not shrink below it
@@ -175,7 +187,8 @@ pub record IsTail (X : Image) (i old size : ℕ) (tail : Option NewCell) : Type 
   pub skips : (size < old) ⊎ (old % 1024 ≡ 0) → tail ≡ None
   pub ends : old ≤ size → old % 1024 ≢ 0 → IsTailOf X (find X i (path_of (old / 1024))) (old % 1024) tail
 
-pub record FindsTail (old new : DiskState) (at : SuperBlock) (i end size : ℕ) (last : LastRead) (result : Result (Option NewCell) Failed) : Type 0 where
+pub record FindsTail (old new : DiskState) (at : SuperBlock) (i end size : ℕ) (last : LastRead)
+    (result : Result (Option NewCell) Failed) : Type 0 where
   pub stays : StaysButFaults old new
   pub tail : IfOk result (λ o. IsTrue old.tells → IsTail old.now i end size o)
   pub area : IfOk result (λ o. IfSome o (CellInData at))
@@ -186,19 +199,24 @@ pub record FindsTail (old new : DiskState) (at : SuperBlock) (i end size : ℕ) 
 pub record IsCutMap (d : DiskState) (at : SuperBlock) (i kept : ℕ) (freed : List Bool) : Type 0 where
   pub size : length freed ≡ at.blocks
   pub in_area : (q : ℕ) → is_set freed q ≡ true → 1 + at.inodes / 4 ≤ q
-  pub sound : IsTrue d.tells → (q : ℕ) → is_set freed q ≡ true → IsBlockAmong d.now i kept slot_limit q ⊎ IsBlockAmong d.now i (first_cut kept) (2 ^ 32 + 66) q
-  pub contents : IsTrue d.tells → (k : ℕ) (x : Pointer) → kept ≤ k → k < slot_limit → find d.now i (path_of k) ≡ answer.Holds x → is_set freed x.block ≡ true
-  pub pointers : IsTrue d.tells → (k : ℕ) (x : Pointer) → first_cut kept ≤ k → k < 2 ^ 32 + 66 → find d.now i (path_of k) ≡ answer.Holds x
+  pub sound : IsTrue d.tells → (q : ℕ) → is_set freed q ≡ true → IsBlockAmong d.now i kept slot_limit q
+      ⊎ IsBlockAmong d.now i (first_cut kept) (2 ^ 32 + 66) q
+  pub contents : IsTrue d.tells → (k : ℕ) (x : Pointer)
+      → kept ≤ k → k < slot_limit → find d.now i (path_of k) ≡ answer.Holds x → is_set freed x.block ≡ true
+  pub pointers : IsTrue d.tells
+      → (k : ℕ) (x : Pointer) → first_cut kept ≤ k → k < 2 ^ 32 + 66 → find d.now i (path_of k) ≡ answer.Holds x
       → is_set freed x.block ≡ true
 
-pub record MarksCut (old new : DiskState) (at : SuperBlock) (i kept : ℕ) (last : LastRead) (result : Result (List Bool) Refusal) : Type 0 where
+pub record MarksCut (old new : DiskState) (at : SuperBlock) (i kept : ℕ) (last : LastRead)
+    (result : Result (List Bool) Refusal) : Type 0 where
   pub stays : StaysButFaults old new
   pub map : IfOk result (IsCutMap new at i kept)
   pub kept_last : OnOk result (IsLast new last)
   pub refused : IfErr result (MarkFails old new)
 
 -- what a change of size has read, and is to write; no row refuses the step
-pub record MayCut (d : DiskState) (k : Books) (i g size : ℕ) (r : Record) (tail : Option NewCell) (edge : Edge) (freed : List Bool) : Type 0 where
+pub record MayCut (d : DiskState) (k : Books) (i g size : ℕ) (r : Record) (tail : Option NewCell) (edge : Edge)
+    (freed : List Bool) : Type 0 where
   pub safe : IsSafe d k
   pub going : k.stopped ≡ false
   pub file : IsFile d k.at i g r

@@ -1,5 +1,6 @@
 -- The slots of a file, with holes up to 72.
-use Rattle.std.proofs.Common.{◌≡◌, ℕ, suc, ◌+◌, ◌-◌, ◌<◌, ◌≤◌, min, List, [], ◌∷◌, ◌++◌, length, map, take, replicate, sym, ap, ◌∙◌, append_assoc}
+use Rattle.std.proofs.Common.{◌≡◌, ℕ, suc, ◌+◌, ◌-◌, ◌<◌, ◌≤◌, min, List, [], ◌∷◌, ◌++◌, length, map, take, replicate}
+use Rattle.std.proofs.Common.{sym, ap, ◌∙◌, append_assoc}
 use Rattle.std.proofs.Common.{append-nil, arith, length-append}
 use Rattle.std.proofs.lemmas.List.{map_push, length-map, take-map}
 use Rattle.nofs_model.specs.declared.image.value.Value.{Value}
@@ -17,21 +18,25 @@ one-hole l low =
     append_assoc l (value.Hole ∷ []) (replicate n value.Hole) ∙ ap (λ m. l ++ replicate m value.Hole) (sym more)
 
 -- one hole more
-pub padded-push : (xs ys : List KeptValue) (start : List Value) → ys ≡ xs ++ kept.Hole ∷ [] → length xs < 72 → padded (map kept_value xs) ≡ start
+pub padded-push : (xs ys : List KeptValue) (start : List Value)
+    → ys ≡ xs ++ kept.Hole ∷ [] → length xs < 72 → padded (map kept_value xs) ≡ start
     → padded (map kept_value ys) ≡ start
 padded-push xs ys start is low e =
     let long = length-map xs kept_value in
-    ap (λ t. padded (map kept_value t)) is ∙ (ap padded (map_push kept_value xs kept.Hole) ∙ (one-hole (map kept_value xs) (omega (arith, low, long)) ∙ e))
+    ap (λ t. padded (map kept_value t)) is
+    ∙ (ap padded (map_push kept_value xs kept.Hole) ∙ (one-hole (map kept_value xs) (omega (arith, low, long)) ∙ e))
 
 -- no hole is wanting
-pub padded-whole : (xs : List KeptValue) (start : List Value) → 72 ≤ length xs → padded (map kept_value xs) ≡ start → map kept_value xs ≡ start
+pub padded-whole : (xs : List KeptValue) (start : List Value) → 72 ≤ length xs
+    → padded (map kept_value xs) ≡ start → map kept_value xs ≡ start
 padded-whole xs start high e =
     let long = length-map xs kept_value in
     let none : 72 - length (map kept_value xs) ≡ 0 = omega (arith, high, long) in
     sym (append-nil (map kept_value xs)) ∙ (ap (λ m. map kept_value xs ++ replicate m value.Hole) (sym none) ∙ e)
 
 -- cut, and then padded again
-pub resized-is : (f : FileContent) (size n : ℕ) (whole cut rest : List KeptValue) → map kept_value whole ≡ ended f size → cut ≡ take n whole
+pub resized-is : (f : FileContent) (size n : ℕ) (whole cut rest : List KeptValue) → map kept_value whole ≡ ended f size
+    → cut ≡ take n whole
     → n ≡ min (slots_in f.size) (slots_in size) → map kept_value rest ≡ padded (map kept_value cut)
     → ◌≡◌ {A = FileContent} (record { size = size; values = map kept_value rest }) (resized_content f size)
 resized-is f size n whole cut rest whole_is cut_is n_is rest_is =

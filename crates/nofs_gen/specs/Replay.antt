@@ -1,5 +1,6 @@
 -- The values of a file, by the steps on it that a history accepted.
-use Rattle.std.specs.Prelude.{ℕ, ◌+◌, ◌-◌, ◌*◌, ◌/◌, ◌%◌, min, max, ◌==◌, nat_lt, nat_le, ◌&&◌, not, Bool, List, [], ◌++◌, length, take, replicate, fold}
+use Rattle.std.specs.Prelude.{ℕ, ◌+◌, ◌-◌, ◌*◌, ◌/◌, ◌%◌, min, max, ◌==◌, nat_lt, nat_le, ◌&&◌, not, Bool, List, []}
+use Rattle.std.specs.Prelude.{◌++◌, length, take, replicate, fold}
 use Rattle.std.specs.Prelude.{slice_get, slice_set, unwrap_or, map, if◌then◌else◌}
 use Rattle.nofs_model.specs.declared.image.value.Value.{Value}
 use Rattle.nofs_model.specs.declared.image.value.Value.TheVariants as value
@@ -52,11 +53,13 @@ put_file f k at bytes =
 abbrev pub ended : FileContent → ℕ → List Value
 ended f size =
     if nat_le f.size size && not (f.size % 1024 == 0)
-    then slice_set f.values (f.size / 1024) (trimmed_value (f.size % 1024) (slot_value f.values (f.size / 1024))) else f.values
+    then slice_set f.values (f.size / 1024)
+    (trimmed_value (f.size % 1024) (slot_value f.values (f.size / 1024))) else f.values
 
 -- a file with another size: what lies behind the lesser of both sizes becomes holes
 abbrev pub resized_content : FileContent → ℕ → FileContent
-resized_content f size = record { size = size; values = padded (take (min (slots_in f.size) (slots_in size)) (ended f size)) }
+resized_content f size =
+    record { size = size; values = padded (take (min (slots_in f.size) (slots_in size)) (ended f size)) }
 
 -- the file (i, g) after an accepted step
 abbrev pub file_with_step : ℕ → ℕ → FileContent → Step → FileContent

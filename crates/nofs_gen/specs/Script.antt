@@ -1,5 +1,6 @@
 -- The drawn commands of a drill's users.
-use Rattle.std.specs.Prelude.{ℕ, zero, suc, ◌+◌, ◌-◌, ◌*◌, ◌/◌, ◌%◌, ◌==◌, List, [], ◌∷◌, ◌++◌, replicate, codes, if◌then◌else◌}
+use Rattle.std.specs.Prelude.{ℕ, zero, suc, ◌+◌, ◌-◌, ◌*◌, ◌/◌, ◌%◌, ◌==◌, List, [], ◌∷◌, ◌++◌, replicate, codes}
+use Rattle.std.specs.Prelude.{if◌then◌else◌}
 use Rattle.nofs_client.specs.declared.task.commands.Path.{Path}
 use Rattle.nofs_client.specs.declared.task.commands.Path.TheVariants.{Names}
 use Rattle.nofs_client.specs.declared.task.commands.Command.{Command}
@@ -39,5 +40,6 @@ drawn user x (suc n) = drawn_command user (next_number x / 65536) ∷ drawn user
 -- the script of a user: it makes its file, works on it, and makes it durable
 unfoldable pub script_of : ℕ → ℕ → ℕ → List Command
 script_of start steps user =
-    command.MakeDirectory (directory_of user) ∷ command.Make (user_path user) ∷ drawn user (first_number start user) steps ++ command.Fsync (user_path user)
+    command.MakeDirectory (directory_of user) ∷ command.Make (user_path user)
+    ∷ drawn user (first_number start user) steps ++ command.Fsync (user_path user)
     ∷ []

@@ -4,7 +4,8 @@
 ghost use Rattle.std.specs.Prelude.{◌≡◌, ◌<◌, ◌≤◌, ◌+◌, ◌/◌, IfOk, OnOk, length, map, slice_set};
 ghost use Rattle.nofs_history.specs.Machine as machine;
 ghost use Rattle.nofs_model.specs.declared.image.value.Value.TheVariants as value;
-ghost use Rattle.nofs_gen.specs.Replay.{ended, empty_file, is_put as is_put_in, replayed_file, kept_value, padded, put_file, resized_content, slot_value};
+ghost use Rattle.nofs_gen.specs.Replay.{ended, empty_file, is_put as is_put_in, replayed_file, kept_value, padded};
+ghost use Rattle.nofs_gen.specs.Replay.{put_file, resized_content, slot_value};
 
 use nofs_dirent::Content;
 use nofs_disk::{clear, write_bytes_at};
@@ -152,7 +153,8 @@ impl Replayed {
     ) -> Result<Box<[u8; 1024]>, AllocError>
         requires slot { slot < 72 }
         requires range { at + length bytes.now ≤ 1024 }
-        ensures { IfOk result (λ cell. cell.value ≡ machine.put_content (slot_value (replayed_file self.now).values slot) self.now.size slot at bytes.now) }
+        ensures { IfOk result (λ cell. cell.value ≡ machine.put_content
+            (slot_value (replayed_file self.now).values slot) self.now.size slot at bytes.now) }
     {
         let kept = kept_at(alloc, &self.values, slot as usize)?;
         let mut cell = bytes_of(alloc, kept)?;

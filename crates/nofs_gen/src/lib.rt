@@ -1,7 +1,7 @@
 //! What a drill does: the drawn scripts of its four users, and the values that the steps on a file give.
 //!
-//! Promise: a script is that of the definition for its start, and a replay has the values that the accepted puts and resizes of
-//! a file give one after the other, and nothing of a step that was refused.
+//! Promise: a script is that of the definition for its start, and a replay has the values that the accepted puts and
+//! resizes of a file give one after the other, and nothing of a step that was refused.
 //!
 //! - `script`: the scripts that are drawn
 //! - `file`, `replays`: a file's values after a step, and after all entries of a history

@@ -3,7 +3,8 @@
 //! Promise: they are those of the definition. A step that was refused gives nothing.
 ghost use Rattle.std.specs.Prelude.{◌≡◌, ◌<◌, ◌+◌, length, IfOk, fold, drop};
 ghost use Rattle.nofs_history.specs.Machine as machine;
-ghost use Rattle.nofs_gen.specs.Replay.{after_entry as entry_after, file_with_step as step_after, replayed_file, replay_of};
+ghost use Rattle.nofs_gen.specs.Replay.{after_entry as entry_after, file_with_step as step_after, replayed_file};
+ghost use Rattle.nofs_gen.specs.Replay.{replay_of};
 
 use crate::file::Replayed;
 use nofs_dirent::ListOf;
@@ -30,7 +31,8 @@ impl Wanted {
 
     // The file after a step that was accepted.
     fn replay(&self, alloc: Global, file: Replayed, step: &Step) -> Result<Replayed, AllocError>
-        ensures { IfOk result (λ next. replayed_file next ≡ step_after self.now.inode self.now.generation (replayed_file file) step.now) }
+        ensures { IfOk result
+            (λ next. replayed_file next ≡ step_after self.now.inode self.now.generation (replayed_file file) step.now) }
     {
         match step {
             Step::Put {
@@ -73,7 +75,8 @@ impl Wanted {
 
     // The file after an entry.
     fn take(&self, alloc: Global, file: Replayed, it: &Entry1) -> Result<Replayed, AllocError>
-        ensures { IfOk result (λ next. replayed_file next ≡ entry_after self.now.inode self.now.generation (replayed_file file) it.now) }
+        ensures { IfOk result
+            (λ next. replayed_file next ≡ entry_after self.now.inode self.now.generation (replayed_file file) it.now) }
     {
         if is_refused(&it.reply) {
             Ok(file)
@@ -98,8 +101,10 @@ fn after_place(
     at: u64,
 ) -> Result<Replayed, AllocError>
     requires { at < length history.now.entries }
-    ensures { IfOk result (λ next. fold (entry_after wanted.now.inode wanted.now.generation) (replayed_file next) (drop (at + 1) history.now.entries)
-        ≡ fold (entry_after wanted.now.inode wanted.now.generation) (replayed_file file) (drop at history.now.entries)) }
+    ensures { IfOk result (λ next. fold (entry_after wanted.now.inode wanted.now.generation) (replayed_file next)
+        (drop (at + 1) history.now.entries)
+        ≡ fold (entry_after wanted.now.inode wanted.now.generation) (replayed_file file)
+        (drop at history.now.entries)) }
 {
     match history.entry(at) {
         Some(entry) => wanted.take(alloc, file, entry),
@@ -107,7 +112,8 @@ fn after_place(
     }
 }
 
-/// The 72 values that the accepted puts and resizes of a file give one after the other, beginning with 72 holes and size 0.
+/// The 72 values that the accepted puts and resizes of a file give one after the other, beginning with 72 holes and
+/// size 0.
 #[tactic(auto, unfolding(crate::specs::Replay::replay_of))]
 pub fn replay(
     alloc: Global,

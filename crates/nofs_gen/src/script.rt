@@ -3,7 +3,9 @@
 //! Promise: a user works on a file of its own, by commands that its number alone draws.
 ghost use Rattle.std.specs.Prelude.{◌≡◌, ◌≤◌, ◌<◌, ◌++◌, IfOk, OnOk, replicate};
 ghost use Rattle.nofs_client.specs.Task.Commands.{AreWellFormed};
-ghost use Rattle.nofs_gen.specs.Script.{digit, directory_of as directory_in, user_path as file_in, first_number as first_in, next_number as next_in, drawn, drawn_command, script_of as script_in};
+ghost use Rattle.nofs_gen.specs.Script.{digit, directory_of as directory_in, user_path as file_in};
+ghost use Rattle.nofs_gen.specs.Script.{first_number as first_in, next_number as next_in, drawn, drawn_command};
+ghost use Rattle.nofs_gen.specs.Script.{script_of as script_in};
 
 use nofs_client::{Command, CommandList, Path};
 use nofs_dirent::{Content, Name, PathNames};
@@ -135,7 +137,8 @@ fn drawn_script(alloc: Global, start: u64, steps: u64, user: u32) -> Result<Comm
     Ok(commands)
 }
 
-/// The script of a user from 1 to 4, of at most 4,000 drawn commands and those that make its file first and durable at last.
+/// The script of a user from 1 to 4, of at most 4,000 drawn commands and those that make its file first and durable at
+/// last.
 pub fn script_of(
     alloc: Global,
     start: u64,

@@ -9,7 +9,8 @@ use Rattle.nofs_history.specs.Search.{least_from, first_of}
 use Rattle.nofs_history.specs.Machine.{found, value_of, is_hole, is_lost, link_to, generation_of, is_fault}
 use Rattle.nofs_history.specs.World.{World}
 use Rattle.nofs_history.specs.Refusals.{rows}
-use Rattle.nofs_history.specs.Answers.{found_file, found_entry, found_reply, dropped_entry, dropped_reply, lines_in_slot, listed_reply, got_reply}
+use Rattle.nofs_history.specs.Answers.{found_file, found_entry, found_reply, dropped_entry, dropped_reply}
+use Rattle.nofs_history.specs.Answers.{lines_in_slot, listed_reply, got_reply}
 use Rattle.nofs_history.specs.Answers.{stat_file, reply_of}
 use Rattle.nofs_history.specs.declared.machine.history.Claims.{Claims}
 use Rattle.nofs_history.specs.declared.machine.replies.NameLine.{NameLine}
@@ -42,7 +43,8 @@ rows-free W V s = all-such (IsNamed V) NoFault (named-free V) (rows W V s) (rows
 
 -- nor is an answer
 
-listed : (lost : Bool) (k : ℕ) (names : List NameLine) → is_fault (cond lost (reply.LostNames k) (reply.Names k names)) ≡ false
+listed : (lost : Bool) (k : ℕ) (names : List NameLine)
+    → is_fault (cond lost (reply.LostNames k) (reply.Names k names)) ≡ false
 listed true k names = refl
 listed false k names = refl
 
@@ -64,7 +66,8 @@ answer-free W (step.Make d g name kind) c = refl
 answer-free W (step.Link d g name i of) c = refl
 answer-free W (step.Drop d g name) c = from (found W.files d name)
   where
-    entry : (e : ℕ) (o : Option Entry) → is_fault (dropped_entry W.files (link_to d e (generation_of W.files d)) o) ≡ false
+    entry : (e : ℕ) (o : Option Entry)
+        → is_fault (dropped_entry W.files (link_to d e (generation_of W.files d)) o) ≡ false
     entry e None = refl
     entry e (Some x) = refl
 

@@ -1,5 +1,6 @@
 -- A back link that is there, as a pair.
-use Rattle.std.proofs.Common.{◌≡◌, ℕ, zero, suc, ◌+◌, ◌-◌, ◌<◌, Bool, true, false, eqb, ◌&&◌, ◌||◌, List, [], ◌∷◌, Some, None, refl, ap, ◌∙◌, eqb-true, arith}
+use Rattle.std.proofs.Common.{◌≡◌, ℕ, zero, suc, ◌+◌, ◌-◌, ◌<◌, Bool, true, false, eqb, ◌&&◌, ◌||◌, List, [], ◌∷◌, Some}
+use Rattle.std.proofs.Common.{None, refl, ap, ◌∙◌, eqb-true, arith}
 use Rattle.std.specs.List.{list_any}
 use Rattle.nofs_model.specs.Cells.{BackLink}
 use Rattle.nofs_history.specs.Machine.{same_link}
@@ -45,7 +46,8 @@ unfolding least_from
 least_here test at zero lt e = absurd (omega (arith, lt))
 least_here test at (suc n) lt e = rw e refl
 
-pub least_further : (test : ℕ → Bool) (at n : ℕ) → 0 < n → test at ≡ false → least_from test at n ≡ least_from test (at + 1) (n - 1)
+pub least_further : (test : ℕ → Bool) (at n : ℕ)
+    → 0 < n → test at ≡ false → least_from test at n ≡ least_from test (at + 1) (n - 1)
 unfolding least_from
 least_further test at zero lt e = absurd (omega (arith, lt))
 least_further test at (suc n) lt e =

@@ -1,12 +1,14 @@
 -- What a step is answered where no refusal comes.
-use Rattle.std.specs.Prelude.{ℕ, zero, suc, ◌-◌, ◌*◌, ◌&&◌, not, List, [], ◌∷◌, ◌++◌, Option, Some, None, if◌then◌else◌, count_by}
+use Rattle.std.specs.Prelude.{ℕ, zero, suc, ◌-◌, ◌*◌, ◌&&◌, not, List, [], ◌∷◌, ◌++◌, Option, Some, None, if◌then◌else◌}
+use Rattle.std.specs.Prelude.{count_by}
 use Rattle.nofs_model.specs.Cells.{FileKind, BackLink, Entry}
 use Rattle.nofs_inode.specs.declared.inode.FileKind.TheVariants.{File, Directory}
 use Rattle.nofs_model.specs.Image.{FileState, Files, entry_at, is_pair}
 use Rattle.nofs_model.specs.declared.image.value.Value.{Value}
 use Rattle.nofs_model.specs.declared.image.value.Value.TheVariants.{Hole, Bytes, Lost}
 use Rattle.nofs_history.specs.Search.{least_from}
-use Rattle.nofs_history.specs.Machine.{generation_of, value_of, is_folder_at, is_paired, found, is_lost, is_hole, drop_meta, link_to}
+use Rattle.nofs_history.specs.Machine.{generation_of, value_of, is_folder_at, is_paired, found, is_lost, is_hole}
+use Rattle.nofs_history.specs.Machine.{drop_meta, link_to}
 use Rattle.nofs_history.specs.Meta.{is_gone}
 use Rattle.nofs_history.specs.World.{World, uses_inode, uses_block}
 use Rattle.nofs_history.specs.declared.machine.history.Claims.{Claims}
@@ -49,7 +51,8 @@ kind_named F d e i = if is_paired F d e && is_folder_at F i then Directory else 
 -- the line of an entry
 abbrev pub line_of : Files → ℕ → ℕ → Option Entry → List NameLine
 line_of F d e None = []
-line_of F d e (Some entry) = record { name = entry.name; kind = kind_named F d e entry.inode; dead = not (is_paired F d e) } ∷ []
+line_of F d e (Some entry) =
+    record { name = entry.name; kind = kind_named F d e entry.inode; dead = not (is_paired F d e) } ∷ []
 
 -- the lines of the next n entries
 abbrev pub lines_from : Files → ℕ → ℕ → ℕ → List NameLine
@@ -74,7 +77,8 @@ got_reply Lost = reply.Lost
 -- Stat
 abbrev pub stat_file : Files → ℕ → Option FileState → Reply
 stat_file F i None = reply.Refused refusal.Stale
-stat_file F i (Some f) = reply.Stat (record { kind = f.kind; size = f.size; links = count_by (λ link. is_pair F i link) f.links })
+stat_file F i (Some f) =
+    reply.Stat (record { kind = f.kind; size = f.size; links = count_by (λ link. is_pair F i link) f.links })
 
 -- what Stat answers
 abbrev pub stat_reply : Files → ℕ → Reply
@@ -87,7 +91,8 @@ reply_of W (step.Make d g name kind) claims = reply.Made claims.inode claims.gen
 reply_of W (step.Link d g name i of) claims = reply.Linked
 reply_of W (step.Drop d g name) claims = dropped_reply W.files d (found W.files d name)
 reply_of W (step.Rename d g old new) claims = reply.Renamed
-reply_of W (step.List d g k) claims = listed_reply W.files d (least_from (λ l. not (is_hole (value_of W.files d l))) k (72 - k))
+reply_of W (step.List d g k) claims =
+    listed_reply W.files d (least_from (λ l. not (is_hole (value_of W.files d l))) k (72 - k))
 reply_of W (step.Get i g k) claims = got_reply (value_of W.files i k)
 reply_of W (step.Put i g k at bytes) claims = reply.Stored
 reply_of W (step.Resize i g size) claims = reply.Resized

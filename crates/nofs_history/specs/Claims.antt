@@ -1,8 +1,10 @@
 -- What a step claims, and where each used block belongs after it.
-use Rattle.std.specs.Prelude.{◌≡◌, ◌≢◌, ℕ, ◌+◌, ◌*◌, ◌/◌, ◌^◌, ◌<◌, ◌≤◌, Bool, true, false, ◌&&◌, not, List, [], ◌∷◌, ◌++◌, Option, Some, None, option_map}
+use Rattle.std.specs.Prelude.{◌≡◌, ◌≢◌, ℕ, ◌+◌, ◌*◌, ◌/◌, ◌^◌, ◌<◌, ◌≤◌, Bool, true, false, ◌&&◌, not, List, [], ◌∷◌}
+use Rattle.std.specs.Prelude.{◌++◌, Option, Some, None, option_map}
 use Rattle.std.specs.Prelude.{if◌then◌else◌, nat_lt, ◌==◌, Contains}
 use Rattle.nofs_model.specs.Cells.{Pointer, null, slot_limit}
-use Rattle.nofs_model.specs.Image.{Path, InRecord, Under, path_of, slot_of, NodeState, Absent, Present, Damaged, Files, Home, home_at}
+use Rattle.nofs_model.specs.Image.{Path, InRecord, Under, path_of, slot_of, NodeState, Absent, Present, Damaged, Files}
+use Rattle.nofs_model.specs.Image.{Home, home_at}
 use Rattle.nofs_history.specs.Meta.{is_bytes}
 use Rattle.nofs_history.specs.Search.{first_of}
 use Rattle.nofs_history.specs.Machine.{value_of, node_of, place_for}
@@ -37,7 +39,8 @@ pub data IsBlockClaim (W : World) (stamp : ℕ) (x : Pointer) : Bool → Type 0 
 
 -- where an inode is wanted, one that is known and free is claimed with this generation
 pub data IsInodeClaim (W : World) (generation : ℕ) (c : Claims) : Bool → Type 0 where
-  ClaimedInode : is_free_inode W c.inode ≡ true → 1 ≤ c.inode → c.inode ≤ W.inodes → c.generation ≡ generation → IsInodeClaim W generation c true
+  ClaimedInode : is_free_inode W c.inode ≡ true → 1 ≤ c.inode → c.inode ≤ W.inodes → c.generation ≡ generation
+      → IsInodeClaim W generation c true
   NoInode : c.inode ≡ 0 → c.generation ≡ 0 → IsInodeClaim W generation c false
 
 -- the next generation or stamp
@@ -82,8 +85,10 @@ claimed_home F step c p = elim (cell_slot F step) [
   | None ↦ None
   | Some at ↦ first_of (
       (if is_claimed c.cell && (p == c.cell.block) then Some at else None)
-      ∷ (if is_claimed c.leaf && (p == c.leaf.block) then Some (home_at at.inode (slot_of (slot_above (path_of at.slot)))) else None)
-      ∷ (if is_claimed c.top && (p == c.top.block) then Some (home_at at.inode (slot_of (slot_above (slot_above (path_of at.slot))))) else None)
+      ∷ (if is_claimed c.leaf && (p == c.leaf.block)
+      then Some (home_at at.inode (slot_of (slot_above (path_of at.slot)))) else None)
+      ∷ (if is_claimed c.top && (p == c.top.block)
+      then Some (home_at at.inode (slot_of (slot_above (slot_above (path_of at.slot))))) else None)
       ∷ [])
 ]
 
@@ -95,7 +100,8 @@ is_present Damaged = false
 
 -- the slot still has its block
 abbrev pub has_block : Files → Home → Bool
-has_block F home = if nat_lt home.slot slot_limit then is_bytes (value_of F home.inode home.slot) else is_present (node_of F home.inode (path_of home.slot))
+has_block F home = if nat_lt home.slot slot_limit then is_bytes (value_of F home.inode home.slot)
+    else is_present (node_of F home.inode (path_of home.slot))
 
 -- claimed blocks get their home, others keep theirs where the slot still has its block
 abbrev pub homes_after : World → Step → Claims → Files → ℕ → Option Home

@@ -13,7 +13,8 @@ pub record MatchesSuper (W : World) (X : Image) : Type 0 where
   pub mount : W.mount ≡ (super_at X).mount
 
 -- the maps and the image are those of the world
-pub record IsGood (W : World) (verified_inodes free_inodes verified_blocks free_blocks : ℕ → Bool) (X : Image) : Type 0 where
+pub record IsGood (W : World) (verified_inodes free_inodes verified_blocks free_blocks : ℕ → Bool)
+    (X : Image) : Type 0 where
   pub numbers : MatchesSuper W X
   pub files : FilesMatch W.files X
   pub homes : (p : ℕ) → p < W.blocks → W.homes p ≡ owner X p
@@ -24,9 +25,11 @@ pub record IsGood (W : World) (verified_inodes free_inodes verified_blocks free_
 
 -- the worlds of a run have one verdict of what is not known at its end
 abbrev pub IsUnchanged : World → World → Type 0
-IsUnchanged W V = ((i : ℕ) → V.known_inodes i ≡ false → uses_inode V i ≡ uses_inode W i) × ((p : ℕ) → V.known_blocks p ≡ false
+IsUnchanged W V = ((i : ℕ) → V.known_inodes i ≡ false → uses_inode V i ≡ uses_inode W i)
+    × ((p : ℕ) → V.known_blocks p ≡ false
     → uses_block V p ≡ uses_block W p)
 
 -- every stamp in what a crash may leave is below the next one
 abbrev pub IsFresh : World → Image → (ℕ → List Cell) → Type 0
-IsFresh W X may = (b : ℕ) → b < W.blocks → (c : Cell) → Contains (may b) c → CellBelow (W.mount * 2 ^ 40 + W.serial) X b c
+IsFresh W X may = (b : ℕ) → b < W.blocks → (c : Cell) → Contains (may b) c
+    → CellBelow (W.mount * 2 ^ 40 + W.serial) X b c

@@ -1,10 +1,13 @@
 -- What each step gives, where it is accepted: values to slots, and what is known of files beside their content.
-use Rattle.std.specs.Prelude.{ℕ, zero, suc, ◌+◌, ◌-◌, ◌*◌, ◌/◌, ◌%◌, min, max, Bool, true, false, ◌&&◌, ◌||◌, not, List, [], ◌∷◌, ◌++◌, length, take, drop}
-use Rattle.std.specs.Prelude.{replicate, map, Option, Some, None, is_some, option_map, if◌then◌else◌, nat_lt, nat_le, ◌==◌, bytes_eq, unwrap_or}
+use Rattle.std.specs.Prelude.{ℕ, zero, suc, ◌+◌, ◌-◌, ◌*◌, ◌/◌, ◌%◌, min, max, Bool, true, false, ◌&&◌, ◌||◌, not, List}
+use Rattle.std.specs.Prelude.{[], ◌∷◌, ◌++◌, length, take, drop}
+use Rattle.std.specs.Prelude.{replicate, map, Option, Some, None, is_some, option_map, if◌then◌else◌, nat_lt, nat_le}
+use Rattle.std.specs.Prelude.{◌==◌, bytes_eq, unwrap_or}
 use Rattle.std.specs.List.{list_any}
 use Rattle.nofs_disk.specs.Number.{put_bytes}
 use Rattle.nofs_model.specs.Cells.{FileKind, File, BackLink, is_empty_link, slot_limit, spelled_entry, entry_limit}
-use Rattle.nofs_model.specs.Image.{Path, InRecord, Under, path_of, NodeState, Absent, Present, FileState, Files, is_folder, entry_at, is_pair}
+use Rattle.nofs_model.specs.Image.{Path, InRecord, Under, path_of, NodeState, Absent, Present, FileState, Files}
+use Rattle.nofs_model.specs.Image.{is_folder, entry_at, is_pair}
 use Rattle.nofs_model.specs.Image.{links_of, is_special}
 use Rattle.nofs_model.specs.declared.image.value.Value.{Value}
 use Rattle.nofs_model.specs.declared.image.value.Value.TheVariants.{Hole, Bytes, Lost}
@@ -52,7 +55,8 @@ is_folder_at F i = elim (F i) [ None ↦ false | Some f ↦ is_folder f.kind ]
 abbrev pub is_paired : Files → ℕ → ℕ → Bool
 is_paired F d e = elim (entry_at F d e) [
   | None ↦ false
-  | Some entry ↦ list_any (λ link. same_link link (link_to d e (generation_of F d)) && is_pair F entry.inode link) (links_of F entry.inode)
+  | Some entry ↦ list_any (λ link. same_link link (link_to d e (generation_of F d)) && is_pair F entry.inode link)
+      (links_of F entry.inode)
 ]
 
 -- whether entry e of directory d has this name
@@ -97,7 +101,8 @@ place_for_link test [] b = None
 place_for_link test (link ∷ links) b = if test link then Some b else place_for_link test links (suc b)
 
 unfoldable pub link_place : Files → ℕ → Option ℕ
-link_place F i = if i == 2 then None else first_of (place_for_link is_empty_link (links_of F i) 0 ∷ place_for_link (λ link. not (is_pair F i link))
+link_place F i = if i == 2 then None
+    else first_of (place_for_link is_empty_link (links_of F i) 0 ∷ place_for_link (λ link. not (is_pair F i link))
     (links_of F i) 0 ∷ [])
 
 -- Contents
@@ -136,7 +141,8 @@ put_content old size k at bytes = put_bytes at bytes (trimmed (cut_of size k) (b
 
 -- the cell with these 64 bytes in place of entry e
 unfoldable pub with_entry : Value → ℕ → List ℕ → Value
-with_entry old e bytes = Bytes (take (64 * (e % 16)) (bytes_in old) ++ bytes ++ drop (64 * (e % 16) + 64) (bytes_in old))
+with_entry old e bytes =
+    Bytes (take (64 * (e % 16)) (bytes_in old) ++ bytes ++ drop (64 * (e % 16) + 64) (bytes_in old))
 
 -- What a step gives, where it is accepted: values to slots, states to pointer blocks, and metas
 
@@ -204,7 +210,8 @@ resize_slot F i size k =
 
 -- Resize: which blocks of pointers go, where the file is cut to m slots
 abbrev pub resize_node : ℕ → Path → Option NodeState
-resize_node m (InRecord n) = if n == 8 then (if nat_le m 8 then Some Absent else None) else (if nat_le m 72 then Some Absent else None)
+resize_node m (InRecord n) = if n == 8 then (if nat_le m 8 then Some Absent else None)
+    else (if nat_le m 72 then Some Absent else None)
 resize_node m (Under above j) = if nat_le m (72 + 64 * j) then Some Absent else None
 
 -- Resize: holes from the cut on, zeros behind the old end, and the size
@@ -257,7 +264,8 @@ drop_meta F i link = meta_with F i (λ f.
 abbrev pub drop_given : Files → ℕ → ℕ → ℕ → Given
 drop_given F d g e = elim (entry_at F d e) [
   | None ↦ nothing
-  | Some entry ↦ entry_given F d g e (zero_bytes 64) (meta_given entry.inode entry.generation (drop_meta F entry.inode (link_to d e g)))
+  | Some entry ↦ entry_given F d g e (zero_bytes 64)
+      (meta_given entry.inode entry.generation (drop_meta F entry.inode (link_to d e g)))
 ]
 
 -- Rename: the entry with the new name
@@ -277,7 +285,8 @@ unfoldable pub gives : Files → Step → Claims → Given
 gives F (step.Put i g k at bytes) claims = put_given F i g k at bytes
 gives F (step.Resize i g size) claims = resize_given F i g size
 gives F (step.Make d g name kind) claims = at_place (place_for F d name) (λ e. make_given F d g name kind claims e)
-gives F (step.Link d g name i of) claims = at_place (place_for F d name) (λ e. at_place (link_place F i) (λ b. link_given F d g name i of e b))
+gives F (step.Link d g name i of) claims =
+    at_place (place_for F d name) (λ e. at_place (link_place F i) (λ b. link_given F d g name i of e b))
 gives F (step.Drop d g name) claims = at_place (found F d name) (λ e. drop_given F d g e)
 gives F (step.Rename d g old new) claims = at_place (found F d old) (λ e. rename_given F d g new e)
 gives F (step.Look _ _ _) claims = nothing
@@ -293,7 +302,8 @@ gives F (step.SeeBlock _) claims = nothing
 -- a file with this meta, or none where it is gone
 abbrev pub with_meta : FileState → Meta → Option FileState
 with_meta f Gone = None
-with_meta f (Is kind size links) = Some (record { generation = f.generation; kind = kind; size = size; links = links; values = f.values; nodes = f.nodes })
+with_meta f (Is kind size links) = Some
+    (record { generation = f.generation; kind = kind; size = size; links = links; values = f.values; nodes = f.nodes })
 
 -- a file with the values and the blocks of pointers that are given to it
 abbrev pub filled : Given → ℕ → FileState → FileState

@@ -1,10 +1,12 @@
--- The tools of the proof of what a crash may leave: the mark, as a record of what may be read since it, and a step under way.
+-- The tools of the proof of what a crash may leave: the mark, as a record of what may be read since it, and a step
+-- under way.
 use Rattle.std.specs.Prelude.{◌≡◌, ℕ, ◌≤◌, Bool, ◌&&◌, List, [], ◌∷◌, ◌++◌, length, is_some, ◌==◌}
 use Rattle.nofs_model.specs.Image.{Image}
 use Rattle.nofs_model.specs.declared.image.value.Value.{Value}
 use Rattle.nofs_history.specs.Meta.{Meta}
 use Rattle.nofs_history.specs.Machine.{generation_of}
-use Rattle.nofs_history.specs.Since.{agreed_files, files_along, accepted_of, accepted_meta_of, last_in, begun, mark, since, since_meta, stands}
+use Rattle.nofs_history.specs.Since.{agreed_files, files_along, accepted_of, accepted_meta_of, last_in, begun, mark}
+use Rattle.nofs_history.specs.Since.{since, since_meta, stands}
 use Rattle.nofs_history.specs.declared.machine.history.Entry1.{Entry1}
 
 -- The mark: the image at it, a bound above its stamps, and what may be read since.

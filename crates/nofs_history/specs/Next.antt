@@ -52,8 +52,8 @@ abbrev pub sees_block : Step → ℕ → Bool
 sees_block (step.SeeBlock p) q = q == p
 sees_block _ q = false
 
--- What becomes known: what changes its verdict, and what a See step that was done examines; at a choice what is used and
--- the inodes that the step names, also where a read failed; and nothing else
+-- What becomes known: what changes its verdict, and what a See step that was done examines; at a choice what is used
+-- and the inodes that the step names, also where a read failed; and nothing else
 pub record Learns (W : World) (step : Step) (seen : Bool) (V : World) : Type 0 where
   pub inodes_stay : (i : ℕ) → W.known_inodes i ≡ true → V.known_inodes i ≡ true
   pub blocks_stay : (p : ℕ) → W.known_blocks p ≡ true → V.known_blocks p ≡ true
@@ -62,7 +62,8 @@ pub record Learns (W : World) (step : Step) (seen : Bool) (V : World) : Type 0 w
   pub inode_seen : seen ≡ true → (i : ℕ) → sees_inode step i ≡ true → V.known_inodes i ≡ true
   pub block_seen : seen ≡ true → (p : ℕ) → sees_block step p ≡ true → V.known_blocks p ≡ true
   pub inodes_why : (i : ℕ) → V.known_inodes i ≡ true
-      → (W.known_inodes i ≡ true) ⊎ ((uses_inode V i ≡ true) ⊎ ((uses_inode V i ≢ uses_inode W i) ⊎ (names_inode step i ≡ true)))
+      → (W.known_inodes i ≡ true)
+      ⊎ ((uses_inode V i ≡ true) ⊎ ((uses_inode V i ≢ uses_inode W i) ⊎ (names_inode step i ≡ true)))
   pub blocks_why : (p : ℕ) → V.known_blocks p ≡ true → (W.known_blocks p ≡ true) ⊎
       ((uses_block V p ≡ true) ⊎ ((uses_block V p ≢ uses_block W p) ⊎ ((seen ≡ true) × (sees_block step p ≡ true))))
 
@@ -72,19 +73,24 @@ pub data Next (W : World) (e : Entry1) (V : World) : Type 0 where
   AfterFault : W.stopped ≡ true → e.reply ≡ reply.Refused refusal.Stopped → e.claims ≡ no_claims → V ≡ W → Next W e V
   -- a row comes, or a read failed on the way to it
   ByRow : (why : Refusal) → W.stopped ≡ false → first_of (rows W V e.step) ≡ Some why
-      → (e.reply ≡ reply.Refused why) ⊎ ((e.reply ≡ reply.Refused refusal.ReadFault) × (reads_nothing why ≡ false)) → e.claims ≡ no_claims → Keeps W V
+      → (e.reply ≡ reply.Refused why) ⊎ ((e.reply ≡ reply.Refused refusal.ReadFault) × (reads_nothing why ≡ false))
+      → e.claims ≡ no_claims → Keeps W V
       → V.stopped ≡ false → Learns W e.step false V → Next W e V
   -- no row comes, and the step is done
-  Done : W.stopped ≡ false → first_of (rows W V e.step) ≡ None → e.reply ≡ reply_of W e.step e.claims → IsClaim W e.step e.claims
+  Done : W.stopped ≡ false → first_of (rows W V e.step) ≡ None → e.reply ≡ reply_of W e.step e.claims
+      → IsClaim W e.step e.claims
       → V.files ≡ files_after W.files (gives W.files e.step e.claims) → V.homes ≡ homes_after W e.step e.claims V.files
       → V.serial ≡ W.serial + inodes_needed e.step + blocks_needed W.files e.step
-      → (V.version ≡ W.version) × (V.blocks ≡ W.blocks) × (V.inodes ≡ W.inodes) × (V.mount ≡ W.mount) × (V.stopped ≡ false) → Learns W e.step true V
+      → (V.version ≡ W.version) × (V.blocks ≡ W.blocks) × (V.inodes ≡ W.inodes) × (V.mount ≡ W.mount)
+      × (V.stopped ≡ false) → Learns W e.step true V
       → Next W e V
   -- no row comes, but a read failed
-  ByRead : W.stopped ≡ false → first_of (rows W V e.step) ≡ None → e.reply ≡ reply.Refused refusal.ReadFault → e.claims ≡ no_claims → Keeps W V
+  ByRead : W.stopped ≡ false → first_of (rows W V e.step) ≡ None → e.reply ≡ reply.Refused refusal.ReadFault
+      → e.claims ≡ no_claims → Keeps W V
       → V.stopped ≡ false → Learns W e.step false V → Next W e V
   -- no row comes, but a write or a flush failed
-  ByWrite : W.stopped ≡ false → first_of (rows W V e.step) ≡ None → may_write e.step ≡ true → e.reply ≡ reply.Refused refusal.WriteFault
+  ByWrite : W.stopped ≡ false → first_of (rows W V e.step) ≡ None → may_write e.step ≡ true
+      → e.reply ≡ reply.Refused refusal.WriteFault
       → IsClaim W e.step e.claims → Keeps W V → V.stopped ≡ true → Learns W e.step false V → Next W e V
 
 -- A run, entry by entry, from a moment on
@@ -113,7 +119,8 @@ takes_time (reply.Seen _) = false
 -- these entries lead from W to V; each begins at the moment at which the one before ended
 abbrev pub Run : ℕ → World → List Entry1 → World → Type 0
 Run start W [] V = V ≡ W
-Run start W (e ∷ es) V = (U : World) × (e.from ≡ start) × (e.from ≤ e.to) × (takes_time e.reply ≡ true → e.from < e.to) × Next W e U × Run e.to U es V
+Run start W (e ∷ es) V = (U : World) × (e.from ≡ start) × (e.from ≤ e.to) × (takes_time e.reply ≡ true → e.from < e.to)
+    × Next W e U × Run e.to U es V
 
 -- V is the world that a run of this history ends in, from the world of the base with this first serial
 abbrev pub IsAfter : Image → ℕ → HistoryState → World → Type 0

@@ -1,12 +1,15 @@
 -- Why a step is refused: a table for each step, tested from its top.
-use Rattle.std.specs.Prelude.{ℕ, ◌+◌, ◌-◌, ◌*◌, ◌/◌, ◌%◌, ◌^◌, min, Bool, true, false, ◌&&◌, ◌||◌, not, List, [], ◌∷◌, length, Option, Some, None, is_some}
+use Rattle.std.specs.Prelude.{ℕ, ◌+◌, ◌-◌, ◌*◌, ◌/◌, ◌%◌, ◌^◌, min, Bool, true, false, ◌&&◌, ◌||◌, not, List, [], ◌∷◌}
+use Rattle.std.specs.Prelude.{length, Option, Some, None, is_some}
 use Rattle.std.specs.Prelude.{option_map, if◌then◌else◌, nat_lt, nat_le, ◌==◌}
 use Rattle.nofs_model.specs.Cells.{Entry, entry_limit, slot_limit, is_name}
 use Rattle.nofs_model.specs.Image.{InRecord, Under, path_of, NodeState, Absent, Present, Damaged, entry_at}
 use Rattle.nofs_history.specs.Search.{least_from, first_of}
-use Rattle.nofs_history.specs.Machine.{generation_of, value_of, size_of, node_of, is_folder_at, is_paired, found, first_dead, is_lost}
+use Rattle.nofs_history.specs.Machine.{generation_of, value_of, size_of, node_of, is_folder_at, is_paired, found}
+use Rattle.nofs_history.specs.Machine.{first_dead, is_lost}
 use Rattle.nofs_history.specs.Machine.{first_lost_slot, place_for, link_place, slots_in, cut_of}
-use Rattle.nofs_history.specs.World.{World, free_inodes, free_blocks, unverified_inodes, unverified_blocks, next_inode, next_block, damaged_above}
+use Rattle.nofs_history.specs.World.{World, free_inodes, free_blocks, unverified_inodes, unverified_blocks, next_inode}
+use Rattle.nofs_history.specs.World.{next_block, damaged_above}
 use Rattle.nofs_history.specs.World.{blocks_needed, inodes_needed}
 use Rattle.nofs_history.specs.declared.machine.steps.Step.{Step}
 use Rattle.nofs_history.specs.declared.machine.steps.Step.TheVariants as step
@@ -49,12 +52,14 @@ exists W d name = row (is_some (found W.files d name)) refusal.Exists
 -- a name that finds nothing
 abbrev pub missing : World → ℕ → List ℕ → Option Refusal
 missing W d name = if is_some (found W.files d name) then None else
-    first_of (option_map refusal.LostEntry (first_dead W.files d name) ∷ option_map refusal.LostSlot (first_lost_slot W.files d) ∷ Some refusal.Missing ∷ [])
+    first_of (option_map refusal.LostEntry (first_dead W.files d name)
+    ∷ option_map refusal.LostSlot (first_lost_slot W.files d) ∷ Some refusal.Missing ∷ [])
 
 -- what an entry names is a directory with some name of a file
 abbrev pub is_filled : World → Option Entry → Bool
 is_filled W None = false
-is_filled W (Some entry) = is_folder_at W.files entry.inode && is_some (least_from (λ e. is_paired W.files entry.inode e) 0 entry_limit)
+is_filled W (Some entry) =
+    is_folder_at W.files entry.inode && is_some (least_from (λ e. is_paired W.files entry.inode e) 0 entry_limit)
 
 -- what entry e names is a directory with a name in it
 abbrev pub not_empty_at : World → ℕ → Option ℕ → Option Refusal
@@ -83,7 +88,8 @@ past_end W i k =
 abbrev pub lost_under : World → ℕ → ℕ → ℕ → List ℕ → Option Refusal
 lost_under W i k at bytes =
     let covered : Bool = (at == 0) && nat_le (cut_of (size_of W.files i) k) (length bytes) in
-    row (damaged_above W.files i (path_of k) || (is_lost (value_of W.files i k) && (nat_lt k (slots_in (size_of W.files i)) && not covered)))
+    row (damaged_above W.files i (path_of k)
+    || (is_lost (value_of W.files i k) && (nat_lt k (slots_in (size_of W.files i)) && not covered)))
     (refusal.LostSlot k)
 
 -- whether a block of pointers is damaged
@@ -114,7 +120,8 @@ full W after step = row (nat_lt (free_blocks W) (blocks_needed W.files step))
 
 -- fewer stamps than needed are left
 abbrev pub serials_spent : World → Step → Option Refusal
-serials_spent W step = row (nat_lt (2 ^ 40) (W.serial + inodes_needed step + blocks_needed W.files step)) refusal.SerialsSpent
+serials_spent W step =
+    row (nat_lt (2 ^ 40) (W.serial + inodes_needed step + blocks_needed W.files step)) refusal.SerialsSpent
 
 -- the refusals of a step, in the order in which they are tested
 abbrev pub rows : World → World → Step → List (Option Refusal)

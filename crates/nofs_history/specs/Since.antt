@@ -1,6 +1,7 @@
 -- What was given since the last flush: for each slot and for each meta the versions of which a crash leaves one.
 -- These are words of the promise; what only its proof needs stands in Marks.antt.
-use Rattle.std.specs.Prelude.{ℕ, suc, Bool, true, false, ◌&&◌, not, List, [], ◌∷◌, ◌++◌, take, drop, is_some, option_to_list, None, if◌then◌else◌}
+use Rattle.std.specs.Prelude.{ℕ, suc, Bool, true, false, ◌&&◌, not, List, [], ◌∷◌, ◌++◌, take, drop, is_some}
+use Rattle.std.specs.Prelude.{option_to_list, None, if◌then◌else◌}
 use Rattle.std.specs.Prelude.{nat_lt, nat_le, ◌==◌}
 use Rattle.std.specs.List.{list_any}
 use Rattle.nofs_model.specs.Cells.{is_live}
@@ -41,7 +42,8 @@ accepted_of B H i g k = (if is_generation B i g then value B i k ∷ [] else [])
 
 -- what was accepted as the meta of (i, g): the base's first
 abbrev pub accepted_meta_of : Image → List Entry1 → ℕ → ℕ → List Meta
-accepted_meta_of B H i g = (if is_generation B i g then meta_of (inode B i) ∷ [] else []) ++ metas_given (agreed_files B) H i g
+accepted_meta_of B H i g =
+    (if is_generation B i g then meta_of (inode B i) ∷ [] else []) ++ metas_given (agreed_files B) H i g
 
 -- the last of a list, where there is one
 abbrev pub last_in : {A : Type 0} → List A → List A
@@ -82,17 +84,20 @@ files_at_mark B H m = files_along (agreed_files B) (before_mark H m)
 
 -- what a read of a slot may give: the value at the mark, and each value given since
 abbrev pub since : Image → List Entry1 → ℕ → ℕ → ℕ → ℕ → List Value
-since B H m i g k = last_in (accepted_of B (before_mark H m) i g k) ++ values_given (files_at_mark B H m) (since_mark H m) i g k
+since B H m i g k =
+    last_in (accepted_of B (before_mark H m) i g k) ++ values_given (files_at_mark B H m) (since_mark H m) i g k
 
 -- what the meta of (i, g) may be
 abbrev pub since_meta : Image → List Entry1 → ℕ → ℕ → ℕ → List Meta
-since_meta B H m i g = last_in (accepted_meta_of B (before_mark H m) i g) ++ metas_given (files_at_mark B H m) (since_mark H m) i g
+since_meta B H m i g =
+    last_in (accepted_meta_of B (before_mark H m) i g) ++ metas_given (files_at_mark B H m) (since_mark H m) i g
 
 -- (i, g) was agreed at the mark, and nothing that began since removes it
 abbrev pub stands : Image → List Entry1 → ℕ → ℕ → ℕ → Bool
 stands B H m i g =
     is_some (files_at_mark B H m i)
-    && ((generation_of (files_at_mark B H m) i == g) && not (list_any is_gone (metas_given (files_at_mark B H m) (since_mark H m) i g)))
+    && ((generation_of (files_at_mark B H m) i == g)
+    && not (list_any is_gone (metas_given (files_at_mark B H m) (since_mark H m) i g)))
 
 -- slot k of (i, g) is sure: each version since the last flush is bytes
 abbrev pub IsSure : Image → List Entry1 → ℕ → ℕ → ℕ → ℕ → Type 0

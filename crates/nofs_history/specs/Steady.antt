@@ -8,11 +8,12 @@ use Rattle.nofs_history.specs.Meta.{meta_of}
 use Rattle.nofs_history.specs.Since.{agreed_files, values_given, metas_given, stands, IsSure}
 use Rattle.nofs_history.specs.declared.machine.history.Entry1.{Entry1}
 
--- Every image that picks for each block of X one member of `may` has X's pointer for each slot that is sure, and for each
--- block above it.
+-- Every image that picks for each block of X one member of `may` has X's pointer for each slot that is sure, and for
+-- each block above it.
 abbrev pub SteadyPointers : Image → List Entry1 → ℕ → (ℕ → List Cell) → Image → Type 0
 SteadyPointers B H m may X = (i g k : ℕ) (path : Path) (Y : Image) → Picks may (length X) Y
-    → stands B H m i g ≡ true → k < slot_limit → IsSure B H m i g k → IsAbove path (path_of k) → pointer Y i path ≡ pointer X i path
+    → stands B H m i g ≡ true → k < slot_limit → IsSure B H m i g k → IsAbove path (path_of k)
+    → pointer Y i path ≡ pointer X i path
 
 -- what is live and not agreed is the base's, as far as it is still there
 pub record Untouched (B : Image) (H : List Entry1) (X : Image) (i : ℕ) : Type 0 where
@@ -27,8 +28,8 @@ pub record Untouched (B : Image) (H : List Entry1) (X : Image) (i : ℕ) : Type 
 abbrev pub SteadyRest : Image → List Entry1 → Image → Type 0
 SteadyRest B H X = (i : ℕ) → is_live (inode X i) ≡ true → agreed (files_in X) i ≡ false → Untouched B H X i
 
--- X is what a read gives at moment m, and `may` what a crash may leave of each block: the pointers of what is sure are the
--- same in every pick, and what is live and not agreed is the base's
+-- X is what a read gives at moment m, and `may` what a crash may leave of each block: the pointers of what is sure are
+-- the same in every pick, and what is live and not agreed is the base's
 pub record IsSteady (B : Image) (H : List Entry1) (m : ℕ) (may : ℕ → List Cell) (X : Image) : Type 0 where
   pub pointers : SteadyPointers B H m may X
   pub rest : SteadyRest B H X

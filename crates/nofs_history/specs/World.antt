@@ -1,6 +1,8 @@
 -- The machine's state: files, the blocks that are used, and what is known of both.
-use Rattle.std.specs.Prelude.{ℕ, suc, ◌+◌, ◌/◌, Bool, true, false, ◌&&◌, ◌||◌, not, Option, Some, None, is_some, if◌then◌else◌, nat_le, unwrap_or}
-use Rattle.nofs_model.specs.Image.{Image, super_at, Path, InRecord, Under, path_of, Absent, Present, Damaged, Files, is_special, Home, owner}
+use Rattle.std.specs.Prelude.{ℕ, suc, ◌+◌, ◌/◌, Bool, true, false, ◌&&◌, ◌||◌, not, Option, Some, None, is_some}
+use Rattle.std.specs.Prelude.{if◌then◌else◌, nat_le, unwrap_or}
+use Rattle.nofs_model.specs.Image.{Image, super_at, Path, InRecord, Under, path_of, Absent, Present, Damaged, Files}
+use Rattle.nofs_model.specs.Image.{is_special, Home, owner}
 use Rattle.nofs_history.specs.Meta.{is_bytes}
 use Rattle.nofs_history.specs.Search.{count_below, least_from}
 use Rattle.nofs_history.specs.Machine.{value_of, node_of, place_for}
@@ -86,12 +88,14 @@ world_of B first = record {
 
 abbrev pub absent_above : Files → ℕ → Path → ℕ
 absent_above F i (InRecord n) = 0
-absent_above F i (Under above n) = absent_above F i above + elim (node_of F i above) [ Absent ↦ 1 | Present ↦ 0 | Damaged ↦ 0 ]
+absent_above F i (Under above n) =
+    absent_above F i above + elim (node_of F i above) [ Absent ↦ 1 | Present ↦ 0 | Damaged ↦ 0 ]
 
 -- whether one of them is damaged
 abbrev pub damaged_above : Files → ℕ → Path → Bool
 damaged_above F i (InRecord n) = false
-damaged_above F i (Under above n) = damaged_above F i above || elim (node_of F i above) [ Absent ↦ false | Present ↦ false | Damaged ↦ true ]
+damaged_above F i (Under above n) =
+    damaged_above F i above || elim (node_of F i above) [ Absent ↦ false | Present ↦ false | Damaged ↦ true ]
 
 -- the blocks that a cell in slot k asks for
 abbrev pub blocks_for : Files → ℕ → ℕ → ℕ

@@ -1,5 +1,6 @@
 -- Records of the inode table, and the 256 bytes that spell one.
-use Rattle.std.specs.Prelude.{◌≡◌, ℕ, ◌+◌, ◌*◌, ◌≤◌, Bool, ◌&&◌, ◌||◌, not, List, [], ◌∷◌, All, count_by, Option, Some, None, if◌then◌else◌, is_some, nat_le}
+use Rattle.std.specs.Prelude.{◌≡◌, ℕ, ◌+◌, ◌*◌, ◌≤◌, Bool, ◌&&◌, ◌||◌, not, List, [], ◌∷◌, All, count_by, Option, Some}
+use Rattle.std.specs.Prelude.{None, if◌then◌else◌, is_some, nat_le}
 use Rattle.std.specs.Prelude.{◌==◌}
 use Rattle.std.specs.List.{list_all}
 use Rattle.nofs_disk.specs.Number.{number_at}
@@ -108,7 +109,11 @@ file_kind_of n = if n == 1 then Some File else if n == 2 then Some Directory els
 
 -- the back link in the sixteen bytes at a place
 unfoldable pub link_in : ℕ → List ℕ → BackLink
-link_in at bytes = record { directory = number_at 4 at bytes; entry = number_at 4 (at + 4) bytes; generation = number_at 8 (at + 8) bytes }
+link_in at bytes = record {
+  directory = number_at 4 at bytes;
+  entry = number_at 4 (at + 4) bytes;
+  generation = number_at 8 (at + 8) bytes;
+}
 
 -- four back links, one behind another
 abbrev pub links_in : ℕ → List ℕ → List BackLink
@@ -118,7 +123,8 @@ links_in at bytes = link_in at bytes ∷ link_in (at + 16) bytes ∷ link_in (at
 abbrev pub direct_in : ℕ → List ℕ → List Pointer
 direct_in at bytes =
     pointer_in at bytes ∷ pointer_in (at + 16) bytes ∷ pointer_in (at + 32) bytes ∷ pointer_in (at + 48) bytes
-    ∷ pointer_in (at + 64) bytes ∷ pointer_in (at + 80) bytes ∷ pointer_in (at + 96) bytes ∷ pointer_in (at + 112) bytes ∷ []
+    ∷ pointer_in (at + 64) bytes ∷ pointer_in (at + 80) bytes ∷ pointer_in (at + 96) bytes
+    ∷ pointer_in (at + 112) bytes ∷ []
 
 -- the record with the fields in the 256 bytes at a place
 unfoldable pub fields_in : ℕ → List ℕ → Record
@@ -135,7 +141,8 @@ fields_in at bytes = record {
 -- the fields that follow from the others: the number of the kind, the number of back links, and the zero
 abbrev pub has_rest : ℕ → List ℕ → Record → Bool
 has_rest at bytes r =
-    (number_at 4 (at + 8) bytes == file_kind_number r.kind) && (number_at 4 (at + 12) bytes == link_count r.links) && (number_at 8 (at + 24) bytes == 0)
+    (number_at 4 (at + 8) bytes == file_kind_number r.kind) && (number_at 4 (at + 12) bytes == link_count r.links)
+    && (number_at 8 (at + 24) bytes == 0)
 
 -- a record that the other fields agree with, and that has a spelling
 abbrev pub record_with : ℕ → List ℕ → Record → Option Record

@@ -6,7 +6,10 @@ ghost use Rattle.std.specs.List.{list_all};
 ghost use Rattle.nofs_disk.specs.Number.{IsBytes};
 ghost use Rattle.nofs_disk.specs.Pointer.{is_null};
 ghost use Rattle.nofs_inode.specs.Beside.{SameBeside, SameRange};
-ghost use Rattle.nofs_inode.specs.InodeRecords.{HasNumbers, record_at, HasRecordSpelling, direct_in, links_in, allows_kind, allows_record, fields_in, has_rest, is_free, is_no_link, is_tidy_link, file_kind_number, file_kind_of, link_count, link_in, record_of};
+ghost use Rattle.nofs_inode.specs.InodeRecords.{HasNumbers, record_at, HasRecordSpelling, direct_in, links_in};
+ghost use Rattle.nofs_inode.specs.InodeRecords.{allows_kind, allows_record, fields_in, has_rest, is_free, is_no_link};
+ghost use Rattle.nofs_inode.specs.InodeRecords.{is_tidy_link, file_kind_number, file_kind_of, link_count, link_in};
+ghost use Rattle.nofs_inode.specs.InodeRecords.{record_of};
 
 use nofs_disk::{
     Pointer, read_pointer_at, read_u32_at, read_u64_at, write_pointer_at, write_u32_at,
@@ -80,7 +83,8 @@ pub fn read_record(payload: &[u8; 1024], index: u32) -> Option<Record>
     ensures value { result ≡ record_of index payload.now }
     ensures spelling { IfSome result HasRecordSpelling }
     ensures one_spelling { IfSome result
-        (λ r. (other : List ℕ) → IsBytes 1024 other → record_of index other ≡ Some r → SameRange (256 * index) 256 other payload.now) }
+        (λ r. (other : List ℕ) → IsBytes 1024 other → record_of index other ≡ Some r
+        → SameRange (256 * index) 256 other payload.now) }
 {
     spelled_record(payload, index)
 }

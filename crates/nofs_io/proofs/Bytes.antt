@@ -1,5 +1,6 @@
 -- Lemmas on what moves and what is left.
-use Rattle.std.proofs.Common.{◌≡◌, ℕ, ◌+◌, ◌-◌, ◌<◌, ◌≤◌, min, List, [], ◌++◌, length, take, drop, sym, ap, ◌∙◌, arith, length-append, take-append-drop}
+use Rattle.std.proofs.Common.{◌≡◌, ℕ, ◌+◌, ◌-◌, ◌<◌, ◌≤◌, min, List, [], ◌++◌, length, take, drop, sym, ap, ◌∙◌, arith}
+use Rattle.std.proofs.Common.{length-append, take-append-drop}
 use Rattle.std.proofs.Common.{drop_of_length-le}
 use Rattle.std.proofs.Math.Seq.{take-add}
 use Rattle.std.proofs.lemmas.List.{take_rest, take_at, drop-drop}
@@ -13,7 +14,8 @@ moved_front bytes part rest at n is long =
     ∙ ap (λ l. take n (part ++ rest) ++ l) (drop-drop n at bytes)
 
 -- what stands at `at`, and n more
-pub taken_more : (at n : ℕ) (text : List ℕ) → take at text ++ take n (take (length text - at) (drop at text)) ≡ take (at + n) text
+pub taken_more : (at n : ℕ) (text : List ℕ) → take at text
+    ++ take n (take (length text - at) (drop at text)) ≡ take (at + n) text
 taken_more at n text = ap (λ l. take at text ++ take n l) (take_rest text at) ∙ sym (take-add at n text)
 
 -- the length of two parts, of which the second fits into the room that the first leaves
@@ -22,5 +24,6 @@ pub length_both : (front last : List ℕ) (room most : ℕ) → length front + r
 length_both front last room most fits short = omega (arith, length-append front last)
 
 -- an empty piece comes only where nothing is left
-pub ended : (bytes : List ℕ) (at n most room : ℕ) → n ≡ min most (length bytes - at) → 0 < most → n ≡ 0 → drop (at + n) bytes ≡ []
+pub ended : (bytes : List ℕ) (at n most room : ℕ) → n ≡ min most (length bytes - at)
+    → 0 < most → n ≡ 0 → drop (at + n) bytes ≡ []
 ended bytes at n most room is some none = drop_of_length-le bytes (omega arith)

@@ -2,7 +2,8 @@
 //!
 //! Promise: a call fails exactly where its number is among those given at the start, or where a
 //! sink without room left is given a piece that is not empty. It then takes and appends nothing.
-ghost use Rattle.std.specs.Prelude.{◌≡◌, ◌+◌, ◌-◌, ◌<◌, ◌≤◌, ◌↔◌, ◌⊎◌, min, length, drop, Contains, [], IfOk, IsErr, OnErr, OnOk};
+ghost use Rattle.std.specs.Prelude.{◌≡◌, ◌+◌, ◌-◌, ◌<◌, ◌≤◌, ◌↔◌, ◌⊎◌, min, length, drop, Contains, [], IfOk, IsErr};
+ghost use Rattle.std.specs.Prelude.{OnErr, OnOk};
 ghost use Rattle.nofs_io.specs.Calls.{Gives, Takes, raised_count};
 ghost use Rattle.nofs_io.specs.Memory.{MemSinkState, MemSourceState, sink_of, source_of};
 
@@ -24,7 +25,13 @@ pub struct MemSource {
 impl Model for MemSource {
     ghost Value = { MemSourceState };
 
-    ghost view = { λ s. record { left = drop s.at s.bytes.items; piece = s.piece; fails = s.fails.items; calls = s.calls; faults = s.faults } };
+    ghost view = { λ s. record {
+      left = drop s.at s.bytes.items;
+      piece = s.piece;
+      fails = s.fails.items;
+      calls = s.calls;
+      faults = s.faults;
+    } };
 
     ghost invariant = { λ s. (s.at ≤ length s.bytes.items) × (0 < s.piece) };
 }
@@ -34,7 +41,8 @@ impl MemSource {
     /// are numbered from 1, and those that `fails` names fail.
     pub fn new(alloc: Global, bytes: &[u8], piece: u64, fails: &[u64]) -> Result<Self, AllocError>
         requires { 0 < piece }
-        ensures { IfOk result (λ s. s ≡ record { left = bytes.now; piece = piece; fails = fails.now; calls = 0; faults = 0 }) }
+        ensures { IfOk result
+            (λ s. s ≡ record { left = bytes.now; piece = piece; fails = fails.now; calls = 0; faults = 0 }) }
     {
         Ok(MemSource {
             bytes: bytes.to_vec(alloc)?,
@@ -55,7 +63,8 @@ impl Source for MemSource {
         ensures takes { Takes (source_of self.old) (source_of self.new) result into.new }
         ensures number { self.new.calls ≡ raised_count self.old.calls }
         ensures fails { IsErr result ↔ Contains self.old.fails self.new.calls }
-        ensures most { IfOk result (λ count. count ≡ min (min self.old.piece (length into.old)) (length self.old.left)) }
+        ensures most { IfOk result
+            (λ count. count ≡ min (min self.old.piece (length into.old)) (length self.old.left)) }
         ensures counts { OnErr result (self.new.faults ≡ raised_count self.old.faults) }
         ensures counts_faults_alone { OnOk result (self.new.faults ≡ self.old.faults) }
         ensures stays { (self.new.piece ≡ self.old.piece) × (self.new.fails ≡ self.old.fails) }
@@ -89,7 +98,13 @@ impl Model for MemSink {
 
     ghost Value = { MemSinkState };
 
-    ghost view = { λ s. record { given = s.bytes.items; room = s.room - length s.bytes.items; fails = s.fails.items; calls = s.calls; faults = s.faults } };
+    ghost view = { λ s. record {
+      given = s.bytes.items;
+      room = s.room - length s.bytes.items;
+      fails = s.fails.items;
+      calls = s.calls;
+      faults = s.faults;
+    } };
 
     ghost invariant = { λ s. (vec_len s.bytes ≤ s.room) × (s.room ≤ vec_capacity s.bytes) };
 }
@@ -124,9 +139,12 @@ impl Sink for MemSink {
     fn give(&mut self, piece: &[u8]) -> Result<usize, Failed>
         ensures gives { Gives (sink_of self.old) (sink_of self.new) result piece.now }
         ensures number { self.new.calls ≡ raised_count self.old.calls }
-        ensures fails { IsErr result ↔ (Contains self.old.fails self.new.calls ⊎ ((self.old.room ≡ 0) × (0 < length piece.now))) }
-        ensures most { IfOk result (λ count. (count ≡ min self.old.room (length piece.now)) × (self.new.room + count ≡ self.old.room)) }
-        ensures counts { OnErr result ((self.new.faults ≡ raised_count self.old.faults) × (self.new.room ≡ self.old.room)) }
+        ensures fails { IsErr result
+            ↔ (Contains self.old.fails self.new.calls ⊎ ((self.old.room ≡ 0) × (0 < length piece.now))) }
+        ensures most { IfOk result
+            (λ count. (count ≡ min self.old.room (length piece.now)) × (self.new.room + count ≡ self.old.room)) }
+        ensures counts { OnErr result
+            ((self.new.faults ≡ raised_count self.old.faults) × (self.new.room ≡ self.old.room)) }
         ensures counts_faults_alone { OnOk result (self.new.faults ≡ self.old.faults) }
         ensures stays { self.new.fails ≡ self.old.fails }
     {

@@ -48,8 +48,10 @@ pub fn read_all<S: Source>(
 ) -> Result<Vec<u8>, ReadFault>
     requires { limit < 2 ^ 32 }
     ensures whole { IfOk result (λ bytes. IsWhole (S.state source.old) (S.state source.new) bytes.items limit) }
-    ensures too_long { IsErrOf result ReadFault.TooLong → TakesJust (S.state source.old) (S.state source.new) (limit + 1) }
-    ensures fault { IsErrOf result ReadFault.Source → CountRose (S.state source.old).faults (S.state source.new).faults }
+    ensures too_long { IsErrOf result ReadFault.TooLong
+        → TakesJust (S.state source.old) (S.state source.new) (limit + 1) }
+    ensures fault { IsErrOf result ReadFault.Source
+        → CountRose (S.state source.old).faults (S.state source.new).faults }
     ensures later { (S.state source.old).faults ≤ (S.state source.new).faults }
     ensures taken { TakesAtMost (S.state source.old) (S.state source.new) (limit + 1) }
 {
@@ -70,11 +72,14 @@ fn take_piece<S: Source>(
     piece: &mut [u8],
     bytes: &mut Vec<u8>,
 ) -> Result<usize, ReadFault>
-    ensures moved { OnOk result (MovesBehind (S.state source.old) (S.state source.new) bytes.old.items bytes.new.items) }
-    ensures count { IfOk result (λ count. (count ≤ length piece.old) × (vec_len bytes.new ≡ vec_len bytes.old + count)) }
+    ensures moved { OnOk result
+        (MovesBehind (S.state source.old) (S.state source.new) bytes.old.items bytes.new.items) }
+    ensures count { IfOk result
+        (λ count. (count ≤ length piece.old) × (vec_len bytes.new ≡ vec_len bytes.old + count)) }
     ensures ended { IfOk result (λ count. count ≡ 0 → 0 < length piece.old → IsAtEnd (S.state source.new).left) }
     ensures taken { OnErr result (TakesAtMost (S.state source.old) (S.state source.new) (length piece.old)) }
-    ensures fault { IsErrOf result ReadFault.Source → CountRose (S.state source.old).faults (S.state source.new).faults }
+    ensures fault { IsErrOf result ReadFault.Source
+        → CountRose (S.state source.old).faults (S.state source.new).faults }
     ensures later { (S.state source.old).faults ≤ (S.state source.new).faults }
     ensures short { IsErrOf result ReadFault.TooLong → ⊥ }
 {

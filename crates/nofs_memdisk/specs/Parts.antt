@@ -1,5 +1,6 @@
 -- The parts of a disk in memory that contracts see, and what its calls make of them.
-use Rattle.std.specs.Prelude.{ℕ, List, [], ◌∷◌, ◌++◌, length, ◌+◌, ◌-◌, ◌*◌, Bool, true, Option, is_none, unwrap_or, slice_set}
+use Rattle.std.specs.Prelude.{ℕ, List, [], ◌∷◌, ◌++◌, length, ◌+◌, ◌-◌, ◌*◌, Bool, true, Option, is_none, unwrap_or}
+use Rattle.std.specs.Prelude.{slice_set}
 use Rattle.nofs_disk.specs.declared.tag.Cell.{Cell}
 use Rattle.nofs_disk.specs.Disk.{DiskState}
 use Rattle.nofs_versions.specs.declared.call.Call.{Call}
@@ -49,11 +50,22 @@ parts_of d = record {
 
 -- a disk that holds these cells as flushed content, at moment 0, that has had no calls, none of which is to fail
 abbrev pub fresh_parts : List Cell → Parts
-fresh_parts cells = record { start = 0; base = cells; calls = []; spare = 0; faults = 0; fails = []; reads = 0; writes = 0; flushes = 0 }
+fresh_parts cells = record {
+  start = 0;
+  base = cells;
+  calls = [];
+  spare = 0;
+  faults = 0;
+  fails = [];
+  reads = 0;
+  writes = 0;
+  flushes = 0;
+}
 
 -- a cell was laid down as flushed content
 abbrev pub laid : Parts → ℕ → Cell → Parts
-laid d block cell = record d { start = d.start + 2 * length d.calls; base = slice_set (held_after d.base d.calls).now block cell; calls = [] }
+laid d block cell = record d
+    { start = d.start + 2 * length d.calls; base = slice_set (held_after d.base d.calls).now block cell; calls = [] }
 
 -- the faults of the next read, write and flush
 abbrev pub read_fault : Parts → Option Bool

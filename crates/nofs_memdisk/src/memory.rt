@@ -3,8 +3,10 @@
 //!
 //! Promise: it is a disk that tells all, each of its calls changes it exactly as its kind says, and
 //! it leaves at a crash exactly the images that pick.
-ghost use Rattle.std.specs.Prelude.{◌≡◌, ◌+◌, ◌*◌, ◌^◌, ◌<◌, ◌≤◌, ◌↔◌, [], ◌++◌, ◌-◌, List, length, slice_index_or, All, OnOk, OnErr, IsErr, IsSome, IfOk, vec_capacity, replicate};
-ghost use Rattle.nofs_disk.specs.Disk.{no_cell, Flushes, IsSettled, IsSizedCell, MakesReady, Picks, Reads, Writes, WritesOut};
+ghost use Rattle.std.specs.Prelude.{◌≡◌, ◌+◌, ◌*◌, ◌^◌, ◌<◌, ◌≤◌, ◌↔◌, [], ◌++◌, ◌-◌, List, length, slice_index_or};
+ghost use Rattle.std.specs.Prelude.{All, OnOk, OnErr, IsErr, IsSome, IfOk, vec_capacity, replicate};
+ghost use Rattle.nofs_disk.specs.Disk.{no_cell, Flushes, IsSettled, IsSizedCell, MakesReady, Picks, Reads, Writes};
+ghost use Rattle.nofs_disk.specs.Disk.{WritesOut};
 ghost use Rattle.nofs_disk.specs.Tag.{zero_cell};
 ghost use Rattle.nofs_disk.specs.declared.tag.Cell.{Cell};
 ghost use Rattle.nofs_versions.specs.Memory.{PicksVersions, held_after, picked};
@@ -82,7 +84,8 @@ impl MemDisk {
 
     /// Names calls that are to fail, beside those that were named before.
     pub fn fail_at(&mut self, faults: &[FaultAt]) -> Result<(), AllocError>
-        ensures ok { OnOk result (parts_of self.new ≡ record (parts_of self.old) { fails = (parts_of self.old).fails ++ faults.now }) }
+        ensures ok { OnOk result
+            (parts_of self.new ≡ record (parts_of self.old) { fails = (parts_of self.old).fails ++ faults.now }) }
         ensures err { OnErr result (parts_of self.new ≡ parts_of self.old) }
     {
         self.fails.extend_from_slice(faults)
@@ -119,7 +122,8 @@ impl MemDisk {
     // Forgets the calls, after which all is flushed content.
     fn forget_calls(&mut self)
         requires { IsSettled (memory_state self.old) }
-        ensures { parts_of self.new ≡ record (parts_of self.old) { start = (memory_state self.old).moment; base = (memory_state self.old).now; calls = [] } }
+        ensures { parts_of self.new ≡ record (parts_of self.old)
+            { start = (memory_state self.old).moment; base = (memory_state self.old).now; calls = [] } }
     {
         let made = self.calls.len();
         if made == 0 {
@@ -154,7 +158,8 @@ impl MemDisk {
     #[tactic(auto, unfolding(nofs_versions::specs::Memory::held_after))]
     pub fn image(&self, alloc: Global, picks: &[Pick]) -> Result<MemDisk, AllocError>
         requires { All (PicksVersions (memory_state self.now)) picks.now }
-        ensures parts { IfOk result (λ disk. parts_of disk ≡ fresh_parts (picked (memory_state self.now).may (memory_state self.now).now picks.now)) }
+        ensures parts { IfOk result (λ disk. parts_of disk
+            ≡ fresh_parts (picked (memory_state self.now).may (memory_state self.now).now picks.now)) }
         ensures settled { IfOk result (λ disk. IsSettled (memory_state disk)) }
     {
         let mut base = self.cells.to_vec(alloc)?;
@@ -179,7 +184,8 @@ impl MemDisk {
 }
 
 impl Disk for MemDisk {
-    ghost use Rattle.nofs_memdisk.specs.Parts.{flush_fault, has_flushed, has_read, has_written, has_written_out, made_ready, memory_state, parts_of, read_fault, write_fault};
+    ghost use Rattle.nofs_memdisk.specs.Parts.{flush_fault, has_flushed, has_read, has_written, has_written_out};
+    ghost use Rattle.nofs_memdisk.specs.Parts.{made_ready, memory_state, parts_of, read_fault, write_fault};
     ghost use Rattle.nofs_versions.specs.Laws.{state_of-is};
 
     ghost state = { memory_state };

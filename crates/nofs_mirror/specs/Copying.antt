@@ -13,7 +13,8 @@ pub record Copies (lead_old lead_new other_old other_new : DiskState) : Type 0 w
 
 -- the first cells are those of the lead
 abbrev pub HasCopied : DiskState → DiskState → ℕ → Type 0
-HasCopied lead other blocks = (b : ℕ) → IsTrue lead.tells → IsTrue other.tells → b < blocks → cell_at other.now b ≡ cell_at lead.now b
+HasCopied lead other blocks = (b : ℕ) → IsTrue lead.tells → IsTrue other.tells
+    → b < blocks → cell_at other.now b ≡ cell_at lead.now b
 
 -- why a copy stopped
 abbrev pub CopyCause : CopyFault → DiskState → DiskState → DiskState → DiskState → Type 0

@@ -1,5 +1,6 @@
 -- What a mirror holds, and what a crash may leave of it.
-use Rattle.std.specs.Prelude.{◌≡◌, ◌⊎◌, ℕ, ◌+◌, ◌*◌, ◌<◌, ◌≤◌, ◌==◌, nat_lt, if◌then◌else◌, Bool, true, false, ◌&&◌, ◌||◌, List, [], ◌∷◌, ◌++◌, length, take}
+use Rattle.std.specs.Prelude.{◌≡◌, ◌⊎◌, ℕ, ◌+◌, ◌*◌, ◌<◌, ◌≤◌, ◌==◌, nat_lt, if◌then◌else◌, Bool, true, false, ◌&&◌}
+use Rattle.std.specs.Prelude.{◌||◌, List, [], ◌∷◌, ◌++◌, length, take}
 use Rattle.std.specs.Prelude.{slice_index_or, Contains, Result, OnOk, OnErr, IsTrue, IsFalse, ⊤}
 use Rattle.nofs_disk.specs.declared.Failed.{Failed}
 use Rattle.nofs_disk.specs.declared.tag.Cell.{Cell}
@@ -21,7 +22,8 @@ last_span side opened [] = opened
 last_span side opened (call ∷ past) = side call
 
 -- an image that a side that is in may have left at a moment of its own between two, cut to the blocks of the mirror
-pub record LeftBy (leaves : ℕ → List Cell → Type 0) (blocks : ℕ) (is_in : Bool) (from to : ℕ) (image : List Cell) : Type 0 where
+pub record LeftBy (leaves : ℕ → List Cell → Type 0) (blocks : ℕ) (is_in : Bool) (from to : ℕ)
+    (image : List Cell) : Type 0 where
   pub in_then : IsTrue is_in
   pub at : ℕ
   pub low : from ≤ at
@@ -31,11 +33,13 @@ pub record LeftBy (leaves : ℕ → List Cell → Type 0) (blocks : ℕ) (is_in 
   pub first : image ≡ take blocks whole
 
 -- what a side may leave at a moment of the mirror
-abbrev pub SideLeft : (MirrorCall → Span) → (ℕ → List Cell → Type 0) → ℕ → Span → List MirrorCall → ℕ → ℕ → List Cell → Type 0
+abbrev pub SideLeft : (MirrorCall → Span) → (ℕ → List Cell → Type 0) → ℕ → Span → List MirrorCall
+    → ℕ → ℕ → List Cell → Type 0
 SideLeft side leaves blocks opened [] to m image = (m ≡ 0) × LeftBy leaves blocks opened.is_in opened.ended to image
 SideLeft side leaves blocks opened (call ∷ past) to m image =
     ((m ≡ 2 * length (call ∷ past)) × LeftBy leaves blocks (side call).is_in (side call).ended to image)
-    ⊎ (((m ≡ 2 * length past + 1) × LeftBy leaves blocks (last_span side opened past).is_in (side call).began (side call).ended image)
+    ⊎ (((m ≡ 2 * length past + 1)
+    × LeftBy leaves blocks (last_span side opened past).is_in (side call).began (side call).ended image)
     ⊎ SideLeft side leaves blocks opened past (side call).began m image)
 
 -- the cells at the end of a flush that succeeded on a side that is in after it
@@ -45,7 +49,8 @@ flushed_cells lead other call = if call.lead.is_in then lead call.lead.ended els
 -- what a read gave at a moment at which a flush ended
 abbrev pub was_after : (ℕ → List Cell) → (ℕ → List Cell) → ℕ → List MirrorCall → ℕ → List Cell
 was_after lead other blocks [] m = []
-was_after lead other blocks (call ∷ past) m = if m == 2 * length (call ∷ past) then take blocks (flushed_cells lead other call)
+was_after lead other blocks (call ∷ past) m = if m == 2 * length (call ∷ past)
+    then take blocks (flushed_cells lead other call)
     else was_after lead other blocks past m
 
 -- this cell, where the block is there
@@ -61,7 +66,8 @@ may_step blocks flushed may Nothing b = may b
 -- for each block the cells that it may hold: those of the lead at first
 abbrev pub may_after : (ℕ → List Cell) → (ℕ → List Cell) → ℕ → (ℕ → List Cell) → List MirrorCall → ℕ → List Cell
 may_after lead other blocks first [] b = if nat_lt b blocks then first b else []
-may_after lead other blocks first (call ∷ past) b = may_step blocks (flushed_cells lead other call) (may_after lead other blocks first past) call.effect b
+may_after lead other blocks first (call ∷ past) b =
+    may_step blocks (flushed_cells lead other call) (may_after lead other blocks first past) call.effect b
 
 -- the present cells, which a side that is in has
 abbrev pub now_of : Bool → ℕ → List Cell → List Cell → List Cell
@@ -84,7 +90,8 @@ mirror_state lead other first opening past spare faults = record {
   spare = spare;
   faults = faults;
   tells = both_tell lead other;
-  now = if_told (both_tell lead other) (now_of (last_span (λ c. c.lead) opening.lead past).is_in opening.blocks lead.now other.now);
+  now = if_told (both_tell lead other)
+      (now_of (last_span (λ c. c.lead) opening.lead past).is_in opening.blocks lead.now other.now);
   may = λ b. if_told (both_tell lead other) (may_after lead.was other.was opening.blocks first.may past b);
   was = λ m. if_told (both_tell lead other) (was_after lead.was other.was opening.blocks past m);
   left = λ m image. IsTrue (both_tell lead other)
@@ -100,7 +107,8 @@ pub record IsMirrorSide (blocks : ℕ) (may : ℕ → List Cell) (cells : List C
   pub covers : (b : ℕ) (c : Cell) → b < blocks → Contains (side.may b) c → Contains (may b) c
 
 -- what holds of a mirror's cells
-pub record IsMirrored (blocks : ℕ) (may : ℕ → List Cell) (now : List Cell) (lead_in other_in : Bool) (lead_disk other_disk : DiskState) : Type 0 where
+pub record IsMirrored (blocks : ℕ) (may : ℕ → List Cell) (now : List Cell) (lead_in other_in : Bool)
+    (lead_disk other_disk : DiskState) : Type 0 where
   pub lead : IsTrue lead_in → IsMirrorSide blocks may now lead_disk
   pub other : IsTrue other_in → IsMirrorSide blocks may now other_disk
   pub within : IsWithin may blocks
@@ -112,20 +120,23 @@ abbrev pub no_call : MirrorCall
 no_call = record { effect = Nothing; lead = no_span; other = no_span }
 
 -- each call began and ended up to this moment of a side
-pub record IsMarkedBySide (side : MirrorCall → Span) (opened : Span) (past : List MirrorCall) (moment : ℕ) : Type 0 where
+pub record IsMarkedBySide (side : MirrorCall → Span) (opened : Span) (past : List MirrorCall)
+    (moment : ℕ) : Type 0 where
   pub start : opened.ended ≤ moment
   pub begins : (k : ℕ) → k < length past → (side (slice_index_or past k no_call)).began ≤ moment
   pub ends : (k : ℕ) → k < length past → (side (slice_index_or past k no_call)).ended ≤ moment
 
 -- what holds of one side, in or out
-pub record IsSide (blocks spare : ℕ) (side : MirrorCall → Span) (opened : Span) (past : List MirrorCall) (disk : DiskState) : Type 0 where
+pub record IsSide (blocks spare : ℕ) (side : MirrorCall → Span) (opened : Span) (past : List MirrorCall)
+    (disk : DiskState) : Type 0 where
   pub fits : blocks ≤ disk.blocks
   pub room : spare ≤ disk.spare
   pub marked : IsMarkedBySide side opened past disk.moment
   pub last : (last_span side opened past).ended ≡ disk.moment
 
 -- what a write or flush does to which sides are in: a side goes out only where its count rose, and none comes back
-pub record ChangesSides (old new : Sides) (lead_old lead_new other_old other_new : DiskState) (result : Result (Unit {0}) Failed) : Type 0 where
+pub record ChangesSides (old new : Sides) (lead_old lead_new other_old other_new : DiskState)
+    (result : Result (Unit {0}) Failed) : Type 0 where
   pub lead : IsTrue old.lead_in → IsTrue new.lead_in ⊎ Rose lead_old.faults lead_new.faults
   pub other : IsTrue old.other_in → IsTrue new.other_in ⊎ Rose other_old.faults other_new.faults
   pub no_lead_back : IsTrue new.lead_in → IsTrue old.lead_in
@@ -141,18 +152,22 @@ abbrev pub Counts : ℕ → ℕ → Result (Unit {0}) Failed → Type 0
 Counts before after result = OnOk result (after ≡ before) × OnErr result (after ≡ counted before)
 
 -- a read asked each side that is in, where it failed
-pub record ReadFails (sides : Sides) (lead_old lead_new other_old other_new : DiskState) (result : Result (Unit {0}) Failed) : Type 0 where
+pub record ReadFails (sides : Sides) (lead_old lead_new other_old other_new : DiskState)
+    (result : Result (Unit {0}) Failed) : Type 0 where
   pub lead : OnErr result (IsTrue sides.lead_in → Rose lead_old.faults lead_new.faults)
   pub other : OnErr result (IsTrue sides.other_in → Rose other_old.faults other_new.faults)
 
 -- a side that is in holds the mirror's cells, and what a crash leaves of it is what one may leave of the mirror
 pub record SideServes (is_in : Bool) (mirror side : DiskState) : Type 0 where
   pub now : IsTrue is_in → IsTrue mirror.tells → take mirror.blocks side.now ≡ mirror.now
-  pub left : IsTrue is_in → IsTrue mirror.tells → (image : List Cell) → side.left side.moment image → mirror.left mirror.moment (take mirror.blocks image)
+  pub left : IsTrue is_in → IsTrue mirror.tells → (image : List Cell) → side.left side.moment image
+      → mirror.left mirror.moment (take mirror.blocks image)
 
--- what a crash may leave of a side that was in, at each of its moments from one on, it may leave of the mirror at this moment, cut to the mirror's blocks
+-- what a crash may leave of a side that was in, at each of its moments from one on, it may leave of the mirror at this
+-- moment, cut to the mirror's blocks
 pub record SideLeaves (was_in : Bool) (from : ℕ) (mirror side : DiskState) (m : ℕ) : Type 0 where
-  pub each : IsTrue was_in → IsTrue mirror.tells → (at : ℕ) (image : List Cell) → from ≤ at → at ≤ side.moment → side.left at image
+  pub each : IsTrue was_in → IsTrue mirror.tells
+      → (at : ℕ) (image : List Cell) → from ≤ at → at ≤ side.moment → side.left at image
       → mirror.left m (take mirror.blocks image)
 
 -- a side that is out is not called
@@ -165,7 +180,8 @@ abbrev pub IsFrom : Bool → DiskState → ℕ → Cell → Type 0
 IsFrom is_in disk block into = IsTrue is_in × (IsTrue disk.tells → into ≡ cell_at disk.now block)
 
 -- a read gives the cell of a side that is in, and changes no side
-pub record EitherReads (lead_old lead_new other_old other_new : DiskState) (sides : Sides) (block : ℕ) (into : Cell) (result : Result (Unit {0}) Failed)
+pub record EitherReads (lead_old lead_new other_old other_new : DiskState) (sides : Sides) (block : ℕ) (into : Cell)
+    (result : Result (Unit {0}) Failed)
     : Type 0 where
   pub lead : StaysButFaults lead_old lead_new
   pub other : StaysButFaults other_old other_new
@@ -189,9 +205,11 @@ pub record OpensMirror (lead_old other_old lead_new other_new mirror : DiskState
 
 -- what a refused opening leaves, and why it comes
 abbrev pub Refuses : MirrorCause → ℕ → DiskState → DiskState → DiskState → DiskState → Type 0
-Refuses (TooSmall a b) blocks lead other lead_new other_new = (a ≡ lead.blocks) × (b ≡ other.blocks) × ((lead.blocks < blocks) ⊎ (other.blocks < blocks))
+Refuses (TooSmall a b) blocks lead other lead_new other_new = (a ≡ lead.blocks) × (b ≡ other.blocks)
+    × ((lead.blocks < blocks) ⊎ (other.blocks < blocks))
 Refuses ReadFault blocks lead other lead_new other_new = (blocks ≤ lead.blocks) × (blocks ≤ other.blocks)
-    × StaysButFaults lead lead_new × Rose lead.faults lead_new.faults × IsSameDisk other other_new × KeepsPast other other_new
+    × StaysButFaults lead lead_new × Rose lead.faults lead_new.faults × IsSameDisk other other_new
+    × KeepsPast other other_new
 Refuses OutOfMemory blocks lead other lead_new other_new = (blocks ≤ lead.blocks) × (blocks ≤ other.blocks)
     × IsSameDisk other other_new × KeepsPast other other_new × KeepsCells other other_new
 

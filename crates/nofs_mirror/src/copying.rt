@@ -30,7 +30,8 @@ fn copy_cell<A: Disk, B: Disk>(
     ensures copied { OnOk result ((k : ℕ) → HasCopied (A.state lead.old) (B.state other.old) k → block ≡ k
         → HasCopied (A.state lead.old) (B.state other.new) (k + 1)) }
     ensures spare { OnOk result ((B.state other.old).spare ≤ (B.state other.new).spare + 1) }
-    ensures cause { IfErr result (λ fault. CopyCause fault (A.state lead.old) (A.state lead.new) (B.state other.old) (B.state other.new)) }
+    ensures cause { IfErr result
+        (λ fault. CopyCause fault (A.state lead.old) (A.state lead.new) (B.state other.old) (B.state other.new)) }
 {
     match lead.read(block, cell) {
         Ok(()) => match other.write(block, cell) {
@@ -49,7 +50,8 @@ fn copy_cells<A: Disk, B: Disk>(lead: &mut A, other: &mut B, blocks: u64) -> Res
     ensures copies { Copies (A.state lead.old) (A.state lead.new) (B.state other.old) (B.state other.new) }
     ensures copied { OnOk result (HasCopied (A.state lead.old) (B.state other.new) blocks) }
     ensures spare { OnOk result (1 ≤ (B.state other.new).spare) }
-    ensures cause { IfErr result (λ fault. CopyCause fault (A.state lead.old) (A.state lead.new) (B.state other.old) (B.state other.new)) }
+    ensures cause { IfErr result
+        (λ fault. CopyCause fault (A.state lead.old) (A.state lead.new) (B.state other.old) (B.state other.new)) }
 {
     let mut cell = Cell::ZERO;
     for block in 0..blocks {
@@ -73,7 +75,8 @@ pub(crate) fn copy_and_flush<A: Disk, B: Disk>(
     ensures copies { Copies (A.state lead.old) (A.state lead.new) (B.state other.old) (B.state other.new) }
     ensures copied { OnOk result (HasCopied (A.state lead.old) (B.state other.new) blocks) }
     ensures settled { OnOk result (IsSettled (B.state other.new)) }
-    ensures cause { IfErr result (λ fault. CopyCause fault (A.state lead.old) (A.state lead.new) (B.state other.old) (B.state other.new)) }
+    ensures cause { IfErr result
+        (λ fault. CopyCause fault (A.state lead.old) (A.state lead.new) (B.state other.old) (B.state other.new)) }
 {
     match copy_cells(lead, other, blocks) {
         Ok(()) => match other.flush() {

@@ -21,7 +21,8 @@ ghost use Rattle.nofs_disk.specs.Disk.{Flushes, IsSettled, Reads, Rose, StaysBut
 ghost use Rattle.nofs_mirror.specs.Sides.Calls.{Rests};
 ghost use Rattle.nofs_mirror.specs.Copying.{HasCopied};
 ghost use Rattle.nofs_mirror.specs.Laws.{MirrorKeeps};
-ghost use Rattle.nofs_mirror.specs.Mirror.{ChangesSides, Counts, EitherReads, IsFrom, IsReadFault, IsSide, LeadBack, LeavesOut, OpensMirror};
+ghost use Rattle.nofs_mirror.specs.Mirror.{ChangesSides, Counts, EitherReads, IsFrom, IsReadFault, IsSide, LeadBack};
+ghost use Rattle.nofs_mirror.specs.Mirror.{LeavesOut, OpensMirror};
 ghost use Rattle.nofs_mirror.specs.Mirror.{OtherBack, ReadFails, Refuses, SideLeaves, SideServes, last_span};
 ghost use Rattle.nofs_mirror.specs.Sides.Past.{mirror_calls};
 
@@ -44,12 +45,16 @@ pub struct Mirror<A: Disk + Drop, B: Disk + Drop> {
     first: Snapshot<A>,
     opening: MirrorStart,
     log: Log,
-    ghost lead_side: { IsSide opening.blocks log.spare (λ c. c.lead) opening.lead (mirror_calls log.past.value) (A.state lead) },
-    ghost other_side: { IsSide opening.blocks log.spare (λ c. c.other) opening.other (mirror_calls log.past.value) (B.state other) },
+    ghost lead_side: { IsSide opening.blocks log.spare (λ c. c.lead) opening.lead (mirror_calls log.past.value)
+        (A.state lead) },
+    ghost other_side: { IsSide opening.blocks log.spare (λ c. c.other) opening.other (mirror_calls log.past.value)
+        (B.state other) },
     ghost lead_in: { log.sides.lead_in ≡ (last_span (λ c. c.lead) opening.lead (mirror_calls log.past.value)).is_in },
-    ghost other_in: { log.sides.other_in ≡ (last_span (λ c. c.other) opening.other (mirror_calls log.past.value)).is_in },
+    ghost other_in: { log.sides.other_in
+        ≡ (last_span (λ c. c.other) opening.other (mirror_calls log.past.value)).is_in },
     ghost some_in: { IsTrue (log.sides.lead_in || log.sides.other_in) },
-    ghost kept: { ∥ MirrorKeeps (A.state lead) (B.state other) (A.state first.value) opening (mirror_calls log.past.value) ∥₁ },
+    ghost kept: { ∥ MirrorKeeps (A.state lead) (B.state other) (A.state first.value) opening
+        (mirror_calls log.past.value) ∥₁ },
 }
 
 /// A mirror was not opened. Both disks come back.
@@ -83,9 +88,11 @@ fn read_either<A: Disk, B: Disk>(
 ) -> Result<(), Failed>
     requires lead { block < (A.state lead.old).blocks }
     requires other { block < (B.state other.old).blocks }
-    ensures lead_first { IsTrue sides.lead_in → (other.new ≡ other.old) ⊎ Rose (A.state lead.old).faults (A.state lead.new).faults }
+    ensures lead_first { IsTrue sides.lead_in
+        → (other.new ≡ other.old) ⊎ Rose (A.state lead.old).faults (A.state lead.new).faults }
     ensures out { LeavesOut sides lead.old lead.new other.old other.new }
-    ensures reads { EitherReads (A.state lead.old) (A.state lead.new) (B.state other.old) (B.state other.new) sides block into.new result }
+    ensures reads { EitherReads (A.state lead.old) (A.state lead.new) (B.state other.old)
+        (B.state other.new) sides block into.new result }
 {
     match read_side(lead, sides.lead_in, block, into) {
         SideAnswer::Out => ask_other(other, sides.other_in, block, into),
@@ -114,7 +121,8 @@ impl<A: Disk + Drop, B: Disk + Drop> Mirror<A, B> {
     pub fn open(lead: A, other: B, blocks: u64) -> Result<Mirror<A, B>, MirrorFault<A, B>>
         ensures opens { IfOk result (λ m. OpensMirror (A.state lead) (B.state other) (A.state m.lead) (B.state m.other)
             (⟦<Mirror<A, B> as Disk>⟧.state m) blocks m.log.sides) }
-        ensures refuses { IfErr result (λ fault. Refuses fault.cause blocks (A.state lead) (B.state other) (A.state fault.lead) (B.state fault.other)) }
+        ensures refuses { IfErr result (λ fault. Refuses fault.cause blocks (A.state lead) (B.state other)
+            (A.state fault.lead) (B.state fault.other)) }
         ensures lead_back { IfErr result (λ fault. LeadBack fault.cause lead fault.lead) }
         ensures other_back { IfErr result (λ fault. OtherBack fault.cause other fault.other) }
     {
@@ -145,7 +153,8 @@ impl<A: Disk + Drop, B: Disk + Drop> Mirror<A, B> {
         requires spare { blocks + 1 ≤ (B.state other).spare }
         ensures opens { IfOk result (λ m. OpensMirror (A.state lead) (B.state other) (A.state m.lead) (B.state m.other)
             (⟦<Mirror<A, B> as Disk>⟧.state m) blocks m.log.sides) }
-        ensures refuses { IfErr result (λ fault. Refuses fault.cause blocks (A.state lead) (B.state other) (A.state fault.lead) (B.state fault.other)) }
+        ensures refuses { IfErr result (λ fault. Refuses fault.cause blocks (A.state lead) (B.state other)
+            (A.state fault.lead) (B.state fault.other)) }
         ensures cause { IfErr result (λ fault. IsReadFault fault.cause) }
     {
         let first = Snapshot::of(&lead);
@@ -167,11 +176,13 @@ impl<A: Disk + Drop, B: Disk + Drop> Mirror<A, B> {
         requires lead { blocks ≤ (A.state lead).blocks }
         requires other { blocks ≤ (B.state other).blocks }
         requires first { StaysButFaults (A.state first.value) (A.state lead) }
-        requires copied { IsTrue other_in → HasCopied (A.state lead) (B.state other) blocks × IsSettled (B.state other) }
+        requires copied { IsTrue other_in
+            → HasCopied (A.state lead) (B.state other) blocks × IsSettled (B.state other) }
         ensures disks { (result.lead ≡ lead) × (result.other ≡ other) × (result.first ≡ first) }
         ensures blocks { result.opening.blocks ≡ blocks }
         ensures fresh { (mirror_calls result.log.past.value ≡ []) × (result.log.spare ≡ 0) × (result.log.faults ≡ 0) }
-        ensures sides { IsTrue result.log.sides.lead_in × (result.log.sides.other_in ≡ other_in) × IsTrue result.opening.lead.is_in }
+        ensures sides { IsTrue result.log.sides.lead_in × (result.log.sides.other_in ≡ other_in)
+            × IsTrue result.opening.lead.is_in }
     {
         let lead_at = lead.moment();
         let other_at = other.moment();
@@ -211,8 +222,10 @@ impl<A: Disk + Drop, B: Disk + Drop> Mirror<A, B> {
     pub fn apart(self) -> (A, B)
         ensures lead { result.0 ≡ self.lead }
         ensures other { result.1 ≡ self.other }
-        ensures lead_serves { SideServes self.log.sides.lead_in (⟦<Mirror<A, B> as Disk>⟧.state self) (A.state result.0) }
-        ensures other_serves { SideServes self.log.sides.other_in (⟦<Mirror<A, B> as Disk>⟧.state self) (B.state result.1) }
+        ensures lead_serves { SideServes self.log.sides.lead_in (⟦<Mirror<A, B> as Disk>⟧.state self)
+            (A.state result.0) }
+        ensures other_serves { SideServes self.log.sides.other_in (⟦<Mirror<A, B> as Disk>⟧.state self)
+            (B.state result.1) }
     {
         (self.lead, self.other)
     }
@@ -255,11 +268,13 @@ impl<A: Disk + Drop, B: Disk + Drop> Disk for Mirror<A, B> {
 
     fn read(&mut self, block: u64, into: &mut Cell) -> Result<(), Failed>
         requires { block < (⟦<Mirror<A, B> as Disk>⟧.state self.old).blocks }
-        ensures does { Reads (⟦<Mirror<A, B> as Disk>⟧.state self.old) (⟦<Mirror<A, B> as Disk>⟧.state self.new) block into.new result }
+        ensures does { Reads (⟦<Mirror<A, B> as Disk>⟧.state self.old)
+            (⟦<Mirror<A, B> as Disk>⟧.state self.new) block into.new result }
         ensures sides { self.new.log.sides ≡ self.old.log.sides }
         ensures lead_first { IsTrue self.old.log.sides.lead_in → (self.new.other ≡ self.old.other)
             ⊎ Rose (A.state self.old.lead).faults (A.state self.new.lead).faults }
-        ensures fails { ReadFails self.old.log.sides (A.state self.old.lead) (A.state self.new.lead) (B.state self.old.other) (B.state self.new.other) result }
+        ensures fails { ReadFails self.old.log.sides (A.state self.old.lead) (A.state self.new.lead)
+            (B.state self.old.other) (B.state self.new.other) result }
         ensures out { LeavesOut self.old.log.sides self.old.lead self.new.lead self.old.other self.new.other }
         ensures counts { Counts self.old.log.faults self.new.log.faults result }
     {
@@ -277,15 +292,19 @@ impl<A: Disk + Drop, B: Disk + Drop> Disk for Mirror<A, B> {
     fn write(&mut self, block: u64, cell: &Cell) -> Result<(), Failed>
         requires block { block < (⟦<Mirror<A, B> as Disk>⟧.state self.old).blocks }
         requires spare { 1 ≤ (⟦<Mirror<A, B> as Disk>⟧.state self.old).spare }
-        ensures does { Writes (⟦<Mirror<A, B> as Disk>⟧.state self.old) (⟦<Mirror<A, B> as Disk>⟧.state self.new) block cell.now result }
-        ensures sides { ChangesSides self.old.log.sides self.new.log.sides (A.state self.old.lead) (A.state self.new.lead)
+        ensures does { Writes (⟦<Mirror<A, B> as Disk>⟧.state self.old)
+            (⟦<Mirror<A, B> as Disk>⟧.state self.new) block cell.now result }
+        ensures sides { ChangesSides self.old.log.sides self.new.log.sides (A.state self.old.lead)
+            (A.state self.new.lead)
             (B.state self.old.other) (B.state self.new.other) result }
         ensures out { LeavesOut self.old.log.sides self.old.lead self.new.lead self.old.other self.new.other }
         ensures counts { Counts self.old.log.faults self.new.log.faults result }
         ensures lead_left { SideLeaves self.old.log.sides.lead_in (A.state self.old.lead).moment
-            (⟦<Mirror<A, B> as Disk>⟧.state self.new) (A.state self.new.lead) ((⟦<Mirror<A, B> as Disk>⟧.state self.old).moment + 1) }
+            (⟦<Mirror<A, B> as Disk>⟧.state self.new) (A.state self.new.lead)
+            ((⟦<Mirror<A, B> as Disk>⟧.state self.old).moment + 1) }
         ensures other_left { SideLeaves self.old.log.sides.other_in (B.state self.old.other).moment
-            (⟦<Mirror<A, B> as Disk>⟧.state self.new) (B.state self.new.other) ((⟦<Mirror<A, B> as Disk>⟧.state self.old).moment + 1) }
+            (⟦<Mirror<A, B> as Disk>⟧.state self.new) (B.state self.new.other)
+            ((⟦<Mirror<A, B> as Disk>⟧.state self.old).moment + 1) }
     {
         cell.note_sizes();
         let sides = self.log.sides;
@@ -302,15 +321,18 @@ impl<A: Disk + Drop, B: Disk + Drop> Disk for Mirror<A, B> {
     /// during the call.
     fn flush(&mut self) -> Result<(), Failed>
         requires { 1 ≤ (⟦<Mirror<A, B> as Disk>⟧.state self.old).spare }
-        ensures does { Flushes (⟦<Mirror<A, B> as Disk>⟧.state self.old) (⟦<Mirror<A, B> as Disk>⟧.state self.new) result }
+        ensures does { Flushes (⟦<Mirror<A, B> as Disk>⟧.state self.old)
+            (⟦<Mirror<A, B> as Disk>⟧.state self.new) result }
         ensures sides { ChangesSides self.old.log.sides self.new.log.sides
             (A.state self.old.lead) (A.state self.new.lead) (B.state self.old.other) (B.state self.new.other) result }
         ensures out { LeavesOut self.old.log.sides self.old.lead self.new.lead self.old.other self.new.other }
         ensures counts { Counts self.old.log.faults self.new.log.faults result }
-        ensures lead_left { SideLeaves self.old.log.sides.lead_in (A.state self.old.lead).moment (⟦<Mirror<A, B> as Disk>⟧.state self.new)
+        ensures lead_left { SideLeaves self.old.log.sides.lead_in
+            (A.state self.old.lead).moment (⟦<Mirror<A, B> as Disk>⟧.state self.new)
             (A.state self.new.lead) ((⟦<Mirror<A, B> as Disk>⟧.state self.old).moment + 1) }
         ensures other_left { SideLeaves self.old.log.sides.other_in (B.state self.old.other).moment
-            (⟦<Mirror<A, B> as Disk>⟧.state self.new) (B.state self.new.other) ((⟦<Mirror<A, B> as Disk>⟧.state self.old).moment + 1) }
+            (⟦<Mirror<A, B> as Disk>⟧.state self.new) (B.state self.new.other)
+            ((⟦<Mirror<A, B> as Disk>⟧.state self.old).moment + 1) }
     {
         let sides = self.log.sides;
         let lead = flush_side(&mut self.lead, sides.lead_in);
@@ -322,7 +344,8 @@ impl<A: Disk + Drop, B: Disk + Drop> Disk for Mirror<A, B> {
     /// No write is kept back, and neither side is called.
     fn write_out(&mut self) -> Result<Option<u64>, Failed>
         requires { 1 ≤ (⟦<Mirror<A, B> as Disk>⟧.state self.old).spare }
-        ensures does { WritesOut (⟦<Mirror<A, B> as Disk>⟧.state self.old) (⟦<Mirror<A, B> as Disk>⟧.state self.new) result }
+        ensures does { WritesOut (⟦<Mirror<A, B> as Disk>⟧.state self.old)
+            (⟦<Mirror<A, B> as Disk>⟧.state self.new) result }
         ensures lead { self.new.lead ≡ self.old.lead }
         ensures other { self.new.other ≡ self.old.other }
         ensures sides { self.new.log.sides ≡ self.old.log.sides }

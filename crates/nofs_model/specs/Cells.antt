@@ -36,4 +36,5 @@ same_kind _ _ = false
 
 -- whether two tags are one
 abbrev pub same_tag : Tag → Tag → Bool
-same_tag a b = same_kind a.kind b.kind && ((a.inode == b.inode) && ((a.generation == b.generation) && ((a.slot == b.slot) && (a.stamp == b.stamp))))
+same_tag a b = same_kind a.kind b.kind
+    && ((a.inode == b.inode) && ((a.generation == b.generation) && ((a.slot == b.slot) && (a.stamp == b.stamp))))

@@ -1,7 +1,8 @@
 -- What an image means: each definition as a fact, by itself.
 --
 -- The words that programs and proofs compute with stand in Geometry, Slots, Files, Owners. `law_slots`, `law_names` and
--- `law_owners` say that each of them is the fact of this file. Mountable and sound images are defined in Geometry and Sound.
+-- `law_owners` say that each of them is the fact of this file. Mountable and sound images are defined in Geometry and
+-- Sound.
 use Rattle.std.specs.Prelude.{◌≡◌, ◌≢◌, ◌↔◌, ℕ, ◌+◌, ◌/◌, ◌%◌, ◌<◌, ◌≤◌, ◌⊎◌, true, ◌&&◌, ◌||◌, not, Some, Contains}
 use Rattle.nofs_model.specs.Cells.{Pointer, BackLink, Entry, tag_of, null, pointer_at, entry_in, is_live, entry_limit}
 use Rattle.nofs_model.specs.Kinds as kind
@@ -15,8 +16,8 @@ use Rattle.nofs_model.specs.declared.image.value.Value.TheVariants.{Hole, Bytes,
 
 -- Slots
 
--- the pointer leads to a block of just this slot: it isn't null, the inode is live, the block lies in the data area, and the
--- block's tag is spelled and has the slot's kind, inode, generation and number, and the pointer's stamp
+-- the pointer leads to a block of just this slot: it isn't null, the inode is live, the block lies in the data area,
+-- and the block's tag is spelled and has the slot's kind, inode, generation and number, and the pointer's stamp
 pub record TagFits (X : Image) (i : ℕ) (path : Path) (x : Pointer) : Type 0 where
   pub not_null : x ≢ null
   pub live : is_live (inode X i) ≡ true
@@ -27,12 +28,14 @@ pub record TagFits (X : Image) (i : ℕ) (path : Path) (x : Pointer) : Type 0 wh
 -- a slot holds with a pointer: its pointer, in the record or in the block of the slot above, which holds too, fits
 abbrev pub Holds : Image → ℕ → Path → Pointer → Type 0
 Holds X i (InRecord n) x = (x ≡ record_pointer (inode X i) n) × TagFits X i (InRecord n) x
-Holds X i (Under above n) x = (y : Pointer) × Holds X i above y × (x ≡ pointer_at (cell_at X y.block).payload n) × TagFits X i (Under above n) x
+Holds X i (Under above n) x = (y : Pointer) × Holds X i above y × (x ≡ pointer_at (cell_at X y.block).payload n)
+    × TagFits X i (Under above n) x
 
 -- a slot is empty: its pointer is null, or the slot above is empty
 abbrev pub IsEmpty : Image → ℕ → Path → Type 0
 IsEmpty X i (InRecord n) = record_pointer (inode X i) n ≡ null
-IsEmpty X i (Under above n) = IsEmpty X i above ⊎ ((y : Pointer) × Holds X i above y × (pointer_at (cell_at X y.block).payload n ≡ null))
+IsEmpty X i (Under above n) = IsEmpty X i above
+    ⊎ ((y : Pointer) × Holds X i above y × (pointer_at (cell_at X y.block).payload n ≡ null))
 
 -- the value of slot k: a hole where it is empty, the payload of its block where it holds, and lost where neither is so
 pub data IsValue (X : Image) (i k : ℕ) : Value → Type 0 where
@@ -66,7 +69,8 @@ pub record IsPair (X : Image) (i : ℕ) (link : BackLink) : Type 0 where
 pub data IsAgreed (X : Image) : ℕ → Type 0 where
   the_root : (inode X 1).kind ≡ Some kind.Directory → (inode X 1).generation ≡ 1 → IsAgreed X 1
   the_label : (inode X 2).kind ≡ Some kind.File → (inode X 2).generation ≡ 2 → IsAgreed X 2
-  named : {i : ℕ} (link : BackLink) → i ≢ 1 → i ≢ 2 → Contains (inode X i).links link → IsPair X i link → IsAgreed X link.directory → IsAgreed X i
+  named : {i : ℕ} (link : BackLink) → i ≢ 1 → i ≢ 2 → Contains (inode X i).links link → IsPair X i link
+      → IsAgreed X link.directory → IsAgreed X i
 
 -- such a back link
 pub record IsAgreedLink (X : Image) (i : ℕ) (link : BackLink) : Type 0 where
@@ -100,8 +104,8 @@ pub record LawSlots : Type 0 where
   pub empty : (X : Image) (i : ℕ) (path : Path) → IsEmpty X i path ↔ (find X i path ≡ answer.Hole)
   pub values : (X : Image) (i k : ℕ) (v : Value) → IsValue X i k v ↔ (value X i k ≡ v)
 
--- pairs and agreed inodes; and of any files, those of an image or those that the machine has: agreed is what its equation
--- says, and the least relation that has the roots and goes down by pairs
+-- pairs and agreed inodes; and of any files, those of an image or those that the machine has: agreed is what its
+-- equation says, and the least relation that has the roots and goes down by pairs
 pub record LawPairs : Type 0 where
   pub equation : (F : Files) (i : ℕ) → agreed F i ≡ (is_root F i || (not (is_special i) && has_agreed_link F i))
   pub least : (F : Files) (i : ℕ) → Agreed F i ↔ (agreed F i ≡ true)

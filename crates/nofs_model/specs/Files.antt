@@ -1,7 +1,8 @@
 -- Files, the entries of directories, and which inodes are agreed.
 --
 -- What an image says of inodes is a function from inodes to files, without blocks and stamps: the machine has one, too.
-use Rattle.std.specs.Prelude.{◌≡◌, ℕ, zero, suc, ◌/◌, ◌%◌, ◌<◌, Bool, true, false, ◌&&◌, ◌||◌, not, List, [], Option, Some, None, if◌then◌else◌, nat_lt, ◌==◌}
+use Rattle.std.specs.Prelude.{◌≡◌, ℕ, zero, suc, ◌/◌, ◌%◌, ◌<◌, Bool, true, false, ◌&&◌, ◌||◌, not, List, [], Option}
+use Rattle.std.specs.Prelude.{Some, None, if◌then◌else◌, nat_lt, ◌==◌}
 use Rattle.std.specs.Prelude.{Contains}
 use Rattle.std.specs.List.{list_any}
 use Rattle.nofs_dirent.specs.Entries.{entry_limit}
@@ -121,12 +122,14 @@ is_special i = (i == 1) || (i == 2)
 -- agreed by a chain of at most n inodes
 abbrev pub agreed_below : ℕ → Files → ℕ → Bool
 agreed_below zero F i = false
-agreed_below (suc n) F i = is_root F i || (not (is_special i) && list_any (λ link. is_pair F i link && agreed_below n F link.directory) (links_of F i))
+agreed_below (suc n) F i = is_root F i
+    || (not (is_special i) && list_any (λ link. is_pair F i link && agreed_below n F link.directory) (links_of F i))
 
 -- a root, or some back link is a pair with an agreed directory. Generations fall along a chain of directories, so a
 -- chain is no longer than the generation of its first directory
 unfoldable pub agreed : Files → ℕ → Bool
-agreed F i = is_root F i || (not (is_special i) && list_any (λ link. is_pair F i link && agreed_below (suc link.generation) F link.directory) (links_of F i))
+agreed F i = is_root F i || (not (is_special i)
+    && list_any (λ link. is_pair F i link && agreed_below (suc link.generation) F link.directory) (links_of F i))
 
 -- some back link of the inode is a pair with an agreed directory
 abbrev pub has_agreed_link : Files → ℕ → Bool
@@ -141,4 +144,5 @@ pub record IsParent (X : Image) (i d : ℕ) : Type 0 where
 -- the same as the least relation
 pub data Agreed (F : Files) : ℕ → Type 0 where
   root : {i : ℕ} → is_root F i ≡ true → Agreed F i
-  linked : {i : ℕ} (link : BackLink) → is_special i ≡ false → Contains (links_of F i) link → is_pair F i link ≡ true → Agreed F link.directory → Agreed F i
+  linked : {i : ℕ} (link : BackLink) → is_special i ≡ false → Contains (links_of F i) link
+      → is_pair F i link ≡ true → Agreed F link.directory → Agreed F i

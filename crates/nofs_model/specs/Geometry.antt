@@ -1,5 +1,6 @@
 -- An image, its numbers, and the records of its inode table. An image is a list of cells, one a block.
-use Rattle.std.specs.Prelude.{◌≡◌, ◌↔◌, ℕ, ◌+◌, ◌-◌, ◌/◌, ◌%◌, ◌<◌, Bool, true, ◌&&◌, List, length, if◌then◌else◌, nat_lt, nat_le}
+use Rattle.std.specs.Prelude.{◌≡◌, ◌↔◌, ℕ, ◌+◌, ◌-◌, ◌/◌, ◌%◌, ◌<◌, Bool, true, ◌&&◌, List, length, if◌then◌else◌}
+use Rattle.std.specs.Prelude.{nat_lt, nat_le}
 pub use Rattle.nofs_disk.specs.Disk.{cell_at}
 use Rattle.nofs_disk.specs.Disk.{IsSizedCell}
 unfoldable pub use Rattle.nofs_super.specs.Super.{super_in, is_super}

@@ -1,5 +1,6 @@
 -- Owners of blocks, and the scan of an image.
-use Rattle.std.specs.Prelude.{◌≡◌, ◌≢◌, ℕ, ◌-◌, ◌/◌, ◌<◌, ◌≤◌, Bool, true, List, length, ◌&&◌, ◌||◌, Option, Some, None, is_some, if◌then◌else◌, nat_le, ◌==◌}
+use Rattle.std.specs.Prelude.{◌≡◌, ◌≢◌, ℕ, ◌-◌, ◌/◌, ◌<◌, ◌≤◌, Bool, true, List, length, ◌&&◌, ◌||◌, Option, Some, None}
+use Rattle.std.specs.Prelude.{is_some, if◌then◌else◌, nat_le, ◌==◌}
 use Rattle.nofs_model.specs.Cells.{Tag, Pointer, tag_of}
 use Rattle.nofs_bits.specs.Bits.{is_set}
 use Rattle.nofs_model.specs.Geometry.{Image, cell_at, super_at, inodes_of, blocks_of}
@@ -17,7 +18,8 @@ pub record Owns (X : Image) (i : ℕ) (path : Path) (p : ℕ) : Type 0 where
 
 -- no agreed inode has this block in the image
 abbrev pub IsFree : Image → ℕ → Type 0
-IsFree X b = (i : ℕ) (path : Path) (x : Pointer) → IsSlot path → agreed (files_in X) i ≡ true → find X i path ≡ answer.Holds x → x.block ≢ b
+IsFree X b = (i : ℕ) (path : Path) (x : Pointer) → IsSlot path
+    → agreed (files_in X) i ≡ true → find X i path ≡ answer.Holds x → x.block ≢ b
 
 -- the slot that has a block
 pub record Home : Type 0 where
@@ -34,7 +36,8 @@ inode_and_slot (Some h) = Some (h.inode, h.slot)
 
 abbrev pub owner_found : Image → ℕ → Tag → PathAnswer → Option Home
 owner_found X p t answer.Hole = None
-owner_found X p t (answer.Holds x) = if (x.block == p) && agreed (files_in X) t.inode then Some (home_at t.inode t.slot) else None
+owner_found X p t (answer.Holds x) = if (x.block == p) && agreed (files_in X) t.inode
+    then Some (home_at t.inode t.slot) else None
 owner_found X p t answer.Lost = None
 
 -- a tag can have a number that is no slot's

@@ -1,5 +1,6 @@
 -- Places of slots, as the program keeps them, and what the program has read of an image.
-use Rattle.std.specs.Prelude.{◌≡◌, ℕ, ◌+◌, ◌-◌, ◌/◌, ◌<◌, ◌≤◌, Bool, true, false, ◌&&◌, List, length, Some, nat_le, slice_get, unwrap_or}
+use Rattle.std.specs.Prelude.{◌≡◌, ℕ, ◌+◌, ◌-◌, ◌/◌, ◌<◌, ◌≤◌, Bool, true, false, ◌&&◌, List, length, Some, nat_le}
+use Rattle.std.specs.Prelude.{slice_get, unwrap_or}
 use Rattle.nofs_model.specs.Cells.{Record, SuperBlock}
 use Rattle.nofs_model.specs.Geometry.{Image, IsGeometry, super_at, inode}
 use Rattle.nofs_model.specs.Slots.{Path, InRecord, Under, child}

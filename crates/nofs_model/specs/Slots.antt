@@ -4,7 +4,8 @@
 use Rattle.std.specs.Prelude.{◌≡◌, ℕ, ◌⊎◌, Bool, false, ◌&&◌, get_or, Option, Some, None, if◌then◌else◌, ◌==◌}
 unfoldable pub use Rattle.nofs_ptrs.specs.Paths.{path_of, slot_of}
 pub use Rattle.nofs_ptrs.specs.Paths.{Path, InRecord, Under, leaf, top, child, is_pointer_slot, IsSlot, is_slot}
-use Rattle.nofs_model.specs.Cells.{Kind, Content, Directory, Leaf, Tag, Pointer, FileKind, Record, same_tag, tag_of, null, is_null, pointer_at}
+use Rattle.nofs_model.specs.Cells.{Kind, Content, Directory, Leaf, Tag, Pointer, FileKind, Record, same_tag, tag_of}
+use Rattle.nofs_model.specs.Cells.{null, is_null, pointer_at}
 use Rattle.nofs_model.specs.Cells.{is_live}
 use Rattle.nofs_inode.specs.declared.inode.FileKind.TheVariants as file
 use Rattle.nofs_model.specs.Geometry.{Image, cell_at, is_data_block, inode}
@@ -28,7 +29,13 @@ kind_in r path = if is_pointer_slot path then Leaf else content_kind r.kind
 
 -- the tag of a block in this slot
 abbrev pub tag_for : Image → ℕ → Path → ℕ → Tag
-tag_for X i path stamp = record { kind = kind_in (inode X i) path; inode = i; generation = (inode X i).generation; slot = slot_of path; stamp = stamp }
+tag_for X i path stamp = record {
+  kind = kind_in (inode X i) path;
+  inode = i;
+  generation = (inode X i).generation;
+  slot = slot_of path;
+  stamp = stamp;
+}
 
 -- a tag is spelled, and is this one
 abbrev pub is_tag : Option Tag → Tag → Bool
@@ -37,7 +44,8 @@ is_tag (Some a) t = same_tag a t
 
 -- the inode is live, and the block that x names lies in the data area and has the tag of this slot with the stamp of x
 abbrev pub agrees : Image → ℕ → Path → Pointer → Bool
-agrees X i path x = is_live (inode X i) && (is_data_block X x.block && is_tag (tag_of (cell_at X x.block).tag) (tag_for X i path x.stamp))
+agrees X i path x = is_live (inode X i)
+    && (is_data_block X x.block && is_tag (tag_of (cell_at X x.block).tag) (tag_for X i path x.stamp))
 
 -- what stands in a slot with this pointer
 abbrev pub judged : Image → ℕ → Path → Pointer → PathAnswer
@@ -55,7 +63,8 @@ find X i (Under above n) = elim (find X i above) [
 -- the pointer of a slot: null where the block above it does not hold
 abbrev pub pointer : Image → ℕ → Path → Pointer
 pointer X i (InRecord n) = record_pointer (inode X i) n
-pointer X i (Under above n) = elim (find X i above) [ answer.Hole ↦ null | answer.Holds x ↦ pointer_at (cell_at X x.block).payload n | answer.Lost ↦ null ]
+pointer X i (Under above n) = elim (find X i above)
+    [ answer.Hole ↦ null | answer.Holds x ↦ pointer_at (cell_at X x.block).payload n | answer.Lost ↦ null ]
 
 -- Values
 

@@ -8,7 +8,8 @@ use Rattle.nofs_model.specs.Slots.{record_pointer}
 -- the generations and stamps of a tag, of the entries of a directory's cell, and of the pointers of a cell of pointers
 pub record TagBelow (bound : ℕ) (c : Cell) : Type 0 where
   pub own : IfSome (tag_of c.tag) (λ t. (t.generation < bound) × (t.stamp < bound))
-  pub entries : IfSome (tag_of c.tag) (λ t. t.kind ≡ Directory → (j : ℕ) → j < 16 → IfSome (entry_in c.payload j) (λ e. e.generation < bound))
+  pub entries : IfSome (tag_of c.tag)
+      (λ t. t.kind ≡ Directory → (j : ℕ) → j < 16 → IfSome (entry_in c.payload j) (λ e. e.generation < bound))
   pub pointers : IfSome (tag_of c.tag) (λ t. t.kind ≡ Leaf → (j : ℕ) → j < 64 → (pointer_at c.payload j).stamp < bound)
 
 -- those of a record
@@ -35,11 +36,14 @@ pub record IsSound (X : Image) : Type 0 where
 
 -- every image that picks from cells below a bound is sound, where the bound is within the mount's stamps
 abbrev pub LawSound : Type 0
-LawSound = (bound : ℕ) (X Y : Image) (may : ℕ → List Cell) → is_mountable X ≡ true → (super_at X).mount < 2 ^ 24 → bound ≤ ((super_at X).mount + 1) * 2 ^ 40
+LawSound = (bound : ℕ) (X Y : Image) (may : ℕ → List Cell)
+    → is_mountable X ≡ true → (super_at X).mount < 2 ^ 24 → bound ≤ ((super_at X).mount + 1) * 2 ^ 40
     → ((b : ℕ) → b < (super_at X).blocks → (c : Cell) → Contains (may b) c → CellBelow bound X b c)
-    → length Y ≡ length X → cell_at Y 0 ≡ cell_at X 0 → ((b : ℕ) → b < length Y → Contains (may b) (cell_at Y b)) → IsSound Y
+    → length Y ≡ length X → cell_at Y 0 ≡ cell_at X 0
+    → ((b : ℕ) → b < length Y → Contains (may b) (cell_at Y b)) → IsSound Y
 
 -- what a format leaves is sound, on a device of any size that it accepts
 abbrev pub LawFormatted : Type 0
-LawFormatted = (X : Image) (blocks inodes : ℕ) → IsGeometry (length X) blocks inodes → ((b : ℕ) → b < blocks → cell_at X b ≡ formatted_cell blocks inodes b)
+LawFormatted = (X : Image) (blocks inodes : ℕ) → IsGeometry (length X) blocks inodes
+    → ((b : ℕ) → b < blocks → cell_at X b ≡ formatted_cell blocks inodes b)
     → IsSound X

@@ -116,7 +116,8 @@ fn is_agreed_link(
 ) -> bool
     requires record { IsRecord cells.now at.now inode it.now }
     requires known { AreAgreed cells.now known.now }
-    ensures { result ≡ (files.is_pair (files.files_in cells.now) inode link.now && files.agreed (files.files_in cells.now) link.now.directory) }
+    ensures { result ≡ (files.is_pair (files.files_in cells.now) inode link.now
+        && files.agreed (files.files_in cells.now) link.now.directory) }
 {
     is_pair(cells, at, inode, it, link) && is_agreed_directory(cells, at, known, link.directory)
 }
@@ -141,7 +142,8 @@ fn is_pair(cells: &[Cell], at: &SuperBlock, inode: u32, it: &Record, link: &Back
 fn has_entry(cells: &[Cell], at: &SuperBlock, link: &BackLink, inode: u32, generation: u64) -> bool
     requires numbers { IsRead cells.now at.now }
     requires directory { (image.inode cells.now link.now.directory).kind ≡ Some kind.Directory }
-    ensures { result ≡ files.names (files.entry_at (files.files_in cells.now) link.now.directory link.now.entry) inode generation }
+    ensures { result ≡ files.names (files.entry_at (files.files_in cells.now) link.now.directory link.now.entry)
+        inode generation }
 {
     if link.entry >= ENTRY_LIMIT {
         return false;

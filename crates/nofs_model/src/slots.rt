@@ -128,7 +128,8 @@ fn find_under(
     requires here { IsPlace here }
     requires place { place < 64 }
     requires above { InArea at.now above }
-    ensures found { (path : slots.Path) → above ≡ slots.find cells.now inode path → place_path here ≡ slots.Under path place
+    ensures found { (path : slots.Path) → above ≡ slots.find cells.now inode path
+        → place_path here ≡ slots.Under path place
         → result ≡ slots.find cells.now inode (slots.Under path place) }
     ensures area { InArea at.now result }
 {

@@ -1,5 +1,6 @@
 -- Where a caller's own entries stand in a history.
-use Rattle.std.proofs.Common.{◌≡◌, ℕ, zero, suc, ◌<◌, Bool, true, false, cond, List, [], ◌∷◌, length, map, filter, Some, refl, ap, ◌∙◌, arith, eqb-true, eq-eqb}
+use Rattle.std.proofs.Common.{◌≡◌, ℕ, zero, suc, ◌<◌, Bool, true, false, cond, List, [], ◌∷◌, length, map, filter, Some}
+use Rattle.std.proofs.Common.{refl, ap, ◌∙◌, arith, eqb-true, eq-eqb}
 use Rattle.std.specs.Prelude.{slice_get}
 use Rattle.nofs_history.specs.Steps.{Made}
 use Rattle.nofs_history.specs.declared.machine.history.Entry1.{Entry1}
@@ -18,14 +19,16 @@ own-entry c [] k m at = absurd (cc at)
 own-entry c (e ∷ es) zero m at = go (is_by c e) refl (λ h. own-entry c es zero m h) at
   where
     go : (b : Bool) → is_by c e ≡ b → (slice_get (steps_by c es) zero ≡ Some m → OwnEntry c es zero m)
-        → slice_get (map done_of (cond b (e ∷ filter (is_by c) es) (filter (is_by c) es))) zero ≡ Some m → OwnEntry c (e ∷ es) zero m
+        → slice_get (map done_of (cond b (e ∷ filter (is_by c) es) (filter (is_by c) es))) zero ≡ Some m
+        → OwnEntry c (e ∷ es) zero m
     go true q more h = record { entry = e; there = rw q refl; own = eqb-true e.caller c q; is = cc h }
     go false q more h = let o = more h in record { entry = o.entry; there = rw q o.there; own = o.own; is = o.is }
 own-entry c (e ∷ es) (suc k) m at = go (is_by c e) refl (λ h. own-entry c es k m h) (λ h. own-entry c es (suc k) m h) at
   where
     go : (b : Bool) → is_by c e ≡ b → (slice_get (steps_by c es) k ≡ Some m → OwnEntry c es k m)
         → (slice_get (steps_by c es) (suc k) ≡ Some m → OwnEntry c es (suc k) m)
-        → slice_get (map done_of (cond b (e ∷ filter (is_by c) es) (filter (is_by c) es))) (suc k) ≡ Some m → OwnEntry c (e ∷ es) (suc k) m
+        → slice_get (map done_of (cond b (e ∷ filter (is_by c) es) (filter (is_by c) es))) (suc k) ≡ Some m
+        → OwnEntry c (e ∷ es) (suc k) m
     go true q here more h = let o = here h in record { entry = o.entry; there = rw q o.there; own = o.own; is = o.is }
     go false q here more h = let o = more h in record { entry = o.entry; there = rw q o.there; own = o.own; is = o.is }
 
@@ -52,20 +55,24 @@ own-step c (x ∷ es) (suc p) e at own = go (is_by c x) refl (own-step c es p e 
     go false q o = record { number = o.number; place = onward o.number q ∙ ap suc o.place; there = rw q o.there }
 
 -- places rise with the numbers of the steps
-pub own-rises : (c : ℕ) (H : List Entry1) (j k : ℕ) → j < k → k < length (steps_by c H) → own_place c H j < own_place c H k
+pub own-rises : (c : ℕ) (H : List Entry1) (j k : ℕ) → j < k → k < length (steps_by c H)
+    → own_place c H j < own_place c H k
 own-rises c [] j k lt within = absurd (omega (arith, within))
 own-rises c (e ∷ es) j zero lt within = absurd (omega (arith, lt))
 own-rises c (e ∷ es) zero (suc k) lt within = go (is_by c e) refl (λ h. own-rises c es zero (suc k) lt h) within
   where
     go : (b : Bool) → is_by c e ≡ b → (suc k < length (steps_by c es) → own_place c es zero < own_place c es (suc k))
-        → suc k < length (map done_of (cond b (e ∷ filter (is_by c) es) (filter (is_by c) es))) → own_place c (e ∷ es) zero < own_place c (e ∷ es) (suc k)
+        → suc k < length (map done_of (cond b (e ∷ filter (is_by c) es) (filter (is_by c) es)))
+        → own_place c (e ∷ es) zero < own_place c (e ∷ es) (suc k)
     go true q more h = rw q (omega arith)
     go false q more h = rw q (let o = more h in omega (arith, o))
 own-rises c (e ∷ es) (suc j) (suc k) lt within =
-    go (is_by c e) refl (λ h. own-rises c es j k (omega (arith, lt)) h) (λ h. own-rises c es (suc j) (suc k) lt h) within
+    go (is_by c e) refl (λ h. own-rises c es j k (omega (arith, lt)) h)
+    (λ h. own-rises c es (suc j) (suc k) lt h) within
   where
     go : (b : Bool) → is_by c e ≡ b → (k < length (steps_by c es) → own_place c es j < own_place c es k)
         → (suc k < length (steps_by c es) → own_place c es (suc j) < own_place c es (suc k))
-        → suc k < length (map done_of (cond b (e ∷ filter (is_by c) es) (filter (is_by c) es))) → own_place c (e ∷ es) (suc j) < own_place c (e ∷ es) (suc k)
+        → suc k < length (map done_of (cond b (e ∷ filter (is_by c) es) (filter (is_by c) es)))
+        → own_place c (e ∷ es) (suc j) < own_place c (e ∷ es) (suc k)
     go true q here more h = rw q (let o = here (omega (arith, h)) in omega (arith, o))
     go false q here more h = rw q (let o = more h in omega (arith, o))

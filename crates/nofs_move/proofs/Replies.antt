@@ -1,13 +1,16 @@
 -- What an entry of a run was answered, and what it gives.
-use Rattle.std.proofs.Common.{◌≡◌, ℕ, ◌/◌, ◌-◌, Bool, true, false, cond, not, ◌||◌, List, Option, Some, None, refl, sym, ap, ◌∙◌, subst}
+use Rattle.std.proofs.Common.{◌≡◌, ℕ, ◌/◌, ◌-◌, Bool, true, false, cond, not, ◌||◌, List, Option, Some, None, refl, sym}
+use Rattle.std.proofs.Common.{ap, ◌∙◌, subst}
 use Rattle.nofs_model.specs.Cells.{BackLink, Entry}
 use Rattle.nofs_model.specs.Image.{Files, FileState, entry_at}
 use Rattle.nofs_model.specs.declared.image.value.Value.{Value}
 use Rattle.nofs_model.specs.declared.image.value.Value.TheVariants.{Hole, Bytes, Lost}
 use Rattle.nofs_history.specs.Search.{least_from}
-use Rattle.nofs_history.specs.Machine.{Given, nothing, gives, found, given_by, is_refused, is_write_fault, may_give, generation_of, link_to, value_of}
+use Rattle.nofs_history.specs.Machine.{Given, nothing, gives, found, given_by, is_refused, is_write_fault, may_give}
+use Rattle.nofs_history.specs.Machine.{generation_of, link_to, value_of}
 use Rattle.nofs_history.specs.Machine.{is_hole, is_lost}
-use Rattle.nofs_history.specs.Answers.{found_file, found_entry, found_reply, dropped_entry, dropped_reply, lines_in_slot, listed_reply, got_reply}
+use Rattle.nofs_history.specs.Answers.{found_file, found_entry, found_reply, dropped_entry, dropped_reply}
+use Rattle.nofs_history.specs.Answers.{lines_in_slot, listed_reply, got_reply}
 use Rattle.nofs_history.specs.Answers.{stat_file, reply_of}
 use Rattle.nofs_history.specs.World.{World}
 use Rattle.nofs_history.specs.Next.{Next}
@@ -65,7 +68,8 @@ told-stat i g F (Some f) = tt
 told-reply : (W : World) (s : Step) (c : Claims) → Told s (reply_of W s c)
 told-reply W (step.Look d g name) c = told-found d g name W.files (found W.files d name)
 told-reply W (step.Drop d g name) c = told-dropped d g name W.files (found W.files d name)
-told-reply W (step.List d g k) c = told-listed d g k W.files (least_from (λ l. not (is_hole (value_of W.files d l))) k (72 - k))
+told-reply W (step.List d g k) c =
+    told-listed d g k W.files (least_from (λ l. not (is_hole (value_of W.files d l))) k (72 - k))
 told-reply W (step.Get i g k) c = told-got i g k (value_of W.files i k)
 told-reply W (step.Stat i g) c = told-stat i g W.files (W.files i)
 told-reply W _ c = tt
@@ -98,14 +102,19 @@ idle-gives F e idle = go (only_looks e.step) refl (is_refused e.reply) refl (is_
     same true = refl
     same false = refl
 
-    go : (a : Bool) → only_looks e.step ≡ a → (b : Bool) → is_refused e.reply ≡ b → (c : Bool) → is_write_fault e.reply ≡ c → given_by F e ≡ nothing
-    go true qa b qb c qc = ap (λ (x : Given). cond (may_give e.reply) x nothing) (looks-give F e.step e.claims qa) ∙ same (may_give e.reply)
-    go false qa true qb false qc = ap (λ b. cond b (gives F e.step e.claims) nothing) (let z : not (is_refused e.reply) || is_write_fault e.reply ≡ false =
+    go : (a : Bool) → only_looks e.step ≡ a → (b : Bool) → is_refused e.reply ≡ b → (c : Bool)
+        → is_write_fault e.reply ≡ c → given_by F e ≡ nothing
+    go true qa b qb c qc = ap (λ (x : Given). cond (may_give e.reply) x nothing) (looks-give F e.step e.claims qa)
+        ∙ same (may_give e.reply)
+    go false qa true qb false qc = ap (λ b. cond b (gives F e.step e.claims) nothing)
+        (let z : not (is_refused e.reply) || is_write_fault e.reply ≡ false =
         rw (qb, qc) refl in z)
     go false qa true qb true qc = absurd (let z : is_idle (done_of e) ≡ false = rw (qa, qb, qc) refl in cc (z, idle))
     go false qa false qb c qc = absurd (let z : is_idle (done_of e) ≡ false = rw (qa, qb) refl in cc (z, idle))
 
-pub idle-keeps : (F : Files) (e : Entry1) → is_idle (done_of e) ≡ true → (d g place : ℕ) (entry : Entry) → KeepsEntry (given_by F e) d g place entry
+pub idle-keeps : (F : Files) (e : Entry1) → is_idle (done_of e) ≡ true → (d g place : ℕ) (entry : Entry)
+    → KeepsEntry (given_by F e) d g place entry
 idle-keeps F e idle d g place entry v h =
-    let z : (given_by F e).slots d g (place / 16) ≡ None = ap (λ (x : Given). x.slots d g (place / 16)) (idle-gives F e idle) in
+    let z : (given_by F e).slots d g (place / 16) ≡ None =
+    ap (λ (x : Given). x.slots d g (place / 16)) (idle-gives F e idle) in
     absurd (cc (z, h))

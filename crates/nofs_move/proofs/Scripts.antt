@@ -1,5 +1,6 @@
 -- The run of each command of a script.
-use Rattle.std.proofs.Common.{◌≡◌, ℕ, zero, suc, List, [], ◌∷◌, ◌++◌, length, Some, refl, sym, ap, ◌∙◌, subst, append_assoc, append-nil}
+use Rattle.std.proofs.Common.{◌≡◌, ℕ, zero, suc, List, [], ◌∷◌, ◌++◌, length, Some, refl, sym, ap, ◌∙◌, subst}
+use Rattle.std.proofs.Common.{append_assoc, append-nil}
 use Rattle.std.specs.Prelude.{slice_get}
 use Rattle.nofs_history.specs.Steps.{Made}
 use Rattle.nofs_history.specs.Callers.{steps_by}
@@ -20,12 +21,15 @@ record Part (commands : List Command) (made : List Made) (k : ℕ) (said : Line)
   there : slice_get commands k ≡ Some asked
   runs : IsCommandRun asked mine said
 
-part-of : (commands : List Command) (made : List Made) (lines : List Line) (k : ℕ) (said : Line) → IsDriven commands made lines
+part-of : (commands : List Command) (made : List Made) (lines : List Line) (k : ℕ) (said : Line)
+    → IsDriven commands made lines
     → slice_get lines k ≡ Some said → Part commands made k said
-part-of [] made lines k said driven h = absurd (let z : slice_get [] k ≡ Some said = ap (λ l. slice_get l k) (sym driven.1) ∙ h in cc z)
+part-of [] made lines k said driven h =
+    absurd (let z : slice_get [] k ≡ Some said = ap (λ l. slice_get l k) (sym driven.1) ∙ h in cc z)
 part-of (x ∷ xs) made lines zero said driven h =
     let (front, back, line, others, parts, said_are, first, rest) = driven in
-    let same : line ≡ said = let z : slice_get (line ∷ others) zero ≡ Some said = ap (λ l. slice_get l zero) (sym said_are) ∙ h in cc z in
+    let same : line ≡ said = let z : slice_get (line ∷ others) zero ≡ Some said =
+    ap (λ l. slice_get l zero) (sym said_are) ∙ h in cc z in
     record {
       front = [];
       mine = front;
@@ -38,7 +42,8 @@ part-of (x ∷ xs) made lines zero said driven h =
     }
 part-of (x ∷ xs) made lines (suc k) said driven h =
     let (front, back, line, others, parts, said_are, first, rest) = driven in
-    let at : slice_get others k ≡ Some said = let z : slice_get (line ∷ others) (suc k) ≡ Some said = ap (λ l. slice_get l (suc k)) (sym said_are) ∙ h in z in
+    let at : slice_get others k ≡ Some said = let z : slice_get (line ∷ others) (suc k) ≡ Some said =
+    ap (λ l. slice_get l (suc k)) (sym said_are) ∙ h in z in
     let t = part-of xs back others k said rest at in
     record {
       front = front ++ t.front;
@@ -60,7 +65,8 @@ pub law-command-run : LawCommandRun
 law-command-run c script H lines partly k asked said h l =
     let t = part-of partly.run partly.front lines k said partly.driven l in
     let same : t.asked ≡ asked = let z : Some t.asked ≡ Some asked =
-    sym (within partly.run partly.left k t.asked t.there) ∙ ap (λ l. slice_get l k) (sym partly.commands_are) ∙ h in cc z in
+    sym (within partly.run partly.left k t.asked t.there)
+    ∙ ap (λ l. slice_get l k) (sym partly.commands_are) ∙ h in cc z in
     let are : steps_by c H ≡ t.front ++ (t.mine ++ (t.back ++ partly.back)) =
     partly.made_are ∙ ap (λ l. l ++ partly.back) t.are ∙ append_assoc t.front (t.mine ++ t.back) partly.back
     ∙ ap (λ l. t.front ++ l) (append_assoc t.mine t.back partly.back) in
@@ -68,7 +74,8 @@ law-command-run c script H lines partly k asked said h l =
     (t.mine, record { front = t.front; back = t.back ++ partly.back; among = are; asked = runs.asked }, runs)
 
 -- as many lines as commands were run
-lines-are : (commands : List Command) (made : List Made) (lines : List Line) → IsDriven commands made lines → length lines ≡ length commands
+lines-are : (commands : List Command) (made : List Made) (lines : List Line) → IsDriven commands made lines
+    → length lines ≡ length commands
 lines-are [] made lines driven = ap length driven.1
 lines-are (x ∷ xs) made lines driven =
     let (front, back, line, others, parts, said_are, first, rest) = driven in
@@ -78,15 +85,18 @@ beyond : (xs ys : List Command) → slice_get (xs ++ ys) (length xs) ≡ slice_g
 beyond [] ys = refl
 beyond (x ∷ xs) ys = beyond xs ys
 
-begun-first : (left : List Command) (made : List Made) (asked : Command) → IsBegun left made → slice_get left zero ≡ Some asked
+begun-first : (left : List Command) (made : List Made) (asked : Command) → IsBegun left made
+    → slice_get left zero ≡ Some asked
     → Asked asked (start_of asked) made
 begun-first [] made asked begun h = cc h
-begun-first (x ∷ xs) made asked begun h = let same : x ≡ asked = cc h in subst (λ y. Asked y (start_of y) made) same begun
+begun-first (x ∷ xs) made asked begun h = let same : x ≡ asked = cc h in
+    subst (λ y. Asked y (start_of y) made) same begun
 
 pub law-command-begun : LawCommandBegun
 law-command-begun c script H lines partly asked h =
     let count = lines-are partly.run partly.front lines partly.driven in
-    let first : slice_get partly.left zero ≡ Some asked = sym (beyond partly.run partly.left) ∙ ap (slice_get (partly.run ++ partly.left)) (sym count)
+    let first : slice_get partly.left zero ≡ Some asked = sym (beyond partly.run partly.left)
+    ∙ ap (slice_get (partly.run ++ partly.left)) (sym count)
     ∙ ap (λ l. slice_get l (length lines)) (sym partly.commands_are) ∙ h in (
       partly.back,
       record {

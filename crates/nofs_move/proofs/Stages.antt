@@ -1,5 +1,6 @@
 -- The steps of a move from each of its stages on.
-use Rattle.std.proofs.Common.{◌≡◌, ◌≢◌, ℕ, zero, suc, ◌<◌, ◌⊎◌, inl, inr, ⊎_elim, true, false, List, [], ◌∷◌, length, Some, refl, sym, ap, ◌∙◌, subst, arith}
+use Rattle.std.proofs.Common.{◌≡◌, ◌≢◌, ℕ, zero, suc, ◌<◌, ◌⊎◌, inl, inr, ⊎_elim, true, false, List, [], ◌∷◌, length}
+use Rattle.std.proofs.Common.{Some, refl, sym, ap, ◌∙◌, subst, arith}
 use Rattle.std.specs.Prelude.{slice_get}
 use Rattle.nofs_history.specs.Machine.{is_refused}
 use Rattle.nofs_history.specs.Steps.{Made}
@@ -51,7 +52,8 @@ told-flush i g (reply.Refused why) told ok = cc ok
 told-flush i g reply.Flushed told ok = refl
 told-flush i g _ told ok = absurd told
 
-pub told-link : (d dg : ℕ) (name : List ℕ) (i g : ℕ) (r : Reply) → Told (step.Link d dg name i g) r → is_refused r ≡ false → r ≡ reply.Linked
+pub told-link : (d dg : ℕ) (name : List ℕ) (i g : ℕ) (r : Reply) → Told (step.Link d dg name i g) r
+    → is_refused r ≡ false → r ≡ reply.Linked
 told-link d dg name i g (reply.Refused why) told ok = cc ok
 told-link d dg name i g reply.Linked told ok = refl
 told-link d dg name i g _ told ok = absurd told
@@ -65,7 +67,8 @@ unlike : (j : ℕ) {k : ℕ} → suc k ≢ suc j → k ≢ j
 unlike j n e = n (ap suc e)
 
 later : (x : Made) (ms : List Made) → is_idle x ≡ true → (P : ℕ → Made → Type 0)
-    → ((k : ℕ) (m : Made) → slice_get ms k ≡ Some m → P (suc k) m → is_idle m ≡ true) → (k : ℕ) (m : Made) → slice_get (x ∷ ms) k ≡ Some m → P k m
+    → ((k : ℕ) (m : Made) → slice_get ms k ≡ Some m → P (suc k) m → is_idle m ≡ true)
+    → (k : ℕ) (m : Made) → slice_get (x ∷ ms) k ≡ Some m → P k m
     → is_idle m ≡ true
 later x ms idle P rest zero m h p = ap is_idle (sym (same-head x m ms h)) ∙ idle
 later x ms idle P rest (suc k) m h p = rest k m h p
@@ -91,12 +94,14 @@ module _ (S : Type 0) (D : Step) where
   pub record Flushing (F : Step) (ms : List Made) : Type 0 where
     pub second : ℕ
     pub drop : ℕ
-    pub ends : ((drop ≡ length ms) × (S → ⊥)) ⊎ ((second < drop) × (slice_get ms second ≡ Some (F, reply.Flushed)) × (r : Reply) ×
+    pub ends : ((drop ≡ length ms) × (S → ⊥))
+        ⊎ ((second < drop) × (slice_get ms second ≡ Some (F, reply.Flushed)) × (r : Reply) ×
         (slice_get ms drop ≡ Some (D, r)))
     pub idle : (k : ℕ) (m : Made) → slice_get ms k ≡ Some m → k ≢ drop → is_idle m ≡ true
 
   pub no-flush : (F : Step) → (S → ⊥) → Flushing F []
-  no-flush F n = record { second = 0; drop = 0; ends = inl (refl, n); idle = λ k m h nd. absurd (none-in [] k m refl h) }
+  no-flush F n =
+      record { second = 0; drop = 0; ends = inl (refl, n); idle = λ k m h nd. absurd (none-in [] k m refl h) }
 
   pub more-flushing : (F : Step) (x : Made) (ms : List Made) → is_idle x ≡ true → Flushing F ms → Flushing F (x ∷ ms)
   more-flushing F x ms idle t = record {
@@ -106,7 +111,8 @@ module _ (S : Type 0) (D : Step) where
     idle = later x ms idle (λ k m. k ≢ suc t.drop) (λ k m h nd. t.idle k m h (unlike t.drop nd));
   }
 
-  pub flushed-dropping : (F : Step) (x : Made) (ms : List Made) → is_idle x ≡ true → x ≡ (F, reply.Flushed) → Dropping ms → Flushing F (x ∷ ms)
+  pub flushed-dropping : (F : Step) (x : Made) (ms : List Made) → is_idle x ≡ true → x ≡ (F, reply.Flushed)
+      → Dropping ms → Flushing F (x ∷ ms)
   flushed-dropping F x ms idle is t = record {
     second = 0;
     drop = suc t.drop;
@@ -120,7 +126,8 @@ module _ (S : Type 0) (D : Step) where
     pub second : ℕ
     pub drop : ℕ
     pub linked : slice_get ms link ≡ Some (L, reply.Linked)
-    pub ends : ((drop ≡ length ms) × (S → ⊥)) ⊎ ((link < second) × (second < drop) × (slice_get ms second ≡ Some (F, reply.Flushed)) × (r : Reply) ×
+    pub ends : ((drop ≡ length ms) × (S → ⊥))
+        ⊎ ((link < second) × (second < drop) × (slice_get ms second ≡ Some (F, reply.Flushed)) × (r : Reply) ×
         (slice_get ms drop ≡ Some (D, r)))
 
   abbrev pub more-links : (F L : Step) (x : Made) (ms : List Made) → Links F L ms → Links F L (x ∷ ms)
@@ -129,16 +136,19 @@ module _ (S : Type 0) (D : Step) where
     second = suc t.second;
     drop = suc t.drop;
     linked = t.linked;
-    ends = ⊎_elim (λ e. inl (omega (arith, e.0), e.1)) (λ r. inr (omega (arith, r.0), omega (arith, r.1), r.2, r.3, r.4)) t.ends;
+    ends = ⊎_elim (λ e. inl (omega (arith, e.0), e.1))
+        (λ r. inr (omega (arith, r.0), omega (arith, r.1), r.2, r.3, r.4)) t.ends;
   }
 
   -- each step beside Link and Drop changed nothing
   abbrev pub AllIdle : List Made → ℕ → ℕ → Type 0
   AllIdle ms link drop = (k : ℕ) (m : Made) → slice_get ms k ≡ Some m → (k ≢ link) × (k ≢ drop) → is_idle m ≡ true
 
-  more-idle : (x : Made) (ms : List Made) (link drop : ℕ) → is_idle x ≡ true → AllIdle ms link drop → AllIdle (x ∷ ms) (suc link) (suc drop)
+  more-idle : (x : Made) (ms : List Made) (link drop : ℕ) → is_idle x ≡ true → AllIdle ms link drop
+      → AllIdle (x ∷ ms) (suc link) (suc drop)
   more-idle x ms link drop idle rest =
-      later x ms idle (λ k m. (k ≢ suc link) × (k ≢ suc drop)) (λ k m h nd. rest k m h (unlike link nd.0, unlike drop nd.1))
+      later x ms idle (λ k m. (k ≢ suc link) × (k ≢ suc drop))
+      (λ k m h nd. rest k m h (unlike link nd.0, unlike drop nd.1))
 
   -- from Link on
   pub record Linking (F L : Step) (ms : List Made) : Type 0 where
@@ -147,16 +157,19 @@ module _ (S : Type 0) (D : Step) where
     pub idle : AllIdle ms link drop
 
   pub more-linking : (F L : Step) (x : Made) (ms : List Made) → is_idle x ≡ true → Linking F L ms → Linking F L (x ∷ ms)
-  more-linking F L x ms idle t = record { links = more-links F L x ms t.links; idle = more-idle x ms t.link t.drop idle t.idle }
+  more-linking F L x ms idle t =
+      record { links = more-links F L x ms t.links; idle = more-idle x ms t.link t.drop idle t.idle }
 
-  pub linked-flushing : (F L : Step) (x : Made) (ms : List Made) → x ≡ (L, reply.Linked) → Flushing F ms → Linking F L (x ∷ ms)
+  pub linked-flushing : (F L : Step) (x : Made) (ms : List Made) → x ≡ (L, reply.Linked) → Flushing F ms
+      → Linking F L (x ∷ ms)
   linked-flushing F L x ms is t = record {
     links = record {
       link = 0;
       second = suc t.second;
       drop = suc t.drop;
       linked = ap Some is;
-      ends = ⊎_elim (λ e. inl (omega (arith, e.0), e.1)) (λ r. inr (omega arith, omega (arith, r.0), r.1, r.2, r.3)) t.ends;
+      ends = ⊎_elim (λ e. inl (omega (arith, e.0), e.1))
+          (λ r. inr (omega arith, omega (arith, r.0), r.1, r.2, r.3)) t.ends;
     };
     idle = at;
   }
@@ -187,11 +200,13 @@ module _ (S : Type 0) (D : Step) where
     pub open moves use *
     pub idle : AllIdle ms link drop
 
-  pub flushed-linking : (F L : Step) (x : Made) (ms : List Made) → is_idle x ≡ true → x ≡ (F, reply.Flushed) → Linking F L ms → Moving F L (x ∷ ms)
+  pub flushed-linking : (F L : Step) (x : Made) (ms : List Made) → is_idle x ≡ true → x ≡ (F, reply.Flushed)
+      → Linking F L ms → Moving F L (x ∷ ms)
   flushed-linking F L x ms idle is t = record {
     moves = record { links = more-links F L x ms t.links; flush = 0; flushed = ap Some is; link_after = omega arith };
     idle = more-idle x ms t.link t.drop idle t.idle;
   }
 
   pub more-moving : (F L : Step) (x : Made) (ms : List Made) → is_idle x ≡ true → Moving F L ms → Moving F L (x ∷ ms)
-  more-moving F L x ms idle t = record { moves = more-moves F L x ms t.moves; idle = more-idle x ms t.link t.drop idle t.idle }
+  more-moving F L x ms idle t =
+      record { moves = more-moves F L x ms t.moves; idle = more-idle x ms t.link t.drop idle t.idle }

@@ -30,8 +30,9 @@ pub record DropMade (made : List Made) (link second drop d dg : ℕ) (name : Lis
   pub answer : Reply
   pub dropped : slice_get made drop ≡ Some (step.Drop d dg name, answer)
 
--- The steps of a move that linked its file, each by its number among them, counted from 0: the Look that found the file (i, g) by its
--- old name in (d, dg), the first flush, the Link of the new name in (d2, dg2), and, where they came, the second flush and Drop
+-- The steps of a move that linked its file, each by its number among them, counted from 0: the Look that found the file
+-- (i, g) by its old name in (d, dg), the first flush, the Link of the new name in (d2, dg2), and, where they came, the
+-- second flush and Drop
 pub record LinkedSteps (from to : Path) (made : List Made) : Type 0 where
   pub d : ℕ
   pub dg : ℕ
@@ -47,10 +48,12 @@ pub record LinkedSteps (from to : Path) (made : List Made) : Type 0 where
   pub drop : ℕ
   pub flush_after : look < flush
   pub link_after : flush < link
-  pub looked : slice_get made look ≡ Some (step.Look d dg (last_name from), reply.Found (record { inode = i; generation = g; kind = kind }))
+  pub looked : slice_get made look
+      ≡ Some (step.Look d dg (last_name from), reply.Found (record { inode = i; generation = g; kind = kind }))
   pub flushed : slice_get made flush ≡ Some (step.Flush i g, reply.Flushed)
   pub linked : slice_get made link ≡ Some (step.Link d2 dg2 (last_name to) i g, reply.Linked)
   -- Drop has not come, and `drop` is past the last step; or it came after the second flush
   pub ends : (drop ≡ length made) ⊎ DropMade made link second drop d dg (last_name from) i g
-  -- each other step after Look changed nothing: a Look of the new path, an examination, a flush, or one that was refused
+  -- each other step after Look changed nothing: a Look of the new path, an examination, a flush, or one that was
+  -- refused
   pub others : (k : ℕ) (m : Made) → look < k → slice_get made k ≡ Some m → k ≢ link → k ≢ drop → is_idle m ≡ true

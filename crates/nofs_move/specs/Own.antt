@@ -13,8 +13,8 @@ own_place c [] k = 0
 own_place c (e ∷ es) zero = if is_by c e then 0 else suc (own_place c es zero)
 own_place c (e ∷ es) (suc k) = suc (own_place c es (if is_by c e then k else suc k))
 
--- One run of a command, to its end or as far as it came: its steps stand one after the other among those that the caller made in
--- the history. Entries of other callers may stand between them
+-- One run of a command, to its end or as far as it came: its steps stand one after the other among those that the
+-- caller made in the history. Entries of other callers may stand between them
 pub record RunBy (c : ℕ) (command : Command) (made : List Made) (H : List Entry1) : Type 0 where
   pub front : List Made
   pub back : List Made

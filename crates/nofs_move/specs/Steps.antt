@@ -29,18 +29,21 @@ LawSteps = (B : Image) (H : HistoryState) (c : ℕ) (from to : Path) (made : Lis
 
 -- And of one that ended with the line `moved` all are: Link was accepted, the second flush succeeded, and Drop came.
 abbrev pub LawMovedSteps : Type 0
-LawMovedSteps = (B : Image) (H : HistoryState) (c : ℕ) (from to : Path) (made : List Made) → IsHistory B H → HasName from
+LawMovedSteps =
+    (B : Image) (H : HistoryState) (c : ℕ) (from to : Path) (made : List Made) → IsHistory B H → HasName from
     → RunBy c (command.Move from to) made H.entries
     → drive_of (command.Move from to) (map made_reply made) ≡ Say line.Moved
     → (s : LinkedSteps from to made) × DropMade made s.link s.second s.drop s.d s.dg (last_name from) s.i s.g
 
 -- Each command of a user's script that was run to its line has its run among the steps that the user made.
 abbrev pub LawCommandRun : Type 0
-LawCommandRun = (c : ℕ) (script : List Command) (H : List Entry1) (lines : List Line) → IsPartlyDriven script (steps_by c H) lines
+LawCommandRun =
+    (c : ℕ) (script : List Command) (H : List Entry1) (lines : List Line) → IsPartlyDriven script (steps_by c H) lines
     → (k : ℕ) (asked : Command) (said : Line) → slice_get script k ≡ Some asked → slice_get lines k ≡ Some said
     → (made : List Made) × RunBy c asked made H × IsCommandRun asked made said
 
 -- So has the command at which the user ended early, where memory was wanting, as far as it came.
 abbrev pub LawCommandBegun : Type 0
-LawCommandBegun = (c : ℕ) (script : List Command) (H : List Entry1) (lines : List Line) → IsPartlyDriven script (steps_by c H) lines
+LawCommandBegun =
+    (c : ℕ) (script : List Command) (H : List Entry1) (lines : List Line) → IsPartlyDriven script (steps_by c H) lines
     → (asked : Command) → slice_get script (length lines) ≡ Some asked → (made : List Made) × RunBy c asked made H

@@ -34,7 +34,8 @@ pub fn move_file<S: Steps>(
 ) -> Result<Line, AllocError>
     requires from { HasName from.now }
     requires to { HasName to.now }
-    ensures ran { IfOk result (RunsTo (command.Move from.now to.now) (S.made client.old.steps) (S.made client.new.steps)) }
+    ensures ran { IfOk result
+        (RunsTo (command.Move from.now to.now) (S.made client.old.steps) (S.made client.new.steps)) }
     ensures partly { RunsPartly (command.Move from.now to.now) (S.made client.old.steps) (S.made client.new.steps) }
     ensures goes { S.goes client.old.steps client.new.steps }
 {

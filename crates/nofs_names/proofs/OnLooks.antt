@@ -1,5 +1,6 @@
 -- What Look answers.
-use Rattle.std.proofs.Common.{◌≡◌, ℕ, Bool, true, false, cond, ◌&&◌, not, eqb, is_some, option_map, List, [], ◌∷◌, ◌++◌, Option, Some, None, IsTrue, Result, Ok}
+use Rattle.std.proofs.Common.{◌≡◌, ℕ, Bool, true, false, cond, ◌&&◌, not, eqb, is_some, option_map, List, [], ◌∷◌, ◌++◌}
+use Rattle.std.proofs.Common.{Option, Some, None, IsTrue, Result, Ok}
 use Rattle.std.proofs.Common.{Err, IfErr, refl, sym, ap, ◌∙◌, subst}
 use Rattle.nofs_disk.specs.Disk.{DiskState, IsDisk}
 use Rattle.nofs_disk.specs.Chains.{StaysButFaults-refl, StaysButFaults-trans}
@@ -38,26 +39,38 @@ use Rattle.nofs_names.proofs.OnSteps.Parts.{first-left, first-right, goes-fails,
 pub look-reads : (d g : ℕ) (name : List ℕ) → IsReading (step.Look d g name)
 unfolding gives
 look-reads d g name =
-    record { no_inode = refl; no_block = λ F. refl; gives = λ F. refl; no_slot = λ F. refl; sees_no_inode = λ j. refl; sees_no_block = λ p. refl }
+    record {
+      no_inode = refl;
+      no_block = λ F. refl;
+      gives = λ F. refl;
+      no_slot = λ F. refl;
+      sees_no_inode = λ j. refl;
+      sees_no_block = λ p. refl;
+    }
 
 -- a name that is missing is so after reads
 pub missing-late : (W : World) (d : ℕ) (name : List ℕ) → IsLate (missing W d name)
-missing-late W d name why e = go (is_some (found W.files d name)) (first_dead W.files d name) (first_lost_slot W.files d) e
+missing-late W d name why e =
+    go (is_some (found W.files d name)) (first_dead W.files d name) (first_lost_slot W.files d) e
   where
     go : (b : Bool) (x y : Option ℕ)
-        → cond b None (first_of (option_map refusal.LostEntry x ∷ option_map refusal.LostSlot y ∷ Some refusal.Missing ∷ [])) ≡ Some why
+        → cond b None (first_of (option_map refusal.LostEntry x ∷ option_map refusal.LostSlot y ∷ Some refusal.Missing
+        ∷ [])) ≡ Some why
         → reads_nothing why ≡ false
     go true x y h = cc h
     go false (Some x) y h = ap reads_nothing (let q : why ≡ refusal.LostEntry x = cc h in q)
     go false None (Some y) h = ap reads_nothing (let q : why ≡ refusal.LostSlot y = cc h in q)
     go false None None h = ap reads_nothing (let q : why ≡ refusal.Missing = cc h in q)
 
-module _ (old : DiskState) (k : Books) (d g : ℕ) (name : List ℕ) (is : IsDisk old) (safe : IsSafe old k) (going : k.stopped ≡ false) where
+module _ (old : DiskState) (k : Books) (d g : ℕ) (name : List ℕ) (is : IsDisk old) (safe : IsSafe old k)
+    (going : k.stopped ≡ false) where
   pub look-bad : is_name name ≡ false → Goes old k old k (step.Look d g name) no_claims (reply.Refused refusal.BadName)
-  look-bad bad = goes-row old old k (step.Look d g name) is safe (StaysButFaults-refl old) refusal.BadName refl tt going (λ tells H p o. rw bad refl)
+  look-bad bad = goes-row old old k (step.Look d g name) is safe (StaysButFaults-refl old) refusal.BadName refl tt going
+      (λ tells H p o. rw bad refl)
 
   module _ (ok : is_name name ≡ true) where
-    rows-are : (W : World) → first_of (rows W W (step.Look d g name)) ≡ first_of (directory_rows d g W ++ missing_rows d name W)
+    rows-are : (W : World)
+        → first_of (rows W W (step.Look d g name)) ≡ first_of (directory_rows d g W ++ missing_rows d name W)
     rows-are W = rw ok refl
 
     look-late : (W : World) → IsLate (first_of (rows W W (step.Look d g name)))
@@ -66,41 +79,58 @@ module _ (old : DiskState) (k : Books) (d g : ℕ) (name : List ℕ) (is : IsDis
       (late-row (not (is_folder_at W.files d)) refusal.NotDirectory refl, (missing-late W d name, tt)),
     ) why (sym (rows-are W) ∙ e)
 
-    pub look-unopened : (mid : DiskState) (last : LastRead) (res : Result Record Refusal) (why : Refusal) → OpensDirectory old mid k d g last res
+    pub look-unopened : (mid : DiskState) (last : LastRead) (res : Result Record Refusal) (why : Refusal)
+        → OpensDirectory old mid k d g last res
         → res ≡ Err why → Goes old k mid k (step.Look d g name) no_claims (reply.Refused why)
-    look-unopened mid last res why opens e = goes-fails old mid k (step.Look d g name) (directory_rows d g) why is safe going opens.stays
-        (subst (λ (r : Result Record Refusal). IfErr r (Fails old mid (KnownTrue k) (directory_rows d g))) e opens.refused)
-        (λ t H p o q. rows-are p.world ∙ first-left (directory_rows d g p.world) (missing_rows d name p.world) why q) look-late
+    look-unopened mid last res why opens e =
+        goes-fails old mid k (step.Look d g name) (directory_rows d g) why is safe going opens.stays
+        (subst (λ (r : Result Record Refusal). IfErr r (Fails old mid (KnownTrue k) (directory_rows d g)))
+        e opens.refused)
+        (λ t H p o q. rows-are p.world
+        ∙ first-left (directory_rows d g p.world) (missing_rows d name p.world) why q) look-late
 
-    module _ (mid new : DiskState) (last names records : LastRead) (r : Record) (opens : OpensDirectory old mid k d g last (Ok r)) where
-      none-before : IsTrue old.tells → (H : List Entry1) (p : Past) → IsOpen old k H p → first_of (directory_rows d g p.world) ≡ None
+    module _ (mid new : DiskState) (last names records : LastRead) (r : Record)
+        (opens : OpensDirectory old mid k d g last (Ok r)) where
+      none-before : IsTrue old.tells → (H : List Entry1) (p : Past) → IsOpen old k H p
+          → first_of (directory_rows d g p.world) ≡ None
       none-before t H p o = opens.passes t (are-agreed old k H p safe o) p.world (open-files old k H p o)
 
-      pub look-missing : (res : Result Paired Refusal) (why : Refusal) → FindsPair mid new k.at d name names records res → res ≡ Err why
+      pub look-missing : (res : Result Paired Refusal) (why : Refusal)
+          → FindsPair mid new k.at d name names records res → res ≡ Err why
           → Goes old k new k (step.Look d g name) no_claims (reply.Refused why)
       look-missing res why finds e = goes-fails old new k (step.Look d g name) (missing_rows d name) why is safe going
           (StaysButFaults-trans old mid new opens.stays finds.stays)
           (opened-fails old mid new k d (missing_rows d name) res why opens.stays opens.there e finds.refused)
-          (λ t H p o q. rows-are p.world ∙ first-right (directory_rows d g p.world) (missing_rows d name p.world) (none-before t H p o) ∙ q) look-late
+          (λ t H p o q. rows-are p.world
+          ∙ first-right (directory_rows d g p.world) (missing_rows d name p.world) (none-before t H p o) ∙ q) look-late
 
       pub look-found : (it : Paired) → FindsPair mid new k.at d name names records (Ok it)
-          → Goes old k new k (step.Look d g name) no_claims (reply.Found (record { inode = it.inode; generation = it.record.generation; kind = it.kind }))
-      look-found it finds = goes-answer old new k (step.Look d g name) is safe (StaysButFaults-trans old mid new opens.stays finds.stays)
-          (reply.Found (record { inode = it.inode; generation = it.record.generation; kind = it.kind })) refl refl (look-reads d g name) going
+          → Goes old k new k (step.Look d g name) no_claims
+          (reply.Found (record { inode = it.inode; generation = it.record.generation; kind = it.kind }))
+      look-found it finds =
+          goes-answer old new k (step.Look d g name) is safe (StaysButFaults-trans old mid new opens.stays finds.stays)
+          (reply.Found (record { inode = it.inode; generation = it.record.generation; kind = it.kind })) refl refl
+          (look-reads d g name) going
           (λ t H p o.
           let match = open-files old k H p o in
           let there = opens.there t (are-agreed old k H p safe o) in
           let f : IsFoundEntry p.world.files old.now d name it =
-          subst (λ (X : Image). IsThere d X → FilesMatch p.world.files X → IsFoundEntry p.world.files X d name it) opens.stays.cells.now
+          subst (λ (X : Image). IsThere d X → FilesMatch p.world.files X
+          → IsFoundEntry p.world.files X d name it) opens.stays.cells.now
           (λ a m. finds.found (told-on old mid opens.stays t) a p.world.files m) there match in
-          let m = matched-agreed p.world.files old.now it.inode match (agreed-live old.now it.inode f.pair.agreed) f.pair.agreed in
-          let rec : inode old.now it.inode ≡ it.record = record-of old new k.at it.inode it.record (StaysButFaults-trans old mid new opens.stays finds.stays)
+          let m = matched-agreed p.world.files old.now it.inode match
+          (agreed-live old.now it.inode f.pair.agreed) f.pair.agreed in
+          let rec : inode old.now it.inode ≡ it.record =
+          record-of old new k.at it.inode it.record (StaysButFaults-trans old mid new opens.stays finds.stays)
           finds.known.0 t in
           let gen : m.file.generation ≡ it.record.generation = m.generation ∙ ap (λ (q : Record). q.generation) rec in
-          let kind : m.file.kind ≡ it.kind = cc (sym (kind-of p.world.files old.now it.inode m.file match f.pair.agreed m.is)
+          let kind : m.file.kind ≡ it.kind =
+          cc (sym (kind-of p.world.files old.now it.inode m.file match f.pair.agreed m.is)
           ∙ ap (λ (q : Record). q.kind) rec ∙ finds.known.1) in
           let file : p.world.files f.pair.entry.inode ≡ Some m.file = ap p.world.files f.pair.names ∙ m.is in (
-            rows-are p.world ∙ first-right (directory_rows d g p.world) (missing_rows d name p.world) (none-before t H p o) ∙ (let s = f.found in rw s refl),
+            rows-are p.world ∙ first-right (directory_rows d g p.world) (missing_rows d name p.world)
+                (none-before t H p o) ∙ (let s = f.found in rw s refl),
             (λ j. reply.Found (record { inode = sym f.pair.names j; generation = sym gen j; kind = sym kind j }))
-                ∙ sym (ap (found_reply p.world.files d) f.found ∙ ap (found_entry p.world.files) f.pair.at ∙ ap (found_file f.pair.entry.inode) file),
+                ∙ sym (ap (found_reply p.world.files d) f.found ∙ ap (found_entry p.world.files) f.pair.at
+                ∙ ap (found_file f.pair.entry.inode) file),
           ))

@@ -1,5 +1,6 @@
 -- What Link asks of its parts.
-use Rattle.std.specs.Prelude.{◌≡◌, ℕ, ◌/◌, ◌<◌, Bool, true, not, List, [], ◌∷◌, ◌++◌, Option, Some, None, IsTrue, Result, Ok, Err, IfOk, IfErr, IfSome, OnOk}
+use Rattle.std.specs.Prelude.{◌≡◌, ℕ, ◌/◌, ◌<◌, Bool, true, not, List, [], ◌∷◌, ◌++◌, Option, Some, None, IsTrue}
+use Rattle.std.specs.Prelude.{Result, Ok, Err, IfOk, IfErr, IfSome, OnOk}
 use Rattle.std.specs.Prelude.{OnErr, slice_set}
 use Rattle.nofs_disk.specs.Disk.{DiskState, StaysButFaults, Rose}
 use Rattle.nofs_disk.specs.declared.Failed.{Failed}
@@ -13,7 +14,8 @@ use Rattle.nofs_history.specs.Machine.{link_place, place_for}
 use Rattle.nofs_history.specs.Search.{first_of}
 use Rattle.nofs_history.specs.Machine as machine
 use Rattle.nofs_history.specs.World.{World}
-use Rattle.nofs_history.specs.Refusals.{directory_full, full, is_directory, not_directory, rows, serials_spent, stale, too_many_links}
+use Rattle.nofs_history.specs.Refusals.{directory_full, full, is_directory, not_directory, rows, serials_spent, stale}
+use Rattle.nofs_history.specs.Refusals.{too_many_links}
 use Rattle.nofs_history.specs.History.{FilesMatch}
 use Rattle.nofs_history.specs.declared.machine.history.Entry1.{Entry1}
 use Rattle.nofs_history.specs.declared.machine.steps.Step.{Step}
@@ -71,7 +73,8 @@ both_as kind.Directory kind.File d f = Ok (record { directory = d; file = f })
 abbrev pub dead_place : Image → ℕ → List BackLink → Option ℕ
 dead_place X i links = machine.place_for_link (λ link. not (is_agreed_link (files_in X) i link)) links 0
 
-pub record TellsDeadPlace (old new : DiskState) (known : List (Option Bool)) (i : ℕ) (r : Record) (last : LastRead) (result : Result (Option ℕ) Failed)
+pub record TellsDeadPlace (old new : DiskState) (known : List (Option Bool)) (i : ℕ) (r : Record) (last : LastRead)
+    (result : Result (Option ℕ) Failed)
     : Type 0 where
   pub stays : StaysButFaults old new
   pub range : IfOk result (λ o. IfSome o (λ b. b < 4))
@@ -90,10 +93,12 @@ IsKnown known i X = AreTrue X known × IsThere i X
 abbrev pub many_rows : ℕ → World → List (Option Refusal)
 many_rows i W = too_many_links W i ∷ []
 
-pub record FindsLinkPlace (old new : DiskState) (known : List (Option Bool)) (i : ℕ) (last : LastRead) (result : Result ℕ Refusal) : Type 0 where
+pub record FindsLinkPlace (old new : DiskState) (known : List (Option Bool)) (i : ℕ) (last : LastRead)
+    (result : Result ℕ Refusal) : Type 0 where
   pub stays : StaysButFaults old new
   pub range : IfOk result (λ b. b < 4)
-  pub found : IfOk result (λ b. IsTrue old.tells → IsKnown known i old.now → (F : Files) → FilesMatch F old.now → link_place F i ≡ Some b)
+  pub found : IfOk result
+      (λ b. IsTrue old.tells → IsKnown known i old.now → (F : Files) → FilesMatch F old.now → link_place F i ≡ Some b)
   pub kept : OnOk result (IsLast new last)
   pub refused : IfErr result (Fails old new (IsKnown known i) (many_rows i))
 
@@ -105,7 +110,8 @@ with_link r b link = record r { links = slice_set r.links b link }
 
 -- no row before these refuses
 abbrev pub Leads : DiskState → Books → Step → (World → World → List (Option Refusal)) → Type 0
-Leads d k s rest = IsTrue d.tells → (H : List Entry1) (p : Past) → IsOpen d k H p → (V : World) → first_of (rows p.world V s) ≡ first_of (rest p.world V)
+Leads d k s rest = IsTrue d.tells → (H : List Entry1) (p : Past) → IsOpen d k H p
+    → (V : World) → first_of (rows p.world V s) ≡ first_of (rest p.world V)
 
 -- the rows of blocks and stamps, those of a new entry before them, and those of its name and the back link
 abbrev pub block_rows : Step → World → World → List (Option Refusal)
@@ -128,7 +134,8 @@ pub record StandsLink (d : DiskState) (k : Books) (i g : ℕ) (name : List ℕ) 
 
 -- the places of the entry and of the back link
 abbrev pub PlaceIs : DiskState → Books → ℕ → List ℕ → ℕ → Type 0
-PlaceIs d k i name e = IsTrue d.tells → (H : List Entry1) (p : Past) → IsOpen d k H p → place_for p.world.files i name ≡ Some e
+PlaceIs d k i name e = IsTrue d.tells → (H : List Entry1) (p : Past) → IsOpen d k H p
+    → place_for p.world.files i name ≡ Some e
 
 abbrev pub SpotIs : DiskState → Books → ℕ → ℕ → Type 0
 SpotIs d k j b = IsTrue d.tells → (H : List Entry1) (p : Past) → IsOpen d k H p → link_place p.world.files j ≡ Some b
@@ -154,7 +161,8 @@ pub record HasPlaces (d : DiskState) (k : Books) (new : NewName) (b e : ℕ) : T
   pub link : b < 4
 
 -- what Link knows before it writes
-pub record MayLink (b : DiskState) (k : Books) (d g : ℕ) (both : Both) (p : EntryPlace) (it : Entry) (spot : ℕ) : Type 0 where
+pub record MayLink (b : DiskState) (k : Books) (d g : ℕ) (both : Both) (p : EntryPlace) (it : Entry)
+    (spot : ℕ) : Type 0 where
   pub known : AreBoth b k.at d g it.inode it.generation both
   pub there : IsTrue b.tells → KnownTrue k b.now → IsThere d b.now × IsThere it.inode b.now
   pub place : PlaceIs b k d it.name p.entry

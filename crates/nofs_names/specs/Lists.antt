@@ -1,5 +1,6 @@
 -- What List answers.
-use Rattle.std.specs.Prelude.{◌≡◌, ℕ, ◌≤◌, ◌<◌, true, false, List, length, All, Option, Some, None, IsTrue, Result, Ok, Err, IfOk, IfErr, IfSome, OnOk}
+use Rattle.std.specs.Prelude.{◌≡◌, ℕ, ◌≤◌, ◌<◌, true, false, List, length, All, Option, Some, None, IsTrue, Result, Ok}
+use Rattle.std.specs.Prelude.{Err, IfOk, IfErr, IfSome, OnOk}
 use Rattle.std.specs.Prelude.{OnErr}
 use Rattle.nofs_disk.specs.declared.Failed.{Failed}
 use Rattle.nofs_disk.specs.Disk.{DiskState, StaysButFaults, Rose}
@@ -52,7 +53,8 @@ InDirectory (found.Holds k) = k < 72
 InDirectory (found.Lost k) = k < 72
 InDirectory found.NoMore = Unit {0}
 
-pub record FindsListed (old new : DiskState) (d from : ℕ) (last : LastRead) (result : Result ListedSlot Failed) : Type 0 where
+pub record FindsListed (old new : DiskState) (d from : ℕ) (last : LastRead)
+    (result : Result ListedSlot Failed) : Type 0 where
   pub stays : StaysButFaults old new
   pub range : IfOk result InDirectory
   pub found : IfOk result (λ s. IsTrue old.tells → IsListedSlot old.now d from last s)
@@ -66,9 +68,11 @@ line_with it (Some k) = record { name = it.name; kind = k; dead = false }
 
 abbrev pub name_line_in : Image → BackLink → Option Entry → Option NameLine
 name_line_in X link None = None
-name_line_in X link (Some it) = Some (line_with it (paired_kind (inode X it.inode) (record { inode = it.inode; generation = it.generation }) link))
+name_line_in X link (Some it) =
+    Some (line_with it (paired_kind (inode X it.inode) (record { inode = it.inode; generation = it.generation }) link))
 
-pub record ReadsLine (old new : DiskState) (link : BackLink) (payload : List ℕ) (place : ℕ) (last : LastRead) (result : Result (Option NameLine) Refusal)
+pub record ReadsLine (old new : DiskState) (link : BackLink) (payload : List ℕ) (place : ℕ) (last : LastRead)
+    (result : Result (Option NameLine) Refusal)
     : Type 0 where
   pub stays : StaysButFaults old new
   pub line : IfOk result (λ l. IsTrue old.tells → l ≡ name_line_in old.now link (entry_in payload place))
@@ -78,7 +82,8 @@ pub record ReadsLine (old new : DiskState) (link : BackLink) (payload : List ℕ
 
 pub record ReadsLines (old new : DiskState) (d slot : ℕ) (result : Result (List NameLine) Refusal) : Type 0 where
   pub stays : StaysButFaults old new
-  pub lines : IfOk result (λ ls. IsTrue old.tells → IsThere d old.now → (F : Files) → FilesMatch F old.now → ls ≡ lines_in_slot F d slot)
+  pub lines : IfOk result
+      (λ ls. IsTrue old.tells → IsThere d old.now → (F : Files) → FilesMatch F old.now → ls ≡ lines_in_slot F d slot)
   pub few : IfOk result (λ ls. length ls ≤ 16)
   pub named : IfOk result (All (λ line. IsTrue (is_name line.name)))
   pub refused : IfErr result (MarkFails old new)

@@ -1,5 +1,6 @@
 -- What Make asks of its parts, and answers.
-use Rattle.std.specs.Prelude.{◌≡◌, ℕ, ◌⊎◌, ◌+◌, ◌-◌, ◌/◌, ◌^◌, ◌<◌, ◌≤◌, ◌||◌, nat_lt, Bool, true, false, List, [], ◌∷◌, length, Option, Some, IsTrue, Result}
+use Rattle.std.specs.Prelude.{◌≡◌, ℕ, ◌⊎◌, ◌+◌, ◌-◌, ◌/◌, ◌^◌, ◌<◌, ◌≤◌, ◌||◌, nat_lt, Bool, true, false, List, [], ◌∷◌}
+use Rattle.std.specs.Prelude.{length, Option, Some, IsTrue, Result}
 use Rattle.std.specs.Prelude.{Ok, Err, IfOk, IfErr, OnOk}
 use Rattle.nofs_dirent.specs.Entries.{entry_limit}
 use Rattle.nofs_bits.specs.Bits.{NoneSet, count_set, is_set}
@@ -33,7 +34,8 @@ use Rattle.nofs_names.specs.declared.makes.new_file.NewFile.{NewFile}
 
 -- the record of a new inode
 abbrev pub made_record : FileKind → ℕ → BackLink → Record
-made_record kind g link = record free_record { generation = g; kind = Some kind; links = link ∷ link_to 0 0 0 ∷ link_to 0 0 0 ∷ link_to 0 0 0 ∷ [] }
+made_record kind g link = record free_record
+    { generation = g; kind = Some kind; links = link ∷ link_to 0 0 0 ∷ link_to 0 0 0 ∷ link_to 0 0 0 ∷ [] }
 
 -- the next stamp is not 0
 abbrev pub is_raised : Books → Bool
@@ -46,7 +48,8 @@ AreInodesFull k why = (next : ℕ) × (why ≡ refusal.InodesFull (count_set k.u
 
 -- why no inode is claimed: none is known to be free, or the mount was not raised
 abbrev pub NoInode : Books → Refusal → Type 0
-NoInode k why = (AreInodesFull k why × NoneSet k.free_inodes 0 (length k.free_inodes)) ⊎ ((why ≡ refusal.SerialsSpent) × (is_raised k ≡ false))
+NoInode k why = (AreInodesFull k why × NoneSet k.free_inodes 0 (length k.free_inodes))
+    ⊎ ((why ≡ refusal.SerialsSpent) × (is_raised k ≡ false))
 
 pub record FindsInode (k : Books) (result : Result ℕ Refusal) : Type 0 where
   pub above : IfOk result (λ i. 1 ≤ i)
@@ -87,7 +90,8 @@ RoomLeft d k i g name kind = IsTrue d.tells → (H : List Entry1) (p : Past) →
     → first_of (rows p.world V (step.Make i g name kind)) ≡ first_of (block_rows (step.Make i g name kind) p.world V)
 
 -- what a Make stands on when it claims this inode, and an entry in this place
-pub record MayMake (d : DiskState) (k : Books) (i g : ℕ) (name : List ℕ) (r : Record) (p : EntryPlace) (made : ℕ) : Type 0 where
+pub record MayMake (d : DiskState) (k : Books) (i g : ℕ) (name : List ℕ) (r : Record) (p : EntryPlace)
+    (made : ℕ) : Type 0 where
   pub directory : KnowsDirectory d k.at i r.generation r
   pub generation : r.generation ≡ g
   pub there : IsTrue d.tells → KnownTrue k d.now → IsThere i d.now

@@ -131,7 +131,8 @@ fn read_lines<D: Disk>(
 ) -> Result<NameList, Refusal>
     requires directory { KnowsFolder (D.state disk.old) directory }
     requires slot { slot < 72 }
-    requires cell { IsTrue (D.state disk.old).tells → value (D.state disk.old).now directory.inode slot ≡ Bytes payload.now }
+    requires cell { IsTrue (D.state disk.old).tells
+        → value (D.state disk.old).now directory.inode slot ≡ Bytes payload.now }
     ensures { ReadsLines (D.state disk.old) (D.state disk.new) directory.inode slot result }
 {
     let mut lines = NameList::new(alloc);

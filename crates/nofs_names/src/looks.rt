@@ -16,7 +16,8 @@ pub fn look<D: Disk + Drop>(
     name: &[u8],
 ) -> Result<Found, Refusal>
     requires { IsSafe (D.state core.old.disk) core.old.books }
-    ensures { LookGoes (D.state core.old.disk) core.old.books (D.state core.new.disk) core.new.books directory generation name.now result }
+    ensures { LookGoes (D.state core.old.disk) core.old.books
+        (D.state core.new.disk) core.new.books directory generation name.now result }
 {
     let at = NameIn {
         directory,

@@ -52,7 +52,8 @@ fn rename_with_room<D: Disk + Drop>(
 ) -> Result<(), Refusal>
     requires safe { IsSafe (D.state core.old.disk) core.old.books }
     requires spare { 1 ≤ (D.state core.old.disk).spare }
-    ensures { RenameGoes (D.state core.old.disk) core.old.books (D.state core.new.disk) core.new.books at.entry new.now result }
+    ensures { RenameGoes (D.state core.old.disk) core.old.books
+        (D.state core.new.disk) core.new.books at.entry new.now result }
 {
     if core.books.stopped {
         return Err(Refusal::Stopped);
@@ -99,7 +100,8 @@ fn rename_found<D: Disk + Drop>(
     requires spare { 1 ≤ (D.state core.old.disk).spare }
     requires going { core.old.books.stopped ≡ false }
     requires last { IsLast (D.state core.old.disk) names.old }
-    ensures { RenameGoes (D.state core.old.disk) core.old.books (D.state core.new.disk) core.new.books pair.entry.at new.now result }
+    ensures { RenameGoes (D.state core.old.disk) core.old.books
+        (D.state core.new.disk) core.new.books pair.entry.at new.now result }
 {
     let found = &pair.found;
     let directory = ReadInode {

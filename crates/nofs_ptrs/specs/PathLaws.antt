@@ -1,8 +1,10 @@
 -- A slot has one place, and a place one slot.
-use Rattle.std.proofs.Common.{◌≡◌, ℕ, ◌+◌, ◌-◌, ◌*◌, ◌/◌, ◌%◌, ◌^◌, ◌<◌, ◌≤◌, ◌⊎◌, inl, inr, true, refl, ap, ap₂, ◌∙◌, arith, eqb-true, leb-true, lt-ltb}
+use Rattle.std.proofs.Common.{◌≡◌, ℕ, ◌+◌, ◌-◌, ◌*◌, ◌/◌, ◌%◌, ◌^◌, ◌<◌, ◌≤◌, ◌⊎◌, inl, inr, true, refl, ap, ap₂, ◌∙◌}
+use Rattle.std.proofs.Common.{arith, eqb-true, leb-true, lt-ltb}
 use Rattle.std.proofs.Common.{le-ltb}
 use Rattle.std.proofs.lemmas.Bool.{cases_lt, false≢true}
-use Rattle.nofs_ptrs.specs.Paths.{Path, InRecord, Under, leaf, child, path_of, slot_of, is_pointer_slot, IsSlot, slot_limit}
+use Rattle.nofs_ptrs.specs.Paths.{Path, InRecord, Under, leaf, child, path_of, slot_of, is_pointer_slot, IsSlot}
+use Rattle.nofs_ptrs.specs.Paths.{slot_limit}
 
 pub path-direct : (k : ℕ) → k < 8 → path_of k ≡ InRecord k
 unfolding path_of
@@ -18,11 +20,13 @@ path-far k l h = rw (le-ltb k 8 (omega arith), le-ltb k 72 l, lt-ltb k slot_limi
 
 path-record : (k : ℕ) → slot_limit ≤ k → k < 2 ^ 32 + 2 → path_of k ≡ InRecord (8 + (k - 2 ^ 32))
 unfolding path_of
-path-record k l h = rw (le-ltb k 8 (omega arith), le-ltb k 72 (omega arith), le-ltb k slot_limit l, lt-ltb k (2 ^ 32 + 2) h)
+path-record k l h =
+    rw (le-ltb k 8 (omega arith), le-ltb k 72 (omega arith), le-ltb k slot_limit l, lt-ltb k (2 ^ 32 + 2) h)
 
 path-child : (k : ℕ) → 2 ^ 32 + 2 ≤ k → path_of k ≡ child (k - (2 ^ 32 + 2))
 unfolding path_of
-path-child k l = rw (le-ltb k 8 (omega arith), le-ltb k 72 (omega arith), le-ltb k slot_limit (omega arith), le-ltb k (2 ^ 32 + 2) l)
+path-child k l =
+    rw (le-ltb k 8 (omega arith), le-ltb k 72 (omega arith), le-ltb k slot_limit (omega arith), le-ltb k (2 ^ 32 + 2) l)
 
 record-slot : (n : ℕ) → n < 10 → path_of (slot_of (InRecord n)) ≡ InRecord n
 unfolding slot_of
@@ -39,9 +43,11 @@ child-slot : (n j : ℕ) → n ≡ 9 → j < 64 → path_of (slot_of (Under (InR
 unfolding slot_of
 child-slot n j e h = rw e (path-child (2 ^ 32 + 2 + j) (omega arith) ∙ ap child (omega arith))
 
-far-slot : (a : Path) (j q : ℕ) → a ≡ InRecord 9 → j < 64 → q < 64 → path_of (slot_of (Under (Under a j) q)) ≡ Under (Under a j) q
+far-slot : (a : Path) (j q : ℕ) → a ≡ InRecord 9
+    → j < 64 → q < 64 → path_of (slot_of (Under (Under a j) q)) ≡ Under (Under a j) q
 unfolding slot_of
-far-slot a j q e h l = rw e (path-far (72 + 64 * j + q) (omega arith) (omega arith) ∙ ap₂ (λ (x y : ℕ). Under (child x) y) (omega arith) (omega arith))
+far-slot a j q e h l = rw e (path-far (72 + 64 * j + q) (omega arith) (omega arith)
+    ∙ ap₂ (λ (x y : ℕ). Under (child x) y) (omega arith) (omega arith))
 
 pointer-record : (n : ℕ) → n < 10 → is_pointer_slot (InRecord n) ≡ true → (n ≡ 8) ⊎ (n ≡ 9)
 pointer-record n h e = let le : 8 ≤ n = leb-true 8 n e in grind arith
@@ -53,7 +59,8 @@ path_of-slot_of (Under (InRecord n) j) h = elim (pointer-record n h.2 h.0) [
   | inl e ↦ leaf-slot n j e h.1
   | inr e ↦ child-slot n j e h.1
 ]
-path_of-slot_of (Under (Under (InRecord n) j) q) h = far-slot (InRecord n) j q (ap InRecord (eqb-true n 9 h.0)) h.2.1 h.1
+path_of-slot_of (Under (Under (InRecord n) j) q) h =
+    far-slot (InRecord n) j q (ap InRecord (eqb-true n 9 h.0)) h.2.1 h.1
 path_of-slot_of (Under (Under (Under a i) j) q) h = absurd (false≢true h.0)
 
 -- the place of a slot of content leads back to its number

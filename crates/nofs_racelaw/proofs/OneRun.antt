@@ -23,7 +23,8 @@ kept : (W V : World) → Keeps W V → SameState W V
 kept W V k = record { blocks = k.blocks; inodes = k.inodes; files = k.files; homes = k.homes }
 
 -- a refused step keeps all, and an accepted one is done
-cases-of : (W : World) (e : Entry1) (V : World) → Next W e V → ((is_refused e.reply ≡ true) × SameState W V) ⊎ IsDone W e V
+cases-of : (W : World) (e : Entry1) (V : World) → Next W e V
+    → ((is_refused e.reply ≡ true) × SameState W V) ⊎ IsDone W e V
 cases-of W e V (AfterFault s r c same) = inl (
   ap is_refused r,
   record {
@@ -50,7 +51,8 @@ cases-of W e V (ByWrite s f m r c k st l) = inl (ap is_refused r, kept W V k)
 same-next : (U W V X : World) (e : Entry1) → SameState U W → Next U e V → Next W e X → SameState V X
 same-next U W V X e s n m = go (cases-of U e V n) (cases-of W e X m)
   where
-    go : ((is_refused e.reply ≡ true) × SameState U V) ⊎ IsDone U e V → ((is_refused e.reply ≡ true) × SameState W X) ⊎ IsDone W e X → SameState V X
+    go : ((is_refused e.reply ≡ true) × SameState U V) ⊎ IsDone U e V
+        → ((is_refused e.reply ≡ true) × SameState W X) ⊎ IsDone W e X → SameState V X
     go (inl a) (inl b) = record {
       blocks = b.1.blocks ∙ s.blocks ∙ sym a.1.blocks;
       inodes = b.1.inodes ∙ s.inodes ∙ sym a.1.inodes;
@@ -61,7 +63,8 @@ same-next U W V X e s n m = go (cases-of U e V n) (cases-of W e X m)
     go (inl a) (inr b) = absurd (let x = a.0 in let y = b.accepted in cc (x, y))
     go (inr a) (inl b) = absurd (let x = b.0 in let y = a.accepted in cc (x, y))
     go (inr a) (inr b) =
-        let files : X.files ≡ V.files = b.files ∙ ap (λ (F : Files). files_after F (gives F e.step e.claims)) s.files ∙ sym a.files in
+        let files : X.files ≡ V.files = b.files ∙ ap (λ (F : Files). files_after F (gives F e.step e.claims)) s.files
+        ∙ sym a.files in
         let homes : homes_after W e.step e.claims X.files ≡ homes_after U e.step e.claims V.files =
         λ j. homes_after (record W { files = s.files j; homes = s.homes j }) e.step e.claims (files j) in
         record {
@@ -92,7 +95,8 @@ law-one-run [] start moment U W V X s r q =
       homes =
           b.homes ∙ s.homes ∙ sym a.homes;
     }
-law-one-run (e ∷ es) start moment U W V X s r q = law-one-run es e.to e.to r.0 q.0 V X (same-next U W r.0 q.0 e s r.4 q.4) r.5 q.5
+law-one-run (e ∷ es) start moment U W V X s r q =
+    law-one-run es e.to e.to r.0 q.0 V X (same-next U W r.0 q.0 e s r.4 q.4) r.5 q.5
 
 pub law-late : LawLate
 law-late before after start W U V part whole =

@@ -23,5 +23,6 @@ pub law-stale : LawStale
 law-stale es moment U V X Y run blocks x y =
     let u = (run-unchanged es moment U V run).0 in (
       λ i unknown. sym (inode-verdict V Y y i) ∙ u.0 i unknown ∙ inode-verdict U X x i,
-      λ p lt unknown. sym (block-verdict V Y y p lt) ∙ u.1 p unknown ∙ block-verdict U X x p (subst (λ (n : ℕ). p < n) (sym blocks) lt),
+      λ p lt unknown. sym (block-verdict V Y y p lt) ∙ u.1 p unknown
+          ∙ block-verdict U X x p (subst (λ (n : ℕ). p < n) (sym blocks) lt),
     )

@@ -12,7 +12,8 @@ both-ways true false h = absurd (h (λ e. cc e))
 both-ways false true h = absurd (h (λ e. cc e))
 
 learned : (W : World) (e : Entry1) (seen : Bool) (V : World) → Learns W e.step seen V
-    → IsUnchanged W V × ((i : ℕ) → V.known_inodes i ≡ false → W.known_inodes i ≡ false) × ((p : ℕ) → V.known_blocks p ≡ false → W.known_blocks p ≡ false)
+    → IsUnchanged W V × ((i : ℕ) → V.known_inodes i ≡ false → W.known_inodes i ≡ false)
+    × ((p : ℕ) → V.known_blocks p ≡ false → W.known_blocks p ≡ false)
 learned W e seen V l = (
   (
     λ i u. both-ways (uses_inode V i) (uses_inode W i) (λ ne. let k = l.inodes_change i ne in cc (k, u)),
@@ -27,7 +28,8 @@ learned W e seen V l = (
     back false b h e = refl
 
 one-step : (W : World) (e : Entry1) (V : World) → Next W e V
-    → IsUnchanged W V × ((i : ℕ) → V.known_inodes i ≡ false → W.known_inodes i ≡ false) × ((p : ℕ) → V.known_blocks p ≡ false → W.known_blocks p ≡ false)
+    → IsUnchanged W V × ((i : ℕ) → V.known_inodes i ≡ false → W.known_inodes i ≡ false)
+    × ((p : ℕ) → V.known_blocks p ≡ false → W.known_blocks p ≡ false)
 one-step W e V (AfterFault s r c same) = (
   (λ i u. ap (λ (q : World). uses_inode q i) same, λ p u. ap (λ (q : World). uses_block q p) same),
   (λ i u. subst (λ (q : World). q.known_inodes i ≡ false) same u),
@@ -39,7 +41,8 @@ one-step W e V (ByRead s f r c k st l) = learned W e false V l
 one-step W e V (ByWrite s f m r c k st l) = learned W e false V l
 
 abbrev pub Carried : World → World → Type 0
-Carried W V = IsUnchanged W V × ((i : ℕ) → V.known_inodes i ≡ false → W.known_inodes i ≡ false) × ((p : ℕ) → V.known_blocks p ≡ false
+Carried W V = IsUnchanged W V × ((i : ℕ) → V.known_inodes i ≡ false → W.known_inodes i ≡ false)
+    × ((p : ℕ) → V.known_blocks p ≡ false
     → W.known_blocks p ≡ false)
 
 pub run-unchanged : (es : List Entry1) (start : ℕ) (W V : World) → Run start W es V → Carried W V

@@ -19,7 +19,8 @@ pub record Passes (start : ℕ) (W : World) (before after : List Entry1) (V : Wo
 
 -- A run over a history passes through a world after each of its prefixes.
 abbrev pub LawPasses : Type 0
-LawPasses = (before after : List Entry1) (start : ℕ) (W V : World) → Run start W (before ++ after) V → Passes start W before after V
+LawPasses = (before after : List Entry1) (start : ℕ) (W V : World) → Run start W (before ++ after) V
+    → Passes start W before after V
 
 -- the maps say what the disk X says in world W
 pub record Shows (W : World) (X : Image) : Type 0 where
@@ -32,7 +33,8 @@ pub record Shows (W : World) (X : Image) : Type 0 where
 -- A verdict that the scan of the disk gave in one world of a run is that of the scan in every later one in which its
 -- element isn't known.
 abbrev pub LawStale : Type 0
-LawStale = (es : List Entry1) (moment : ℕ) (U V : World) (X Y : Image) → Run moment U es V → U.blocks ≡ V.blocks → Shows U X → Shows V Y
+LawStale = (es : List Entry1) (moment : ℕ) (U V : World) (X Y : Image) → Run moment U es V
+    → U.blocks ≡ V.blocks → Shows U X → Shows V Y
     → ((i : ℕ) → V.known_inodes i ≡ false → is_used_inode Y i ≡ is_used_inode X i)
     × ((p : ℕ) → p < V.blocks → V.known_blocks p ≡ false → is_used_block Y p ≡ is_used_block X p)
 
@@ -45,8 +47,10 @@ pub record SameState (W V : World) : Type 0 where
 
 -- Two runs of the same entries from the same files and homes end in the same, whatever they learn on the way.
 abbrev pub LawOneRun : Type 0
-LawOneRun = (es : List Entry1) (start moment : ℕ) (U W V X : World) → SameState U W → Run start U es V → Run moment W es X → SameState V X
+LawOneRun = (es : List Entry1) (start moment : ℕ) (U W V X : World) → SameState U W → Run start U es V
+    → Run moment W es X → SameState V X
 
 -- What a history's part leads to has the verdicts of the world at its end, of all that isn't known there.
 abbrev pub LawLate : Type 0
-LawLate = (before after : List Entry1) (start : ℕ) (W U V : World) → Run start W before U → Run start W (before ++ after) V → IsUnchanged U V
+LawLate = (before after : List Entry1) (start : ℕ) (W U V : World) → Run start W before U
+    → Run start W (before ++ after) V → IsUnchanged U V

@@ -1,5 +1,6 @@
 -- What was examined is known from then on, and what is known has the verdict of the scan.
-use Rattle.std.proofs.Common.{◌≡◌, ℕ, ◌-◌, Bool, true, false, cond, eqb, ltb, leb, ◌&&◌, not, List, [], ◌∷◌, ◌++◌, Some, None, inl, inr, refl, sym, ap, ◌∙◌}
+use Rattle.std.proofs.Common.{◌≡◌, ℕ, ◌-◌, Bool, true, false, cond, eqb, ltb, leb, ◌&&◌, not, List, [], ◌∷◌, ◌++◌, Some}
+use Rattle.std.proofs.Common.{None, inl, inr, refl, sym, ap, ◌∙◌}
 use Rattle.std.proofs.Common.{subst, arith}
 use Rattle.std.proofs.lemmas.Bool.Decides.{nat_tests}
 use Rattle.nofs_bits.specs.Bits.{is_set}
@@ -27,7 +28,8 @@ eqb-same : (n : ℕ) → eqb n n ≡ true
 eqb-same n = grind (arith, nat_tests)
 
 -- a See step that was done
-known-by : (W V : World) (e : Entry1) (kind : ElementKind) (item : ℕ) (used : Bool) → e.step ≡ see_step kind item → e.reply ≡ reply.Seen used → Next W e V
+known-by : (W V : World) (e : Entry1) (kind : ElementKind) (item : ℕ) (used : Bool) → e.step ≡ see_step kind item
+    → e.reply ≡ reply.Seen used → Next W e V
     → knows V kind item ≡ true
 known-by W V e kind item used step seen (AfterFault s r c same) = absurd (let z = sym seen ∙ r in cc z)
 known-by W V e kind item used step seen (ByRow why s f (inl r) c k st l) = absurd (let z = sym seen ∙ r in cc z)
@@ -40,7 +42,8 @@ known-by W V e kind item used step seen (ByRead s f r c k st l) = absurd (let z 
 known-by W V e kind item used step seen (ByWrite s f m r c k st l) = absurd (let z = sym seen ∙ r in cc z)
 
 -- stays known
-known-on : (es : List Entry1) (start : ℕ) (W V : World) → Run start W es V → (kind : ElementKind) (item : ℕ) → knows W kind item ≡ true
+known-on : (es : List Entry1) (start : ℕ) (W V : World) → Run start W es V
+    → (kind : ElementKind) (item : ℕ) → knows W kind item ≡ true
     → knows V kind item ≡ true
 known-on es start W V run element.Inode item known = back (V.known_inodes item) refl
   where
@@ -54,9 +57,12 @@ known-on es start W V run element.Block item known = back (V.known_blocks item) 
     back false e = absurd (let z = (run-unchanged es start W V run).2 item e in cc (z, known))
 
 known-in : (before after : List Entry1) (e : Entry1) (start : ℕ) (W V : World) → Run start W (before ++ e ∷ after) V
-    → (kind : ElementKind) (item : ℕ) (used : Bool) → e.step ≡ see_step kind item → e.reply ≡ reply.Seen used → knows V kind item ≡ true
-known-in [] after e start W V r kind item used step seen = known-on after e.to r.0 V r.5 kind item (known-by W r.0 e kind item used step seen r.4)
-known-in (x ∷ xs) after e start W V r kind item used step seen = known-in xs after e x.to r.0 V r.5 kind item used step seen
+    → (kind : ElementKind) (item : ℕ) (used : Bool) → e.step ≡ see_step kind item → e.reply ≡ reply.Seen used
+    → knows V kind item ≡ true
+known-in [] after e start W V r kind item used step seen =
+    known-on after e.to r.0 V r.5 kind item (known-by W r.0 e kind item used step seen r.4)
+known-in (x ∷ xs) after e start W V r kind item used step seen =
+    known-in xs after e x.to r.0 V r.5 kind item used step seen
 
 last-true : (a u : Bool) → (a && not u) ≡ true → u ≡ false
 last-true true false e = refl
@@ -68,7 +74,8 @@ stands-if false f e = refl
 stands-if true f e = cc
 
 -- of what is known a verdict stands
-stands-known : (d : DiskState) (k : Books) (H : List Entry1) (p : Past) → IsOpen d k H p → (kind : ElementKind) (item : ℕ) → knows p.world kind item ≡ true
+stands-known : (d : DiskState) (k : Books) (H : List Entry1) (p : Past) → IsOpen d k H p
+    → (kind : ElementKind) (item : ℕ) → knows p.world kind item ≡ true
     → (used : Bool) × (verdict_of kind k item ≡ Some used)
 stands-known d k H p o element.Block b known = (
   not (is_set k.free_blocks b),
@@ -78,7 +85,8 @@ stands-known d k H p o element.Block b known = (
 stands-known d k H p o element.Inode i known = (
   not (is_set k.free_inodes (i - 1)),
   stands-if (is_set k.unknown_inodes (i - 1)) (is_set k.free_inodes (i - 1))
-      (last-true (leb i k.at.inodes) (is_set k.unknown_inodes (i - 1)) (second (leb 1 i) _ (sym (o.says.known_inodes i) ∙ known))),
+      (last-true (leb i k.at.inodes) (is_set k.unknown_inodes (i - 1))
+      (second (leb 1 i) _ (sym (o.says.known_inodes i) ∙ known))),
 )
   where
     second : (a b : Bool) → (a && b) ≡ true → b ≡ true
@@ -90,6 +98,7 @@ scanned d k is safe running H p o all kind item range =
     let x : IsExamined H kind item = all kind item range in
     let run : Run k.history.start (world_of p.base p.first) (x.before ++ x.entry ∷ x.after) p.world =
     subst (λ (L : List Entry1). Run k.history.start (world_of p.base p.first) L p.world) x.whole o.run.run in
-    let s = stands-known d k H p o kind item (known-in x.before x.after x.entry k.history.start (world_of p.base p.first)
+    let s = stands-known d k H p o kind item
+    (known-in x.before x.after x.entry k.history.start (world_of p.base p.first)
     p.world run kind item x.verdict x.step x.seen) in
     s.1 ∙ ap Some ((element-of d k kind item is safe running range).stands s.0 s.1 H p o)

@@ -27,8 +27,11 @@ AreExamined H at = (kind : ElementKind) (item : ℕ) → HasElement kind at item
 
 -- the maps are the scan of the image: of each element the verdict stands, and is the scan's
 abbrev pub IsFullScan : Image → Books → Type 0
-IsFullScan X k = (kind : ElementKind) (item : ℕ) → HasElement kind k.at item → verdict_of kind k item ≡ Some (is_used kind X item)
+IsFullScan X k = (kind : ElementKind) (item : ℕ) → HasElement kind k.at item
+    → verdict_of kind k item ≡ Some (is_used kind X item)
 
--- After both sweeps, in any order and beside any users, the maps of a mount that no write fault stopped are the full scan of its disk
+-- After both sweeps, in any order and beside any users, the maps of a mount that no write fault stopped are the full
+-- scan of its disk
 abbrev pub LawScanned : DiskState → Books → Type 0
-LawScanned d k = IsSafe d k → k.stopped ≡ false → (H : List Entry1) (p : Past) → IsOpen d k H p → AreExamined H k.at → IsFullScan d.now k
+LawScanned d k = IsSafe d k → k.stopped ≡ false → (H : List Entry1) (p : Past) → IsOpen d k H p → AreExamined H k.at
+    → IsFullScan d.now k

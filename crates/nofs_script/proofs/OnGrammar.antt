@@ -8,7 +8,8 @@ use Rattle.nofs_script.specs.Grammar.{verb_in}
 use Rattle.nofs_script.specs.Session.{read_verb, read_words}
 
 -- a verb with more than three words after it has a wrong number of words, whatever they are
-many : (r : Reading) (v : Option Verb) (a b c d : List ℕ) (rest : List (List ℕ)) → read_verb r v (a ∷ b ∷ c ∷ d ∷ []) ≡ read_verb r v (a ∷ b ∷ c ∷ d ∷ rest)
+many : (r : Reading) (v : Option Verb) (a b c d : List ℕ) (rest : List (List ℕ))
+    → read_verb r v (a ∷ b ∷ c ∷ d ∷ []) ≡ read_verb r v (a ∷ b ∷ c ∷ d ∷ rest)
 many r None a b c d rest = refl
 many r (Some v) a b c d rest = refl
 

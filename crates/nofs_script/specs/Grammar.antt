@@ -1,5 +1,6 @@
 -- What the words of a line mean: its command, or what is wrong in it, the first from the left.
-use Rattle.std.specs.Prelude.{◌≡◌, ℕ, List, [], ◌∷◌, length, ◌==◌, ◌&&◌, if◌then◌else◌, None, Some, Result, Ok, Err, codes}
+use Rattle.std.specs.Prelude.{◌≡◌, ℕ, List, [], ◌∷◌, length, ◌==◌, ◌&&◌, if◌then◌else◌, None, Some, Result, Ok, Err}
+use Rattle.std.specs.Prelude.{codes}
 use Rattle.std.specs.List.{slice_split, list_all}
 use Rattle.std.specs.Str.{bytes_eq}
 use Rattle.std.specs.declared.option.Option.{Option}
@@ -78,8 +79,10 @@ verb_among word ((spelled, v) ∷ rest) = if bytes_eq word spelled then Some v e
 -- the verb that a word names
 unfoldable pub verb_in : List ℕ → Option Verb
 verb_in word = verb_among word (
-    (codes "make", verb.Make) ∷ (codes "mkdir", verb.MakeDirectory) ∷ (codes "put", verb.Put) ∷ (codes "get", verb.Get) ∷ (codes "size", verb.Size)
-    ∷ (codes "stat", verb.Stat) ∷ (codes "list", verb.List) ∷ (codes "link", verb.Link) ∷ (codes "drop", verb.Drop) ∷ (codes "rename", verb.Rename)
+    (codes "make", verb.Make) ∷ (codes "mkdir", verb.MakeDirectory) ∷ (codes "put", verb.Put) ∷ (codes "get", verb.Get)
+    ∷ (codes "size", verb.Size)
+    ∷ (codes "stat", verb.Stat) ∷ (codes "list", verb.List) ∷ (codes "link", verb.Link) ∷ (codes "drop", verb.Drop)
+    ∷ (codes "rename", verb.Rename)
     ∷ (codes "fsync", verb.Fsync) ∷ (codes "move", verb.Move) ∷ [])
 
 -- PATH, or NEWPATH where a name is made or dropped
@@ -132,8 +135,10 @@ two_words verb.Fsync a b = Err WordCount
 
 -- PATH OFFSET HEX, and PATH OFFSET LENGTH
 unfoldable pub three_words : Verb → List ℕ → List ℕ → List ℕ → Result Command ScriptKind
-three_words verb.Put a b c = path_word a >>= λ path. number_word b >>= λ offset. hex_word c >>= λ bytes. Ok (command.Put path offset bytes)
-three_words verb.Get a b c = path_word a >>= λ path. number_word b >>= λ offset. number_word c >>= λ len. Ok (command.Get path offset len)
+three_words verb.Put a b c =
+    path_word a >>= λ path. number_word b >>= λ offset. hex_word c >>= λ bytes. Ok (command.Put path offset bytes)
+three_words verb.Get a b c =
+    path_word a >>= λ path. number_word b >>= λ offset. number_word c >>= λ len. Ok (command.Get path offset len)
 three_words verb.Make a b c = Err WordCount
 three_words verb.MakeDirectory a b c = Err WordCount
 three_words verb.Size a b c = Err WordCount

@@ -11,7 +11,8 @@ use Rattle.nofs_client.specs.declared.task.commands.Command.TheVariants as comma
 use Rattle.nofs_client.specs.Task.Commands.{IsWellFormed}
 use Rattle.nofs_script.specs.declared.commands.Verb.{Verb}
 use Rattle.nofs_script.specs.declared.faults.ScriptKind.{ScriptKind}
-use Rattle.nofs_script.specs.declared.faults.ScriptKind.TheVariants.{UnknownCommand, WordCount, TooManyUsers, TooMuchAsked, TooManyCommands}
+use Rattle.nofs_script.specs.declared.faults.ScriptKind.TheVariants.{UnknownCommand, WordCount, TooManyUsers}
+use Rattle.nofs_script.specs.declared.faults.ScriptKind.TheVariants.{TooMuchAsked, TooManyCommands}
 use Rattle.nofs_script.specs.declared.faults.ScriptFault.{ScriptFault}
 use Rattle.nofs_script.specs.declared.session.Reading.{Reading}
 use Rattle.nofs_script.specs.Words.{words_of, text_lines}
@@ -40,13 +41,15 @@ asked_by (command.Move _ _) = 0
 abbrev pub with_command : Reading → Command → Result Reading ScriptKind
 with_command r c =
     if nat_lt 67108864 (r.asked + asked_by c) then Err TooMuchAsked
-    else if nat_lt r.count 65536 then Ok (record { done = r.done; current = r.current ++ c ∷ []; count = r.count + 1; asked = r.asked + asked_by c })
+    else if nat_lt r.count 65536
+    then Ok (record { done = r.done; current = r.current ++ c ∷ []; count = r.count + 1; asked = r.asked + asked_by c })
     else Err TooManyCommands
 
 -- the line that begins the next script
 abbrev pub user_of : Reading → List (List ℕ) → Result Reading ScriptKind
 user_of r [] =
-    if nat_lt (length r.done + 1) MOST_USERS then Ok (record { done = r.done ++ r.current ∷ []; current = []; count = r.count; asked = r.asked })
+    if nat_lt (length r.done + 1) MOST_USERS
+    then Ok (record { done = r.done ++ r.current ∷ []; current = []; count = r.count; asked = r.asked })
     else Err TooManyUsers
 user_of r (_ ∷ _) = Err WordCount
 

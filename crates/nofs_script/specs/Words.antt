@@ -1,5 +1,6 @@
 -- Lines, words and numbers of a text.
-use Rattle.std.specs.Prelude.{ℕ, ◌+◌, ◌-◌, ◌*◌, ◌^◌, List, length, filter, fold, nat_lt, nat_le, ◌==◌, ◌&&◌, ◌||◌, not, Bool}
+use Rattle.std.specs.Prelude.{ℕ, ◌+◌, ◌-◌, ◌*◌, ◌^◌, List, length, filter, fold, nat_lt, nat_le, ◌==◌, ◌&&◌, ◌||◌, not}
+use Rattle.std.specs.Prelude.{Bool}
 use Rattle.std.specs.Prelude.{if◌then◌else◌, None, Some, slice_index}
 use Rattle.std.specs.Char.{is_ascii_digit}
 use Rattle.std.specs.List.{slice_split, list_all}
@@ -27,7 +28,8 @@ digits_value digits = fold (λ n b. n * 10 + (b - 48)) 0 digits
 
 -- 1 to 20 digits without a leading zero, but 0 itself
 abbrev pub is_number : List ℕ → Bool
-is_number word = not (length word == 0) && nat_le (length word) 20 && (length word == 1 || not (slice_index word 0 == 48)) && list_all is_ascii_digit word
+is_number word = not (length word == 0) && nat_le (length word) 20
+    && (length word == 1 || not (slice_index word 0 == 48)) && list_all is_ascii_digit word
 
 -- the number that a word spells
 abbrev pub number_of : List ℕ → Option ℕ

@@ -3,7 +3,10 @@
 ghost use Rattle.std.specs.Prelude.{◌≡◌, ◌∷◌, ◌==◌, map, IfOk};
 ghost use Rattle.std.specs.List.{list_all, slice_split};
 ghost use Rattle.nofs_script.specs.Words.{piece_of, is_word};
-ghost use Rattle.nofs_script.specs.Grammar.{MatchesReading, path_word, new_path_word, number_word, hex_word, verb_in, one_path as one_path_in, on_path as on_path_in, one_word as one_word_in, two_words as two_words_in, three_words as three_words_in, command_of, spelled_path, path_of_parts};
+ghost use Rattle.nofs_script.specs.Grammar.{MatchesReading, path_word, new_path_word, number_word, hex_word, verb_in};
+ghost use Rattle.nofs_script.specs.Grammar.{one_path as one_path_in, on_path as on_path_in, one_word as one_word_in};
+ghost use Rattle.nofs_script.specs.Grammar.{two_words as two_words_in, three_words as three_words_in, command_of};
+ghost use Rattle.nofs_script.specs.Grammar.{spelled_path, path_of_parts};
 
 use crate::faults::{LineFault, ScriptKind};
 use crate::words::number_of;

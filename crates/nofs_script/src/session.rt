@@ -1,6 +1,7 @@
 //! Sessions: the scripts of a text, read line by line.
 
-ghost use Rattle.std.specs.Prelude.{◌≡◌, ◌≢◌, ◌<◌, All, Some, [], map, length, ◌∷◌, MatchOption, IfOk, IfSome, slice_get, take};
+ghost use Rattle.std.specs.Prelude.{◌≡◌, ◌≢◌, ◌<◌, All, Some, [], map, length, ◌∷◌, MatchOption, IfOk, IfSome};
+ghost use Rattle.std.specs.Prelude.{slice_get, take};
 ghost use Rattle.std.specs.Str.Lines.{strip_carriage_return};
 ghost use Rattle.nofs_script.specs.Words.{piece_of, text_lines};
 ghost use Rattle.nofs_script.specs.Grammar.{MatchesReading};
@@ -25,7 +26,8 @@ const MOST_ASKED: u64 = 67_108_864;
 
 const MOST_COMMANDS: u64 = 65_536;
 
-/// What was read so far: the scripts that have ended, the one that is read, and the commands and the bytes asked for in all.
+/// What was read so far: the scripts that have ended, the one that is read, and the commands and the bytes asked for in
+/// all.
 #[derive(Drop)]
 pub struct Reading {
     pub done: Session,

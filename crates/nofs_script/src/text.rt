@@ -2,7 +2,8 @@
 
 ghost use Rattle.std.specs.Prelude.{◌≡◌, ◌++◌, IfOk, OnOk, codes, false, flat_map};
 ghost use Rattle.std.specs.Fmt.{decimal};
-ghost use Rattle.nofs_script.specs.Text.{got_text, name_text, listed_text, refusal_words as words_of_refusal, refusal_rest as rest_of_refusal};
+ghost use Rattle.nofs_script.specs.Text.{got_text, name_text, listed_text, refusal_words as words_of_refusal};
+ghost use Rattle.nofs_script.specs.Text.{refusal_rest as rest_of_refusal};
 ghost use Rattle.nofs_script.specs.Text.{refused_text, stat_text, words_text, text_of};
 
 use nofs_client::{GotPart, GotParts, Line, ListPart, ListParts};
@@ -128,7 +129,8 @@ fn push_full(
     unverified: u64,
 ) -> Result<(), AllocError>
     ensures { OnOk result (text.new.items ≡ text.old.items
-        ++ (codes ", needed " ++ decimal needed ++ codes ", free " ++ decimal free ++ codes ", unchecked " ++ decimal unverified)) }
+        ++ (codes ", needed " ++ decimal needed ++ codes ", free " ++ decimal free ++ codes ", unchecked "
+        ++ decimal unverified)) }
 {
     push_number(alloc, text, ", needed ", needed)?;
     push_number(alloc, text, ", free ", free)?;

@@ -1,10 +1,12 @@
 //! The words of a line, and the numbers among them.
 
-ghost use Rattle.std.specs.Prelude.{◌≡◌, ◌≢◌, ◌+◌, ◌<◌, ◌≤◌, ◌*◌, ◌^◌, ◌==◌, ◌∷◌, ◌++◌, [], All, IfOk, IfSome, MatchOption, OnOk, Some, drop, filter, length, map, slice_get, take, true};
+ghost use Rattle.std.specs.Prelude.{◌≡◌, ◌≢◌, ◌+◌, ◌<◌, ◌≤◌, ◌*◌, ◌^◌, ◌==◌, ◌∷◌, ◌++◌, [], All, IfOk, IfSome};
+ghost use Rattle.std.specs.Prelude.{MatchOption, OnOk, Some, drop, filter, length, map, slice_get, take, true};
 ghost use Rattle.std.specs.List.{list_all};
 ghost use Rattle.std.specs.Char.{is_ascii_digit};
 ghost use Rattle.std.specs.Option.{SomeIff};
-ghost use Rattle.nofs_script.specs.Words.{words_of, number_of as number_in, piece_of, is_word, is_number as is_number_word, digits_value as value_in};
+ghost use Rattle.nofs_script.specs.Words.{words_of, number_of as number_in, piece_of, is_word};
+ghost use Rattle.nofs_script.specs.Words.{is_number as is_number_word, digits_value as value_in};
 
 use memchr::memchr;
 use std::alloc::{AllocError, Global};
@@ -31,7 +33,8 @@ pub(crate) fn text_after(text: &[u8], end: usize) -> &[u8]
 
 // Adds a piece, if it is a word.
 fn push_word<'a>(words: &mut Vec<&'a [u8]>, piece: &'a [u8]) -> Result<(), AllocError>
-    ensures words { OnOk result (map piece_of words.new.items ≡ map piece_of words.old.items ++ filter is_word (piece.now ∷ [])) }
+    ensures words { OnOk result
+        (map piece_of words.new.items ≡ map piece_of words.old.items ++ filter is_word (piece.now ∷ [])) }
     ensures one { OnOk result (length words.new.items ≤ length words.old.items + 1) }
 {
     if !piece.is_empty() {

@@ -1,5 +1,6 @@
 -- A whole team: its sweepers, its flusher and its users, and what it leaves in a history.
-use Rattle.std.proofs.Common.{◌≡◌, ◌≢◌, inr, ℕ, ◌+◌, ◌-◌, ◌≤◌, eqb, eqb-true, eq-eqb, Bool, true, false, ◌||◌, List, [], ◌∷◌, length}
+use Rattle.std.proofs.Common.{◌≡◌, ◌≢◌, inr, ℕ, ◌+◌, ◌-◌, ◌≤◌, eqb, eqb-true, eq-eqb, Bool, true, false, ◌||◌, List, []}
+use Rattle.std.proofs.Common.{◌∷◌, length}
 use Rattle.std.proofs.Common.{drop, refl, sym, ap, ◌∙◌, subst, arith}
 use mathlib.Core.List.{IsPrefix}
 use Rattle.nofs_turn.specs.declared.rule.view.View.{View}
@@ -26,7 +27,8 @@ use Rattle.nofs_serve.proofs.OnTeams.Joins.{gathers-more}
 use Rattle.nofs_serve.proofs.OnTeams.Gathered.{neither}
 
 -- a sweep that is told of only where more was done
-sweeps-told : (Item : ℕ → ℕ → Type 0) (kind : ElementKind) (count : ℕ) (out short : Bool) (new now : List Made) → (short ≡ false → out ≡ false) → now ≡ new
+sweeps-told : (Item : ℕ → ℕ → Type 0) (kind : ElementKind) (count : ℕ) (out short : Bool) (new now : List Made)
+    → (short ≡ false → out ≡ false) → now ≡ new
     → Sweeps Item kind 0 count out [] new → Sweeps Item kind 0 count short [] now
 sweeps-told Item kind count out short new now less is s = record {
   elements = s.elements;
@@ -36,7 +38,8 @@ sweeps-told Item kind count out short new now less is s = record {
   makes = record { made = s.makes.made; more = is ∙ s.makes.more; steps = s.makes.steps };
 }
 
-module _ {F : Type 0} (scripts : List (List Command)) (inodes blocks : ℕ) (short out out_inodes out_blocks : Bool) (lines : List (List Line))
+module _ {F : Type 0} (scripts : List (List Command)) (inodes blocks : ℕ) (short out out_inodes out_blocks : Bool)
+    (lines : List (List Line))
     (v p w q f z u : View Entry1 F)
     (few : length scripts ≤ MOST_USERS) (one : v.stands ≡ 1) (same : SameSeat v p)
     (own : all_by INODE_SWEEPER p.mine ≡ true)
@@ -67,11 +70,13 @@ module _ {F : Type 0} (scripts : List (List Command)) (inodes blocks : ℕ) (sho
   none_before c not_inodes not_blocks = flusher-adds c ∙ none_of_sweeps c not_inodes not_blocks
 
   pub team-gathers : (((c : ℕ) → 1 ≤ c → c ≤ length scripts → made_by c z ≡ []) → Gathers v z 3
-      → Gathers v u (3 + length scripts) × UsersGathered scripts out short lines z u) → TeamGathered scripts inodes blocks short lines v u
+      → Gathers v u (3 + length scripts) × UsersGathered scripts out short lines z u)
+      → TeamGathered scripts inodes blocks short lines v u
   team-gathers users =
       let two = gathers-more BLOCK_SWEEPER 1 v p w q one (gathers-one v p one same) j same_blocks in
       let three = gathers-more FLUSHER 2 v q f z one two joined_flusher same_flusher in
-      let r = users (λ c low high. none_before c (λ e. absurd (omega (arith, few, high, e))) (λ e. absurd (omega (arith, few, high, e)))) three in
+      let r = users (λ c low high. none_before c (λ e. absurd (omega (arith, few, high, e)))
+      (λ e. absurd (omega (arith, few, high, e)))) three in
       let g = r.1 in
       let of_inodes : made_by INODE_SWEEPER u ≡ own_steps p.mine = g.others INODE_SWEEPER (inr (omega (arith, few)))
       ∙ (flusher-adds INODE_SWEEPER ∙ (joins-other BLOCK_SWEEPER INODE_SWEEPER p w q j (λ e. absurd (omega (arith, e)))
@@ -79,7 +84,8 @@ module _ {F : Type 0} (scripts : List (List Command)) (inodes blocks : ℕ) (sho
       let of_blocks : made_by BLOCK_SWEEPER u ≡ own_steps w.mine = g.others BLOCK_SWEEPER (inr (omega (arith, few)))
       ∙ (flusher-adds BLOCK_SWEEPER ∙ joins-own BLOCK_SWEEPER p w q j
       (made_by-other BLOCK_SWEEPER INODE_SWEEPER p own (λ e. absurd (omega (arith, e))))) in
-      let less : short ≡ false → (out_inodes ≡ false) × (out_blocks ≡ false) = λ e. neither out_inodes out_blocks (sym either ∙ g.was_short e) in
+      let less : short ≡ false → (out_inodes ≡ false) × (out_blocks ≡ false) =
+      λ e. neither out_inodes out_blocks (sym either ∙ g.was_short e) in
       record {
         gathers = subst (λ n. Gathers v u n) (omega arith) r.0;
         made = record {
@@ -121,7 +127,8 @@ module _ (scripts : List (List Command)) (inodes blocks : ℕ) where
   drop-whole [] = refl
   drop-whole (e ∷ H) = drop-whole H
 
-  sweeps-none : (Item : ℕ → ℕ → Type 0) (kind : ElementKind) (count : ℕ) (short : Bool) (now : List Made) → short ≡ true → now ≡ []
+  sweeps-none : (Item : ℕ → ℕ → Type 0) (kind : ElementKind) (count : ℕ) (short : Bool) (now : List Made)
+      → short ≡ true → now ≡ []
       → Sweeps Item kind 0 count short [] now
   sweeps-none Item kind count short now is none = record {
     elements = [];
@@ -132,9 +139,11 @@ module _ (scripts : List (List Command)) (inodes blocks : ℕ) where
   }
 
   -- nothing was served
-  pub team-unserved : (short : Bool) (lines : List (List Line)) (H K : List Entry1) → K ≡ H → short ≡ true → TeamServed scripts inodes blocks short lines H K
+  pub team-unserved : (short : Bool) (lines : List (List Line)) (H K : List Entry1)
+      → K ≡ H → short ≡ true → TeamServed scripts inodes blocks short lines H K
   team-unserved short lines H K is wants =
-      let none : (c : ℕ) → steps_by c (drop (length H) K) ≡ [] = λ c. ap (λ l. steps_by c (drop (length H) l)) is ∙ ap (steps_by c) (drop-whole H) in
+      let none : (c : ℕ) → steps_by c (drop (length H) K) ≡ [] = λ c. ap (λ l. steps_by c (drop (length H) l)) is
+      ∙ ap (steps_by c) (drop-whole H) in
       record {
         grown = subst (λ l. IsPrefix H l) (sym is) (prefix_self H);
         made = record {
@@ -149,13 +158,16 @@ module _ (scripts : List (List Command)) (inodes blocks : ℕ) where
       }
 
   -- the passes in one are closed
-  pub team-closed : {F : Type 0} (short : Bool) (lines : List (List Line)) (H K : List Entry1) (v u : View Entry1 F) → v.seen ≡ H → v.start ≡ length H
+  pub team-closed : {F : Type 0} (short : Bool) (lines : List (List Line)) (H K : List Entry1) (v u : View Entry1 F)
+      → v.seen ≡ H → v.start ≡ length H
       → TeamGathered scripts inodes blocks short lines v u
-      → IsPrefix u.seen K → u.mine ≡ numbered u.start (drop u.start K) → TeamServed scripts inodes blocks short lines H K
+      → IsPrefix u.seen K → u.mine ≡ numbered u.start (drop u.start K)
+      → TeamServed scripts inodes blocks short lines H K
   team-closed short lines H K v u seen start g begins all =
       let from : u.start ≡ length H = g.gathers.start ∙ start in
       let same : (c : ℕ) → made_by c u ≡ steps_by c (drop (length H) K) =
-      λ c. ap (λ m. own_steps (chosen (is_by c) m)) (all ∙ ap (λ (n : ℕ). numbered n (drop n K)) from) ∙ sym (steps_of c (length H) (drop (length H) K)) in
+      λ c. ap (λ m. own_steps (chosen (is_by c) m)) (all ∙ ap (λ (n : ℕ). numbered n (drop n K)) from)
+      ∙ sym (steps_of c (length H) (drop (length H) K)) in
       record {
         grown = prefix_trans H u.seen K (subst (λ l. IsPrefix l u.seen) seen g.gathers.seen) begins;
         made = subst (λ (by : ℕ → List Made). TeamMade scripts inodes blocks short lines by) (λ i c. same c i) g.made;

@@ -17,9 +17,10 @@ use Rattle.nofs_serve.specs.Teams.Users.{UsersBegun, UsersServed}
 abbrev pub IsNobody : ℕ → ℕ → Type 0
 IsNobody users c = (c ≢ INODE_SWEEPER) × (c ≢ BLOCK_SWEEPER) × ((c ≡ 0) ⊎ (users < c))
 
--- The steps that each caller made: a user's are just those that its commands ask for, in order, and those of the sweeps are one for each
--- element, the inodes upwards and the blocks downwards. Where memory was wanting they may end early
-pub record TeamMade (scripts : List (List Command)) (inodes blocks : ℕ) (short : Bool) (lines : List (List Line)) (by : ℕ → List Made) : Type 0 where
+-- The steps that each caller made: a user's are just those that its commands ask for, in order, and those of the sweeps
+-- are one for each element, the inodes upwards and the blocks downwards. Where memory was wanting they may end early
+pub record TeamMade (scripts : List (List Command)) (inodes blocks : ℕ) (short : Bool) (lines : List (List Line))
+    (by : ℕ → List Made) : Type 0 where
   pub begun : UsersBegun 1 scripts by
   pub served : short ≡ false → UsersServed 1 scripts lines by
   pub inodes_seen : Sweeps (λ place item. item ≡ place) Inode 0 inodes short [] (by INODE_SWEEPER)
@@ -27,18 +28,24 @@ pub record TeamMade (scripts : List (List Command)) (inodes blocks : ℕ) (short
   pub others : (c : ℕ) → IsNobody (length scripts) c → by c ≡ []
 
 -- the passes of a team in one
-pub record TeamGathered {F : Type 0} (scripts : List (List Command)) (inodes blocks : ℕ) (short : Bool) (lines : List (List Line)) (v u : View Entry1 F)
+pub record TeamGathered {
+    F : Type 0
+    } (scripts : List (List Command)) (inodes blocks : ℕ) (short : Bool) (lines : List (List Line))
+    (v u : View Entry1 F)
     : Type 0 where
   pub gathers : Gathers v u (length scripts + 3)
   pub made : TeamMade scripts inodes blocks short lines (λ c. made_by c u)
 
 -- what a team added to a history
-pub record TeamServed (scripts : List (List Command)) (inodes blocks : ℕ) (short : Bool) (lines : List (List Line)) (H K : List Entry1) : Type 0 where
+pub record TeamServed (scripts : List (List Command)) (inodes blocks : ℕ) (short : Bool) (lines : List (List Line))
+    (H K : List Entry1) : Type 0 where
   pub grown : IsPrefix H K
   pub made : TeamMade scripts inodes blocks short lines (λ c. steps_by c (drop (length H) K))
 
 -- so far of the users: those of `scripts` were joined to the pass that was v before
-pub record UsersGathered {F : Type 0} (scripts : List (List Command)) (was short : Bool) (lines : List (List Line)) (v u : View Entry1 F) : Type 0 where
+pub record UsersGathered {
+    F : Type 0
+    } (scripts : List (List Command)) (was short : Bool) (lines : List (List Line)) (v u : View Entry1 F) : Type 0 where
   pub begun : UsersBegun 1 scripts (λ c. made_by c u)
   pub served : short ≡ false → UsersServed 1 scripts lines (λ c. made_by c u)
   pub was_short : short ≡ false → was ≡ false

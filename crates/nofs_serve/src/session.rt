@@ -1,7 +1,7 @@
 //! Serving users at a mount.
 //!
-//! Promise: the history has of each user just the steps that its commands ask for, in order, and of each sweep one step for each
-//! element. The flusher has none.
+//! Promise: the history has of each user just the steps that its commands ask for, in order, and of each sweep one step
+//! for each element. The flusher has none.
 ghost use Rattle.std.specs.Prelude.{◌≡◌, ◌<◌, ◌≤◌, ◌^◌, true, All, map, vec_len};
 ghost use Rattle.nofs_client.specs.Task.Commands.{AreWellFormed};
 ghost use Rattle.nofs_serve.specs.Session.{TeamServed};
@@ -37,7 +37,8 @@ fn unserved<V>(alloc: Global, mount: V) -> Served<V>
     }
 }
 
-/// Serves each user by a worker on a thread of its own beside the two sweepers and the flusher, and hands the mount back when all have ended.
+/// Serves each user by a worker on a thread of its own beside the two sweepers and the flusher, and hands the mount
+/// back when all have ended.
 pub fn serve<R: Threads + Wait + Sync, V: Serves + Send, T: Gate + Send + Drop>(
     rt: &R,
     alloc: Global,

@@ -49,10 +49,12 @@ where
     V::Evidence: Send,
     requires ready { G.is_ready visitor.old }
     requires small { sweeps.inodes < 2 ^ 32 }
-    requires passes { (vec_len passes ≡ 4) × All (λ p. IsPassOf shared.now.turn p × ((view_of p).mine ≡ [])) passes.items }
+    requires passes { (vec_len passes ≡ 4)
+        × All (λ p. IsPassOf shared.now.turn p × ((view_of p).mine ≡ [])) passes.items }
     ensures of { IsPassOf shared.now.turn result.pass }
     ensures gathered { (v : View Entry1 V.Fixed) → v.stands ≡ 1 → v.mine ≡ [] → All (λ p. view_of p ≡ v) passes.items
-        → VisitGathered (G.visited visitor.old visitor.new []) sweeps.inodes sweeps.blocks result.out_of_memory v (view_of result.pass) }
+        → VisitGathered (G.visited visitor.old visitor.new []) sweeps.inodes sweeps.blocks result.out_of_memory v
+        (view_of result.pass) }
 {
     let mut passes = passes;
     let mut visit = seat(rt, alloc, shared, FIRST_USER, &mut passes);
@@ -86,8 +88,8 @@ where
     }
 }
 
-/// Serves a visitor on the calling thread beside the two sweepers and the flusher, and hands the mount back when all have ended;
-/// the mount as it was, where memory was wanting to begin.
+/// Serves a visitor on the calling thread beside the two sweepers and the flusher, and hands the mount back when all
+/// have ended; the mount as it was, where memory was wanting to begin.
 pub fn attend<R: Threads + Wait + Sync, V: Serves + Send, T: Gate + Send + Drop, G: Visits>(
     rt: &R,
     alloc: Global,
@@ -101,7 +103,8 @@ where
     requires ready { G.is_ready visitor.old }
     requires small { sweeps.inodes < 2 ^ 32 }
     ensures fixed { IfOk result (λ done. V.fixed done.mount ≡ V.fixed mount) }
-    ensures visited { IfOk result (λ done. VisitServed (G.visited visitor.old visitor.new []) sweeps.inodes sweeps.blocks
+    ensures visited { IfOk result
+        (λ done. VisitServed (G.visited visitor.old visitor.new []) sweeps.inodes sweeps.blocks
         done.out_of_memory (V.entries mount) (V.entries done.mount)) }
     ensures unvisited { IfErr result (λ same. (same ≡ mount) × (visitor.new ≡ visitor.old)) }
 {

@@ -9,12 +9,14 @@ use Rattle.nofs_model.specs.declared.image.value.Value.TheVariants.{Bytes}
 use Rattle.nofs_history.specs.History.{agreed_files, is_generation}
 use Rattle.nofs_history.specs.HistoryState.{HistoryState}
 use Rattle.nofs_history.specs.World.{World}
-use Rattle.nofs_crashlaw.specs.Lives.{GivenBy, HasSuperCell, IsLife, Life, Lives, NextLife, Raised, Rising, SameOrUpgraded, Upgraded, claimed_in}
+use Rattle.nofs_crashlaw.specs.Lives.{GivenBy, HasSuperCell, IsLife, Life, Lives, NextLife, Raised, Rising}
+use Rattle.nofs_crashlaw.specs.Lives.{SameOrUpgraded, Upgraded, claimed_in}
 use Rattle.nofs_shared.specs.Mount.End.{Ends}
 use Rattle.nofs_shared.specs.Mount.Invariant.{IsSoundDisk}
 use Rattle.nofs_upgrade.specs.Upgrades.{StaysOrUpgrades}
 
--- A mount that found a sound disk, and what it said at its end: `found` is the disk as the mount found it, `last` the disk at its end
+-- A mount that found a sound disk, and what it said at its end: `found` is the disk as the mount found it, `last` the
+-- disk at its end
 pub record Mount {D : Type 0} (state : D → DiskState) : Type 0 where
   pub found : D
   pub last : D
@@ -25,11 +27,18 @@ pub record Mount {D : Type 0} (state : D → DiskState) : Type 0 where
 
 -- the disk that was found, with the mount number raised
 abbrev pub base_of : {D : Type 0} {state : D → DiskState} → Mount state → Image
-base_of {state = state} mount = slice_set (state mount.found).now 0 (super_cell (raised (super_at (state mount.found).now)))
+base_of {state = state} mount =
+    slice_set (state mount.found).now 0 (super_cell (raised (super_at (state mount.found).now)))
 
 -- its life, which ends in this world
 abbrev pub life_in : {D : Type 0} {state : D → DiskState} → Mount state → World → Life
-life_in mount W = record { base = base_of mount; first = mount.first; start = mount.history.start; history = mount.history.entries; end = W }
+life_in mount W = record {
+  base = base_of mount;
+  first = mount.first;
+  start = mount.history.start;
+  history = mount.history.entries;
+  end = W;
+}
 
 -- One mount after another
 
@@ -58,7 +67,8 @@ pub record IsBlank (X : Image) : Type 0 where
 abbrev pub IsBlankDisk : DiskState → Type 0
 IsBlankDisk d = (X : Image) → Picks d.may d.blocks X → IsBlank X
 
--- A list of mounts, the last one first: the first of all found a formatted disk, each other one what a crash of the one before may leave
+-- A list of mounts, the last one first: the first of all found a formatted disk, each other one what a crash of the one
+-- before may leave
 abbrev pub Mounts : {D : Type 0} {state : D → DiskState} → List (Mount state) → Type 0
 Mounts [] = Unit {0}
 Mounts {state = state} (mount ∷ []) = IsBlankDisk (state mount.found)
@@ -70,7 +80,8 @@ Mounts {state = state} (mount ∷ before ∷ rest) = ComesAfter before (state mo
 abbrev pub OneEmptyMore : List Life → List Life → Type 0
 OneEmptyMore rest lives = (lives ≡ rest) ⊎ ((l : Life) × (l.history ≡ []) × (lives ≡ l ∷ rest))
 
--- the lives of these mounts, in order: a mount without a step may have a life without entries in the place of its own, or none
+-- the lives of these mounts, in order: a mount without a step may have a life without entries in the place of its own,
+-- or none
 abbrev pub AreLives : {D : Type 0} {state : D → DiskState} → List (Mount state) → List Life → Type 0
 AreLives [] lives = lives ≡ []
 AreLives (mount ∷ mounts) lives = (rest : List Life) × AreLives mounts rest
@@ -84,7 +95,8 @@ claimed_over (mount ∷ mounts) = claimed_over mounts ++ claimed_in mount.histor
 -- an entry of one of these mounts gave this content to slot k of (i, g)
 abbrev pub GivenOver : {D : Type 0} {state : D → DiskState} → List (Mount state) → ℕ → ℕ → ℕ → List ℕ → Type 0
 GivenOver [] i g k content = ⊥
-GivenOver (mount ∷ mounts) i g k content = GivenBy (agreed_files (base_of mount)) mount.history.entries i g k (Bytes content) ⊎ GivenOver mounts i g k content
+GivenOver (mount ∷ mounts) i g k content =
+    GivenBy (agreed_files (base_of mount)) mount.history.entries i g k (Bytes content) ⊎ GivenOver mounts i g k content
 
 -- The laws
 
@@ -94,7 +106,8 @@ LawMountLife state = (mount : Mount state) → ∥ ((W : World) × IsLife (life_
 
 -- One that reads its disk as what a crash of another may leave since its flush is the life after it.
 abbrev pub LawNextMount : {D : Type 0} → (D → DiskState) → Type 0
-LawNextMount state = (before after : Mount state) (X : Image) (crash : Leaves before X) → before.history.start ≤ crash.moment
+LawNextMount state =
+    (before after : Mount state) (X : Image) (crash : Leaves before X) → before.history.start ≤ crash.moment
     → SameOrUpgraded X (state after.found).now
     → (W V : World) → ∥ NextLife (life_in before W) (life_in after V) ∥₁
 
@@ -102,28 +115,34 @@ LawNextMount state = (before after : Mount state) (X : Image) (crash : Leaves be
 abbrev pub IsOfRaise : DiskState → Image → Type 0
 IsOfRaise d X = Picks d.may d.blocks X ⊎ ((Y : Image) × Picks d.may d.blocks Y × Raised Y X × HasSuperCell X)
 
--- A crash inside the raise leaves an image that the disk could hold as it was found, or such a one with its mount number one higher.
+-- A crash inside the raise leaves an image that the disk could hold as it was found, or such a one with its mount
+-- number one higher.
 abbrev pub LawInRaise : {D : Type 0} → (D → DiskState) → Type 0
 LawInRaise state = (mount : Mount state) (m : ℕ) (X : Image)
-    → (state mount.found).moment ≤ m → m ≤ mount.history.start → (state mount.last).left m X → ∥ IsOfRaise (state mount.found) X ∥₁
+    → (state mount.found).moment ≤ m → m ≤ mount.history.start → (state mount.last).left m X
+    → ∥ IsOfRaise (state mount.found) X ∥₁
 
 -- A disk that tells and comes after a mount is found sound.
 abbrev pub LawFoundSound : {D : Type 0} → (D → DiskState) → Type 0
-LawFoundSound {D = D} state = (mount : Mount state) (d : D) → IsTrue (state d).tells → ComesAfter mount (state d) → ∥ IsSoundDisk (state d) ∥₁
+LawFoundSound {D = D} state = (mount : Mount state) (d : D) → IsTrue (state d).tells → ComesAfter mount (state d)
+    → ∥ IsSoundDisk (state d) ∥₁
 
 -- What a format leaves on a disk that tells is blank.
 abbrev pub LawFirstDisk : DiskState → DiskState → Type 0
-LawFirstDisk old new = (blocks inodes : ℕ) → IsTrue old.tells → IsFormatted blocks inodes old new → IsSoundDisk new → IsBlankDisk new
+LawFirstDisk old new = (blocks inodes : ℕ) → IsTrue old.tells → IsFormatted blocks inodes old new → IsSoundDisk new
+    → IsBlankDisk new
 
 -- A disk that holds one image, which a crash of the mount may leave, comes after the mount; it may be upgraded.
 abbrev pub LawSettledAfter : {D : Type 0} → (D → DiskState) → Type 0
 LawSettledAfter {D = D} state = (mount : Mount state) (d : D) (X : Image)
-    → IsTrue (state d).tells → IsSettled (state d) → Leaves mount X → SameOrSecond X (state d).now → ComesAfter mount (state d)
+    → IsTrue (state d).tells → IsSettled (state d) → Leaves mount X
+    → SameOrSecond X (state d).now → ComesAfter mount (state d)
 
 -- So does one that comes after it when its cells stay.
 abbrev pub LawKeptAfter : {D : Type 0} → (D → DiskState) → Type 0
 LawKeptAfter {D = D} state = (mount : Mount state) (old new : D)
-    → ComesAfter mount (state old) → IsSameDisk (state old) (state new) → KeepsCells (state old) (state new) → ComesAfter mount (state new)
+    → ComesAfter mount (state old) → IsSameDisk (state old) (state new) → KeepsCells (state old) (state new)
+    → ComesAfter mount (state new)
 
 -- the disk may hold this image after the upgrade, or a crash at a moment of it may leave the image
 abbrev pub IsOfUpgrade : DiskState → DiskState → Image → Type 0
@@ -131,8 +150,10 @@ IsOfUpgrade old new X = Picks new.may new.blocks X ⊎ ((m : ℕ) × (old.moment
 
 -- And so does one that may hold what an upgrade of such a disk leaves, after it or in a crash of it.
 abbrev pub LawUpgradedAfter : {D : Type 0} → (D → DiskState) → Type 0
-LawUpgradedAfter {D = D} state = (mount : Mount state) (old new d : D) → ComesAfter mount (state old) → StaysOrUpgrades (state old) (state new)
-    → ((X : Image) → Picks (state d).may (state d).blocks X → IsOfUpgrade (state old) (state new) X) → ComesAfter mount (state d)
+LawUpgradedAfter {D = D} state = (mount : Mount state) (old new d : D) → ComesAfter mount (state old)
+    → StaysOrUpgrades (state old) (state new)
+    → ((X : Image) → Picks (state d).may (state d).blocks X → IsOfUpgrade (state old) (state new) X)
+    → ComesAfter mount (state d)
 
 -- Mounts with crashes between them are lives.
 abbrev pub LawMountLives : {D : Type 0} → (D → DiskState) → Type 0
@@ -147,6 +168,8 @@ LawMountOnce state = (mounts : List (Mount state)) → Mounts mounts
 
 -- Bytes in the base of a mount were given by an entry of an earlier one.
 abbrev pub LawMountContents : {D : Type 0} → (D → DiskState) → Type 0
-LawMountContents state = (later : List (Mount state)) (mount : Mount state) (earlier : List (Mount state)) → Mounts (later ++ mount ∷ earlier)
+LawMountContents state = (later : List (Mount state)) (mount : Mount state) (earlier : List (Mount state))
+    → Mounts (later ++ mount ∷ earlier)
     → (i g k : ℕ) (content : List ℕ) → k < slot_limit
-    → is_generation (base_of mount) i g ≡ true → value (base_of mount) i k ≡ Bytes content → ∥ GivenOver earlier i g k content ∥₁
+    → is_generation (base_of mount) i g ≡ true → value (base_of mount) i k ≡ Bytes content
+    → ∥ GivenOver earlier i g k content ∥₁

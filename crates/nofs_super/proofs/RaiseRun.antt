@@ -9,13 +9,17 @@ use Rattle.nofs_super.specs.Raise.{IsSuperCell}
 use Rattle.nofs_super.specs.declared.superblock.SuperBlock.{SuperBlock}
 
 -- the images of the write
-pub adds-raise : (it : SuperBlock) (old new : DiskState) (cell : Cell) {result : Result (Unit {0}) Failed} → IsDisk new → cell ≡ super_cell it
+pub adds-raise : (it : SuperBlock) (old new : DiskState) (cell : Cell) {result : Result (Unit {0}) Failed} → IsDisk new
+    → cell ≡ super_cell it
     → Writes old new 0 cell result → Adds (IsSuperCell it) old new
-adds-raise it old new cell is same w = Adds-writes (IsSuperCell it) old new 0 cell is w (record { first = refl; is = same })
+adds-raise it old new cell is same w =
+    Adds-writes (IsSuperCell it) old new 0 cell is w (record { first = refl; is = same })
 
 -- the images of both calls
-pub adds-raised : (it : SuperBlock) (old mid new : DiskState) (cell : Cell) {written : Result (Unit {0}) Failed} {flushed : Result (Unit {0}) Failed}
+pub adds-raised : (it : SuperBlock) (old mid new : DiskState)
+    (cell : Cell) {written : Result (Unit {0}) Failed} {flushed : Result (Unit {0}) Failed}
     → IsDisk mid → IsDisk new → cell ≡ super_cell it
     → Writes old mid 0 cell written → Flushes mid new flushed → Adds (IsSuperCell it) old new
 adds-raised it old mid new cell was is same w f =
-    Adds-trans (IsSuperCell it) old mid new (adds-raise it old mid cell was same w) (Adds-flushes (IsSuperCell it) mid new is f)
+    Adds-trans (IsSuperCell it) old mid new (adds-raise it old mid cell was same w)
+    (Adds-flushes (IsSuperCell it) mid new is f)

@@ -1,12 +1,14 @@
 -- The table of a superblock's faults has no row for a write, and none for memory.
-use Rattle.std.specs.Prelude.{◌≡◌, ◌≢◌, ℕ, ◌-◌, ◌^◌, if◌then◌else◌, Bool, true, false, not, nat_lt, nat_le, List, take, Option, Some, None, Result, Ok, Err}
+use Rattle.std.specs.Prelude.{◌≡◌, ◌≢◌, ℕ, ◌-◌, ◌^◌, if◌then◌else◌, Bool, true, false, not, nat_lt, nat_le, List, take}
+use Rattle.std.specs.Prelude.{Option, Some, None, Result, Ok, Err}
 use Rattle.std.proofs.Common.{refl, sym, ap, ◌∙◌}
 use Rattle.std.proofs.lemmas.Bool.{false≢true}
 use Rattle.nofs_super.specs.Geometry.{is_geometry}
 use Rattle.nofs_super.specs.Super.{check_numbers, check_rest, check_super, has_magic, is_version, rest_fault, super_in}
 use Rattle.nofs_super.specs.declared.superblock.SuperBlock.{SuperBlock}
 use Rattle.nofs_super.specs.declared.superblock.MountFault.{MountFault}
-use Rattle.nofs_super.specs.declared.superblock.MountFault.TheVariants.{BadMagic, BadVersion, BadGeometry, DeviceTooSmall, MountsSpent}
+use Rattle.nofs_super.specs.declared.superblock.MountFault.TheVariants.{BadMagic, BadVersion, BadGeometry}
+use Rattle.nofs_super.specs.declared.superblock.MountFault.TheVariants.{DeviceTooSmall, MountsSpent}
 use Rattle.nofs_super.specs.declared.superblock.MountFault.TheVariants.{ReadFault, WriteFault, BadRest, OutOfMemory}
 
 -- whether an answer is a superblock or a row of the table
@@ -23,7 +25,8 @@ is_row (Err (BadRest at)) = true
 is_row (Err OutOfMemory) = false
 
 numbers-row : (device : ℕ) (it : SuperBlock) → is_row (check_numbers device it) ≡ true
-numbers-row device it = go (not (is_geometry (2 ^ 64 - 1) it.blocks it.inodes)) (nat_lt device it.blocks) (nat_le (2 ^ 24 - 1) it.mount)
+numbers-row device it =
+    go (not (is_geometry (2 ^ 64 - 1) it.blocks it.inodes)) (nat_lt device it.blocks) (nat_le (2 ^ 24 - 1) it.mount)
   where
     go : (a b c : Bool)
         → is_row (if a then Err (BadGeometry it.blocks it.inodes)
@@ -44,7 +47,8 @@ super-row device payload = go (not (has_magic payload)) (not (is_version (super_
     rest : Result SuperBlock MountFault
     rest = check_rest device (super_in payload) (rest_fault payload)
 
-    go : (a b : Bool) → is_row (if a then Err (BadMagic (take 8 payload)) else if b then Err (BadVersion (super_in payload).version) else rest) ≡ true
+    go : (a b : Bool) → is_row (if a then Err (BadMagic (take 8 payload)) else if b
+        then Err (BadVersion (super_in payload).version) else rest) ≡ true
     go true b = refl
     go false true = refl
     go false false = rest-row device (super_in payload) (rest_fault payload)
@@ -52,4 +56,5 @@ super-row device payload = go (not (has_magic payload)) (not (is_version (super_
 -- what no row is, is not answered
 pub not-a-row : (device : ℕ) (payload : List ℕ) (result : Result SuperBlock MountFault) (fault : MountFault)
     → result ≡ check_super device payload → is_row (Err fault) ≡ false → result ≢ Err fault
-not-a-row device payload result fault is none same = false≢true (sym none ∙ ap is_row (sym same ∙ is) ∙ super-row device payload)
+not-a-row device payload result fault is none same =
+    false≢true (sym none ∙ ap is_row (sym same ∙ is) ∙ super-row device payload)

@@ -1,5 +1,6 @@
 -- What a format leaves on a device.
-use Rattle.std.specs.Prelude.{◌≡◌, ℕ, ◌+◌, ◌*◌, ◌/◌, ◌<◌, ◌≤◌, ◌==◌, if◌then◌else◌, nat_le, List, [], ◌++◌, map, drop, length, None, Some, Result, Ok, Err}
+use Rattle.std.specs.Prelude.{◌≡◌, ℕ, ◌+◌, ◌*◌, ◌/◌, ◌<◌, ◌≤◌, ◌==◌, if◌then◌else◌, nat_le, List, [], ◌++◌, map, drop}
+use Rattle.std.specs.Prelude.{length, None, Some, Result, Ok, Err}
 use Rattle.std.specs.Prelude.{IsTrue}
 use Rattle.std.specs.List.{range_with_len}
 use Rattle.std.proofs.lemmas.List.FromFn.{get_or-map-range_with_len, length-map-range_with_len}
@@ -12,16 +13,21 @@ use Rattle.nofs_disk.specs.Tag.{tag_bytes, zero_cell}
 use Rattle.nofs_super.specs.Geometry.{format_fault}
 use Rattle.nofs_super.specs.Super.{magic}
 use Rattle.nofs_super.specs.declared.geometry.FormatFault.{FormatFault}
-use Rattle.nofs_super.specs.declared.geometry.FormatFault.TheVariants.{TooSmall, TooLarge, NotMultiple, WriteFault, OutOfMemory}
+use Rattle.nofs_super.specs.declared.geometry.FormatFault.TheVariants.{TooSmall, TooLarge, NotMultiple, WriteFault}
+use Rattle.nofs_super.specs.declared.geometry.FormatFault.TheVariants.{OutOfMemory}
 use Rattle.nofs_super.specs.declared.superblock.SuperBlock.{SuperBlock}
 
 -- the payload that spells a superblock
 unfoldable pub super_payload : SuperBlock → List ℕ
-super_payload it = put_number 8 32 it.mount (put_number 8 24 it.inodes (put_number 8 16 it.blocks (put_number 4 8 it.version (put_bytes 0 magic (zeros 1024)))))
+super_payload it = put_number 8 32 it.mount
+    (put_number 8 24 it.inodes (put_number 8 16 it.blocks (put_number 4 8 it.version (put_bytes 0 magic (zeros 1024)))))
 
 -- the cell of block 0 with a superblock
 unfoldable pub super_cell : SuperBlock → Cell
-super_cell it = record { payload = super_payload it; tag = tag_bytes (record { kind = Super; inode = 0; generation = 0; slot = 0; stamp = 0 }) }
+super_cell it = record {
+  payload = super_payload it;
+  tag = tag_bytes (record { kind = Super; inode = 0; generation = 0; slot = 0; stamp = 0 });
+}
 
 -- a directory of generation 1, a file of generation 2, both empty and without names, and two free records
 unfoldable pub first_records : List ℕ
@@ -58,9 +64,11 @@ pub length-first_formatted : (blocks inodes n : ℕ) → length (first_formatted
 unfolding first_formatted
 length-first_formatted blocks inodes n = length-map-range_with_len (formatted_cell blocks inodes) 0 n
 
-pub cell_at-formatted : (blocks inodes b : ℕ) → b < blocks → cell_at (formatted blocks inodes) b ≡ formatted_cell blocks inodes b
+pub cell_at-formatted : (blocks inodes b : ℕ)
+    → b < blocks → cell_at (formatted blocks inodes) b ≡ formatted_cell blocks inodes b
 unfolding first_formatted
-cell_at-formatted blocks inodes b low = get_or-map-range_with_len (formatted_cell blocks inodes) 0 blocks b b no_cell low (omega arith)
+cell_at-formatted blocks inodes b low =
+    get_or-map-range_with_len (formatted_cell blocks inodes) 0 blocks b b no_cell low (omega arith)
 
 -- the disk holds what a format writes, and nothing else is possible
 pub record IsFormatted (blocks inodes : ℕ) (old new : DiskState) : Type 0 where

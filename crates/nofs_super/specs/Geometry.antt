@@ -1,5 +1,6 @@
 -- The numbers of blocks and inodes with which a device is formatted.
-use Rattle.std.specs.Prelude.{◌≡◌, ℕ, ◌+◌, ◌/◌, ◌%◌, ◌≤◌, ◌==◌, ◌||◌, if◌then◌else◌, Bool, true, false, not, nat_lt, min, max, Option, Some, None, is_none}
+use Rattle.std.specs.Prelude.{◌≡◌, ℕ, ◌+◌, ◌/◌, ◌%◌, ◌≤◌, ◌==◌, ◌||◌, if◌then◌else◌, Bool, true, false, not, nat_lt}
+use Rattle.std.specs.Prelude.{min, max, Option, Some, None, is_none}
 use Rattle.std.proofs.Common.{arith, refl, eqb, ltb}
 use Rattle.std.proofs.lemmas.Bool.{eq-eqb, eqb-true, le-ltb, ltb-false, or_parts}
 use Rattle.nofs_super.specs.declared.geometry.FormatFault.{FormatFault}
@@ -40,7 +41,8 @@ pub record IsGeometry (device blocks inodes : ℕ) : Type 0 where
   pub fits : blocks ≤ device
 
 -- on a device that holds the blocks, whatever device it was tested on
-pub on_device : {blocks inodes : ℕ} (tested device : ℕ) → IsGeometry tested blocks inodes → blocks ≤ device → IsGeometry device blocks inodes
+pub on_device : {blocks inodes : ℕ} (tested device : ℕ) → IsGeometry tested blocks inodes
+    → blocks ≤ device → IsGeometry device blocks inodes
 on_device tested device g fits = record {
   multiple = g.multiple;
   some_inodes = g.some_inodes;
@@ -56,13 +58,16 @@ not-false true e = refl
 not-false false e = cc
 
 -- a format's test, and what it says
-pub is_geometry-parts : (device blocks inodes : ℕ) → is_geometry device blocks inodes ≡ true → IsGeometry device blocks inodes
+pub is_geometry-parts : (device blocks inodes : ℕ)
+    → is_geometry device blocks inodes ≡ true → IsGeometry device blocks inodes
 unfolding is_geometry format_fault
 is_geometry-parts device blocks inodes e =
     go (bad_inodes inodes) refl (ltb blocks (least_blocks inodes)) refl (ltb (most_blocks device) blocks) refl e
   where
-    go : (a : Bool) → bad_inodes inodes ≡ a → (b : Bool) → ltb blocks (least_blocks inodes) ≡ b → (c : Bool) → ltb (most_blocks device) blocks ≡ c
-        → is_none (if a then Some (NotMultiple inodes) else if b then Some (TooSmall (least_blocks inodes)) else if c then Some
+    go : (a : Bool) → bad_inodes inodes ≡ a → (b : Bool) → ltb blocks (least_blocks inodes) ≡ b → (c : Bool)
+        → ltb (most_blocks device) blocks ≡ c
+        → is_none (if a then Some (NotMultiple inodes) else if b then Some (TooSmall (least_blocks inodes))
+        else if c then Some
         (TooLarge (most_blocks device)) else None) ≡ true → IsGeometry device blocks inodes
     go true ea b eb c ec e = cc
     go false ea true eb c ec e = cc
@@ -82,7 +87,8 @@ is_geometry-parts device blocks inodes e =
           fits = omega (arith, most);
         }
 
-pub is_geometry-from : (device blocks inodes : ℕ) → IsGeometry device blocks inodes → is_geometry device blocks inodes ≡ true
+pub is_geometry-from : (device blocks inodes : ℕ) → IsGeometry device blocks inodes
+    → is_geometry device blocks inodes ≡ true
 unfolding is_geometry format_fault
 is_geometry-from device blocks inodes g =
     let table = g.table in let some = g.some_blocks in let most = g.most_blocks in let fits = g.fits in

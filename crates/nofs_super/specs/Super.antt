@@ -1,5 +1,6 @@
 -- The superblock, as the payload of block 0 spells it.
-use Rattle.std.specs.Prelude.{◌≡◌, ◌≢◌, ℕ, ◌+◌, ◌-◌, ◌^◌, ◌<◌, ◌==◌, if◌then◌else◌, Bool, true, not, ◌&&◌, ◌||◌, nat_lt, nat_le, List, take, position, codes}
+use Rattle.std.specs.Prelude.{◌≡◌, ◌≢◌, ℕ, ◌+◌, ◌-◌, ◌^◌, ◌<◌, ◌==◌, if◌then◌else◌, Bool, true, not, ◌&&◌, ◌||◌, nat_lt}
+use Rattle.std.specs.Prelude.{nat_le, List, take, position, codes}
 use Rattle.std.specs.Prelude.{nat_eq, Option, Some, None, is_none, Result, Ok, Err, slice_range}
 use Rattle.std.specs.Option.{option_map, option_or}
 use lib.Pointwise.{pointwise}
@@ -7,7 +8,8 @@ use Rattle.nofs_disk.specs.Number.{number_at}
 use Rattle.nofs_super.specs.Geometry.{IsGeometry, is_geometry}
 use Rattle.nofs_super.specs.declared.superblock.SuperBlock.{SuperBlock}
 use Rattle.nofs_super.specs.declared.superblock.MountFault.{MountFault}
-use Rattle.nofs_super.specs.declared.superblock.MountFault.TheVariants.{BadMagic, BadVersion, BadGeometry, DeviceTooSmall}
+use Rattle.nofs_super.specs.declared.superblock.MountFault.TheVariants.{BadMagic, BadVersion, BadGeometry}
+use Rattle.nofs_super.specs.declared.superblock.MountFault.TheVariants.{DeviceTooSmall}
 use Rattle.nofs_super.specs.declared.superblock.MountFault.TheVariants.{MountsSpent, BadRest, WriteFault, OutOfMemory}
 
 -- the first eight bytes
@@ -30,7 +32,12 @@ rest_fault payload =
 
 -- the numbers in the places of a superblock's, whatever the other bytes are
 unfoldable pub super_in : List ℕ → SuperBlock
-super_in payload = record { version = number_at 4 8 payload; blocks = number_at 8 16 payload; inodes = number_at 8 24 payload; mount = number_at 8 32 payload }
+super_in payload = record {
+  version = number_at 4 8 payload;
+  blocks = number_at 8 16 payload;
+  inodes = number_at 8 24 payload;
+  mount = number_at 8 32 payload;
+}
 
 -- whether a payload spells a superblock
 unfoldable pub is_super : List ℕ → Bool

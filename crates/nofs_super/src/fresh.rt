@@ -22,8 +22,10 @@ use nofs_disk::{Cell, Disk, Kind, Tag, clear, write_tag, write_u32_at, write_u64
 /// `OutOfMemory` before the first write; `WriteFault` where a write or the flush failed.
 pub fn format<D: Disk>(disk: &mut D, blocks: u64, inodes: u64) -> Result<(), FormatFault>
     ensures ends { FormatEnds blocks inodes (D.state disk.old) (D.state disk.new) result }
-    ensures cells { OnOk result (IsTrue (D.state disk.old).tells → (b : ℕ) → b < blocks → cell_at (D.state disk.new).now b ≡ formatted_cell blocks inodes b) }
-    ensures refused { (fault : FormatFault) → format_fault (D.state disk.old).blocks blocks inodes ≡ Some fault → result ≡ Err fault }
+    ensures cells { OnOk result (IsTrue (D.state disk.old).tells → (b : ℕ)
+        → b < blocks → cell_at (D.state disk.new).now b ≡ formatted_cell blocks inodes b) }
+    ensures refused { (fault : FormatFault) → format_fault (D.state disk.old).blocks blocks inodes ≡ Some fault
+        → result ≡ Err fault }
     ensures adds { Adds (IsFreshCell blocks inodes) (D.state disk.old) (D.state disk.new) }
 {
     match refusal(disk.blocks(), blocks, inodes) {

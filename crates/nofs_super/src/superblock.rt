@@ -3,7 +3,8 @@ ghost use Rattle.std.specs.Prelude.{◌≡◌, ◌≢◌, ◌<◌, ◌==◌, tru
 ghost use Rattle.nofs_disk.specs.Disk.{Rose, StaysButFaults, cell_at};
 ghost use Rattle.nofs_disk.specs.Number.{IsBytes};
 ghost use Rattle.nofs_super.specs.Format.{super_cell, super_payload};
-ghost use Rattle.nofs_super.specs.Super.{CanMount, IsReadAnswer, check_super, is_version, rest_fault, super_in, super_of};
+ghost use Rattle.nofs_super.specs.Super.{CanMount, IsReadAnswer, check_super, is_version, rest_fault, super_in};
+ghost use Rattle.nofs_super.specs.Super.{super_of};
 
 use crate::geometry::accepts;
 use nofs_disk::{
@@ -63,7 +64,8 @@ pub fn read_super<D: Disk>(disk: &mut D) -> Result<SuperBlock, MountFault>
         → result ≡ check_super (D.state disk.old).blocks (cell_at (D.state disk.old).now 0).payload }
     ensures some { result ≢ Err MountFault.ReadFault → 0 < (D.state disk.old).blocks
         → (payload : List ℕ) × IsBytes 1024 payload × (result ≡ check_super (D.state disk.old).blocks payload) }
-    ensures spelled { IfOk result (λ it. IsTrue (D.state disk.old).tells → super_of (cell_at (D.state disk.old).now 0).payload ≡ Some it) }
+    ensures spelled { IfOk result
+        (λ it. IsTrue (D.state disk.old).tells → super_of (cell_at (D.state disk.old).now 0).payload ≡ Some it) }
     ensures mountable { IfOk result (CanMount (D.state disk.old).blocks) }
     ensures cause { result ≡ Err MountFault.ReadFault → Rose (D.state disk.old).faults (D.state disk.new).faults }
     ensures reads { IsReadAnswer result }
@@ -85,7 +87,8 @@ pub fn write_super(it: &SuperBlock, into: &mut Cell)
     ensures cell { into.new ≡ super_cell it.now }
     ensures bytes { IsBytes 1024 into.new.payload }
     ensures spells { is_version it.now.version ≡ true → super_of into.new.payload ≡ Some it.now }
-    ensures only { (payload : List ℕ) → IsBytes 1024 payload → super_of payload ≡ Some it.now → payload ≡ into.new.payload }
+    ensures only { (payload : List ℕ) → IsBytes 1024 payload → super_of payload ≡ Some it.now
+        → payload ≡ into.new.payload }
     ensures read_back { (device : ℕ) → CanMount device it.now → check_super device into.new.payload ≡ Ok it.now }
 {
     let SuperBlock {

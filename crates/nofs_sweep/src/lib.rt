@@ -37,7 +37,8 @@ impl SweepOrder {
         requires item_may { (place : ℕ) → place < count → ToItem.pre to_item count place }
         requires item_below { (place item : ℕ) → place < count → ToItem.post to_item count place item → item < count }
         requires place_may { (item : ℕ) → item < count → ToPlace.pre to_place count item }
-        requires place_below { (item place : ℕ) → item < count → ToPlace.post to_place count item place → place < count }
+        requires place_below { (item place : ℕ) → item < count → ToPlace.post to_place count item place
+            → place < count }
         requires inverse { (item place found : ℕ) → item < count → ToPlace.post to_place count item place
             → ToItem.post to_item count place found → found ≡ item }
         requires each { EachHasPlace count (ToItem.post to_item count) }

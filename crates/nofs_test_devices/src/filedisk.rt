@@ -286,8 +286,8 @@ fn calls_for(rt: &HostRuntime, blocks: &[u64]) -> Result<u64, Fail> {
     Ok(disk.file().calls())
 }
 
-// The first window is read whole, any other where a cell of it was read alone lately, or many of the one beside it; after windows
-// that were of no use, where more of its cells were.
+// The first window is read whole, any other where a cell of it was read alone lately, or many of the one beside it;
+// after windows that were of no use, where more of its cells were.
 #[test]
 fn a_window_is_read_whole_where_other_cells_of_it_are_likely(rt: HostRuntime) -> Result<(), Fail> {
     let rows: [(&[u64], u64); 7] = [

@@ -1,5 +1,5 @@
-//! What the tests of a mount share: mounts of disks, a step and what its reply says, a disk that is full, and two passes. No
-//! program uses it.
+//! What the tests of a mount share: mounts of disks, a step and what its reply says, a disk that is full, and two
+//! passes. No program uses it.
 //!
 //! Promise: each ends with a value or an error, so it is the test that judges.
 

@@ -9,10 +9,13 @@ use std::alloc::{AllocError, Global};
 use std::test::Fail;
 
 const TWO_USERS: &str =
-    "mkdir /src\nmake /src/main.rs\nput /src/main.rs 0 666e206d61696e28297b7d0a\nfsync /src/main.rs\nrename /src/main.rs lib.rs\nlist /src\nuser\nmkdir /doc\nmake /doc/a\nput /doc/a 0 7465787400\nlink /doc/a /doc/b\ndrop /doc/a\nget /doc/b 0 100\nlist /doc\n";
+    "mkdir /src\nmake /src/main.rs\nput /src/main.rs 0 666e206d61696e28297b7d0a\nfsync /src/main.rs\n\
+    rename /src/main.rs lib.rs\nlist /src\nuser\nmkdir /doc\nmake /doc/a\nput /doc/a 0 7465787400\nlink /doc/a /doc/b\n\
+    drop /doc/a\nget /doc/b 0 100\nlist /doc\n";
 
 const THEIR_LINES: &str =
-    "made\nmade\nput 12\nsynced\nrenamed\nnames lib.rs\nmade\nmade\nput 5\nlinked\ndropped\ngot bytes:7465787400\nnames b\n";
+    "made\nmade\nput 12\nsynced\nrenamed\nnames lib.rs\nmade\nmade\nput 5\nlinked\ndropped\ngot bytes:7465787400\n\
+    names b\n";
 
 #[test]
 fn two_users_get_the_same_lines_in_a_hundred_runs(rt: HostRuntime) -> Result<(), Fail> {

@@ -56,7 +56,8 @@ fn names_told() -> [CommandTold; 10] {
     [
         writes(
             "made\n",
-            "refused 1 missing\nrefused 1 missing\nrefused 1 missing\nrefused 1 missing\nnames\nrefused 1 missing\nrefused 1 missing\nrefused 1 missing\nrefused 1 missing\n",
+            "refused 1 missing\nrefused 1 missing\nrefused 1 missing\nrefused 1 missing\nnames\nrefused 1 missing\n\
+            refused 1 missing\nrefused 1 missing\nrefused 1 missing\n",
         ),
         writes(
             "made\n",

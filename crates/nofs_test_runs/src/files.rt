@@ -31,7 +31,8 @@ fn push_put(text: &mut Vec<u8>, digits: &str) -> Result<(), AllocError> {
 }
 
 const FIRST_LINES: &str =
-    "put 20480\nrefused 15 full, needed 1, free 0, unchecked 0, stored 0\nsized 0\nput 20480\nsized 10240\nmade\nput 3\nmade\nmade\n";
+    "put 20480\nrefused 15 full, needed 1, free 0, unchecked 0, stored 0\nsized 0\nput 20480\nsized 10240\nmade\n\
+    put 3\nmade\nmade\n";
 
 // Commands that take no block.
 const SECOND_SESSION: &str =

@@ -59,7 +59,8 @@ const ROWS: [(TestImage, &str, &str); 19] = [
     (
         TestImage::LostNames,
         "list /\nstat /a\ndrop /a\nmake /a\nlist /\nstat /a\nstat /b",
-        "names /lost:0\nrefused 3 lost slot 0\nrefused 3 lost slot 0\nmade\nnames /lost:0 a\nstat file 0 1\nrefused 3 lost slot 0\n",
+        "names /lost:0\nrefused 3 lost slot 0\nrefused 3 lost slot 0\nmade\nnames /lost:0 a\nstat file 0 1\n\
+        refused 3 lost slot 0\n",
     ),
     (TestImage::Empty, "size @ 73729", "refused 12 too large\n"),
     (

@@ -78,7 +78,8 @@ fn push_fill(
     Ok(())
 }
 
-/// A session that may fill a file, the lines of what stands before and after that, and how many inodes and blocks are used at its end.
+/// A session that may fill a file, the lines of what stands before and after that, and how many inodes and blocks are
+/// used at its end.
 #[derive(Clone, Copy)]
 struct Part {
     before: (&'static str, &'static str),
@@ -117,8 +118,10 @@ fn parts() -> [Part; 7] {
             ("", ""),
             Some(("/a", 8192)),
             (
-                "get /a 8191 2\nget /a 73727 2\nget /a 139263 2\nget /a 4268030 9\nput /a 4268032 00\nsize /a 4268033\nstat /a",
-                "got bytes:01 bytes:02\ngot bytes:02 bytes:03\ngot bytes:03 bytes:04\ngot bytes:4242\nrefused 12 too large, stored 0\nrefused 12 too large\nstat file 4268032 1\n",
+                "get /a 8191 2\nget /a 73727 2\nget /a 139263 2\nget /a 4268030 9\nput /a 4268032 00\nsize /a 4268033\n\
+                stat /a",
+                "got bytes:01 bytes:02\ngot bytes:02 bytes:03\ngot bytes:03 bytes:04\ngot bytes:4242\n\
+                refused 12 too large, stored 0\nrefused 12 too large\nstat file 4268032 1\n",
             ),
             (3, 4240),
         ),
@@ -135,8 +138,10 @@ fn parts() -> [Part; 7] {
         ),
         // Slots 0, 71, 72, 135, 136 and 4,167, the leaf, the top, and children 0, 1 and 63.
         cutting(
-            "size /a 4268032\nget /a 98 4\nget /a 1023 2\nput /a 73726 aabbccdd\nput /a 139263 1122\nput /a 4268031 07\nget /a 73725 6\nget /a 139262 4\nget /a 4268030 9\nget /a 8191 2",
-            "sized 4268032\ngot bytes:01010000\ngot bytes:00 hole:1\nput 4\nput 2\nput 1\ngot bytes:00aabb bytes:ccdd00\ngot bytes:0011 bytes:2200\ngot bytes:0007\ngot hole:1 hole:1\n",
+            "size /a 4268032\nget /a 98 4\nget /a 1023 2\nput /a 73726 aabbccdd\nput /a 139263 1122\n\
+            put /a 4268031 07\nget /a 73725 6\nget /a 139262 4\nget /a 4268030 9\nget /a 8191 2",
+            "sized 4268032\ngot bytes:01010000\ngot bytes:00 hole:1\nput 4\nput 2\nput 1\n\
+            got bytes:00aabb bytes:ccdd00\ngot bytes:0011 bytes:2200\ngot bytes:0007\ngot hole:1 hole:1\n",
             (3, 17),
         ),
         // The last block that stays ends where child 0 does.

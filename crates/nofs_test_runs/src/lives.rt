@@ -1,5 +1,5 @@
-//! Chains of lives of one disk. Each life ends with a crash, some in the midst of the mount, and the next one mounts what
-//! is left. In no chain is a number given twice, and no file ever has bytes that were put into another one.
+//! Chains of lives of one disk. Each life ends with a crash, some in the midst of the mount, and the next one mounts
+//! what is left. In no chain is a number given twice, and no file ever has bytes that were put into another one.
 mod chains;
 mod numbers;
 mod scripts;
@@ -38,7 +38,8 @@ fn command_of(life: u8) -> (&'static str, (u64, u64)) {
     }
 }
 
-// The call of a life that is to fail: the write of its mount, the flush of its mount, or one that comes later, if it comes at all.
+// The call of a life that is to fail: the write of its mount, the flush of its mount, or one that comes later, if it
+// comes at all.
 fn drawn_failure(state: &mut u64) -> (CallKind, u64) {
     match draw(state, 8) {
         0 => (CallKind::Write, 1),

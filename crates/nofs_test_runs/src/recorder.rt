@@ -118,7 +118,8 @@ impl Positioned for Recorder {
 
     ghost state = { λ f. ⟦<MemFile as Positioned>⟧.state f.under };
 
-    ghost is_file = { λ f. telling_file-is f.under.bytes.items f.under.durable.items f.under.faults f.under.counted f.under.small };
+    ghost is_file = { λ f.
+        telling_file-is f.under.bytes.items f.under.durable.items f.under.faults f.under.counted f.under.small };
 
     fn read_at(&mut self, at: u64, into: &mut [u8]) -> Result<usize, Failed> {
         self.under.read_at(at, into)

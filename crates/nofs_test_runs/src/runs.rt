@@ -55,7 +55,8 @@ pub fn run_with<R: Threads + Wait + Sync, D: Disk + Drop + Send>(
 pub const USAGE: &str =
     "usage: nofs IMAGE new BLOCKS INODES | run | scan | drill START STEPS | upgrade | salvage [PREFIX] | wire\n";
 
-/// Runs on a disk, which is to print these lines and to end with this status: the disk then, or what came in place of it.
+/// Runs on a disk, which is to print these lines and to end with this status: the disk then, or what came in place of
+/// it.
 pub fn prints<R: Threads + Wait + Sync + AllocGlobal, D: Disk + Drop + Send>(
     rt: &R,
     disk: D,

@@ -45,7 +45,8 @@ const ROWS: [(TestImage, &[Patch], &str, &str); 10] = [
         TestImage::LostChild,
         &[],
         "salvage",
-        "lost 2 slot 72\nlost 2 slot 73\nlost 2 slot 74\nlost 2 slot 75\nlost 2 slot 76\nlost 2 slot 77\nlost 2 slot 78\n",
+        "lost 2 slot 72\nlost 2 slot 73\nlost 2 slot 74\nlost 2 slot 75\nlost 2 slot 76\nlost 2 slot 77\n\
+        lost 2 slot 78\n",
     ),
     // In version 1 a file has no such slots.
     (TestImage::LostChild, &[(0, 8, "01")], "salvage", ""),

@@ -29,12 +29,15 @@ const RUNS: [(&str, &str, &str, u8); 22] = [
     (
         "new 64 16",
         "size @ 73728\nput @ 7168 01\nput @ 8192 02\nput @ 72704 03\nput @ 73728 04\nget @ 8191 2\nsize @ 73729",
-        "sized 73728\nput 1\nput 1\nput 1\nrefused 12 too large, stored 0\ngot bytes:00 bytes:02\nrefused 12 too large\n",
+        "sized 73728\nput 1\nput 1\nput 1\nrefused 12 too large, stored 0\ngot bytes:00 bytes:02\n\
+        refused 12 too large\n",
         0,
     ),
     (
         "new 64 16",
-        "make /a\nlink /a /b\nlink /a /c\nlink /a /d\nlink /a /e\nstat /a\nmake /xxxxxxxxxxxxxxxxxxxxxxxxxxxxxxxxxxxxxxxxxxxxxxxx\nmake /xxxxxxxxxxxxxxxxxxxxxxxxxxxxxxxxxxxxxxxxxxxxxxxxx",
+        "make /a\nlink /a /b\nlink /a /c\nlink /a /d\nlink /a /e\nstat /a\n\
+        make /xxxxxxxxxxxxxxxxxxxxxxxxxxxxxxxxxxxxxxxxxxxxxxxx\n\
+        make /xxxxxxxxxxxxxxxxxxxxxxxxxxxxxxxxxxxxxxxxxxxxxxxxx",
         "made\nlinked\nlinked\nlinked\nrefused 10 too many links\nstat file 0 4\nmade\nrefused 8 bad name\n",
         0,
     ),
@@ -53,7 +56,8 @@ const RUNS: [(&str, &str, &str, u8); 22] = [
     (
         "new 64 16",
         "put @ 2048 01\nmake /a\nmake /a\nget / 0 1\nlist /a\nstat /q",
-        "refused 13 past end, stored 0\nmade\nrefused 4 exists\nrefused 6 is a directory\nrefused 5 not a directory\nrefused 1 missing\n",
+        "refused 13 past end, stored 0\nmade\nrefused 4 exists\nrefused 6 is a directory\nrefused 5 not a directory\n\
+        refused 1 missing\n",
         0,
     ),
     (
@@ -74,8 +78,11 @@ const RUNS: [(&str, &str, &str, u8); 22] = [
     ("scan", "", "mount: bad magic 0000000000000000\n", 4),
     (
         "new 64 16",
-        "mkdir /src\nmake /src/main.rs\nput /src/main.rs 0 666e206d61696e28297b7d0a\nfsync /src/main.rs\nrename /src/main.rs lib.rs\nlist /src\nuser\nmkdir /doc\nmake /doc/a\nput /doc/a 0 7465787400\nlink /doc/a /doc/b\ndrop /doc/a\nget /doc/b 0 100\nlist /doc",
-        "made\nmade\nput 12\nsynced\nrenamed\nnames lib.rs\nmade\nmade\nput 5\nlinked\ndropped\ngot bytes:7465787400\nnames b\n",
+        "mkdir /src\nmake /src/main.rs\nput /src/main.rs 0 666e206d61696e28297b7d0a\nfsync /src/main.rs\n\
+        rename /src/main.rs lib.rs\nlist /src\nuser\nmkdir /doc\nmake /doc/a\nput /doc/a 0 7465787400\n\
+        link /doc/a /doc/b\ndrop /doc/a\nget /doc/b 0 100\nlist /doc",
+        "made\nmade\nput 12\nsynced\nrenamed\nnames lib.rs\nmade\nmade\nput 5\nlinked\ndropped\ngot bytes:7465787400\n\
+        names b\n",
         0,
     ),
 ];

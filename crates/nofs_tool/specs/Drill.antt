@@ -1,5 +1,6 @@
 -- The drill: the session of its users, what caller 0 then reads of their files, and the line that tells of it.
-use Rattle.std.specs.Prelude.{◌≡◌, ℕ, ◌+◌, ◌*◌, Bool, true, false, List, [], ◌∷◌, ◌++◌, length, take, map, codes, sum, sum_by, count_by, bytes_eq, ◌≤◌}
+use Rattle.std.specs.Prelude.{◌≡◌, ℕ, ◌+◌, ◌*◌, Bool, true, false, List, [], ◌∷◌, ◌++◌, length, take, map, codes, sum}
+use Rattle.std.specs.Prelude.{sum_by, count_by, bytes_eq, ◌≤◌}
 use Rattle.std.specs.Prelude.{if◌then◌else◌, Some, None, Result, IfOk, ⊤}
 use Rattle.std.specs.Fmt.{decimal}
 use Rattle.std.specs.declared.option.Option.{Option}
@@ -55,36 +56,43 @@ gets_from f k (r ∷ rs) = (step.Get f.inode f.generation k, r) ∷ gets_from f 
 abbrev pub IsWholeRead : Found → Stat → Option FileRead → List Made → Type 0
 IsWholeRead f s None rest = ⊥
 IsWholeRead f s (Some file) rest =
-    (file.found ≡ f) × (file.size ≡ s.size) × (length file.slots.items ≡ slots_in s.size) × (rest ≡ gets_from f 0 file.slots.items)
+    (file.found ≡ f) × (file.size ≡ s.size) × (length file.slots.items ≡ slots_in s.size)
+    × (rest ≡ gets_from f 0 file.slots.items)
 
 -- after a refusal nothing more was asked for, and there is no file; else it went on from what was answered
-abbrev pub FollowsAnswer : {A : Type 0} → (A → Option FileRead → List Made → Type 0) → Option A → Option FileRead → List Made → Type 0
+abbrev pub FollowsAnswer : {A : Type 0} → (A → Option FileRead → List Made → Type 0) → Option A → Option FileRead
+    → List Made → Type 0
 FollowsAnswer Next None read rest = (read ≡ None) × (rest ≡ [])
 FollowsAnswer Next (Some it) read rest = Next it read rest
 
 -- the size of the file was asked for, and then its slots
 abbrev pub IsReadAt : Found → Option FileRead → List Made → Type 0
 IsReadAt f read made =
-    (r : Reply) × (rest : List Made) × (made ≡ (step.Stat f.inode f.generation, r) ∷ rest) × FollowsAnswer (IsWholeRead f) (stat_in r) read rest
+    (r : Reply) × (rest : List Made) × (made ≡ (step.Stat f.inode f.generation, r) ∷ rest)
+    × FollowsAnswer (IsWholeRead f) (stat_in r) read rest
 
 -- a name of directory d was looked up, which found this
 abbrev pub IsLookedUp : ℕ → ℕ → List ℕ → Option Found → List Made → Type 0
-IsLookedUp d generation name found made = (r : Reply) × (made ≡ (step.Look d generation name, r) ∷ []) × (found ≡ found_in r)
+IsLookedUp d generation name found made = (r : Reply) × (made ≡ (step.Look d generation name, r) ∷ [])
+    × (found ≡ found_in r)
 
 -- the file was looked up in its directory, and then read
 abbrev pub IsReadIn : Found → Option FileRead → List Made → Type 0
 IsReadIn d read made =
-    (r : Reply) × (rest : List Made) × (made ≡ (step.Look d.inode d.generation (codes "f"), r) ∷ rest) × FollowsAnswer IsReadAt (found_in r) read rest
+    (r : Reply) × (rest : List Made) × (made ≡ (step.Look d.inode d.generation (codes "f"), r) ∷ rest)
+    × FollowsAnswer IsReadAt (found_in r) read rest
 
 -- the directory of a user was looked up in the root, and then its file
 abbrev pub IsFileRead : ℕ → Option FileRead → List Made → Type 0
 IsFileRead user read made =
-    (r : Reply) × (rest : List Made) × (made ≡ (step.Look 1 1 (digit user), r) ∷ rest) × FollowsAnswer IsReadIn (found_in r) read rest
+    (r : Reply) × (rest : List Made) × (made ≡ (step.Look 1 1 (digit user), r) ∷ rest)
+    × FollowsAnswer IsReadIn (found_in r) read rest
 
 -- the files of the users from one on were read, one after the other
 abbrev pub AreRead : ℕ → List (Option FileRead) → List Made → Type 0
 AreRead user [] made = made ≡ []
-AreRead user (read ∷ reads) made = (front : List Made) × (back : List Made) × (made ≡ front ++ back) × IsFileRead user read front × AreRead (user + 1)
+AreRead user (read ∷ reads) made = (front : List Made) × (back : List Made) × (made ≡ front ++ back)
+    × IsFileRead user read front × AreRead (user + 1)
     reads back
 
 -- caller 0 added these steps with their replies, and no other caller anything
@@ -108,8 +116,8 @@ AreReadings (m ∷ made) = (is_reading m.0 ≡ true) × AreReadings made
 abbrev pub IsOneStep : Step → Reply → List Made → Type 0
 IsOneStep s r made = made ≡ (s, r) ∷ []
 
--- Whatever the result is, caller 0 added steps that read, and no other caller anything; and where it is Ok, more is said of it and
--- of these steps
+-- Whatever the result is, caller 0 added steps that read, and no other caller anything; and where it is Ok, more is
+-- said of it and of these steps
 pub record ReadsBy {T E : Type 0} (Is : T → List Made → Type 0) (result : Result T E) (H K : List Entry1) : Type 0 where
   pub made : List Made
   pub adds : AddsOwn made H K
@@ -184,8 +192,8 @@ drill_line start steps refused bytes total wrong =
     ++ codes ", refused " ++ decimal refused ++ codes ", bytes " ++ decimal bytes ++ codes ", sum " ++ decimal total
     ++ codes ", wrong " ++ decimal wrong ++ codes "\n"
 
--- Caller 0 read the four files and made all durable; and the line has the numbers that follow from the replies to these reads and
--- a replay of the history
+-- Caller 0 read the four files and made all durable; and the line has the numbers that follow from the replies to these
+-- reads and a replay of the history
 pub record IsReadOut (start steps refused : ℕ) (served H : List Entry1) (text : List ℕ) : Type 0 where
   pub seen : List Entry1
   pub reads : List (Option FileRead)
@@ -195,21 +203,23 @@ pub record IsReadOut (start steps refused : ℕ) (served H : List Entry1) (text 
   pub adds : AddsOwn made served seen
   pub closes : AddsStep PROGRAM (step.Flush 0 0) flush seen H
   pub closed : is_out_of_memory flush ≡ false
-  pub tells : text ≡ drill_line start steps refused (sum_by size_told reads) (sum_by sum_told reads) (sum_by (wrong_told H) reads)
+  pub tells : text ≡ drill_line start steps refused (sum_by size_told reads) (sum_by sum_told reads)
+      (sum_by (wrong_told H) reads)
 
--- The drawn users were served and every element examined, and then the files were read out. Of the lines, which follow from the
--- replies in the history, those are counted that tell of a refusal
+-- The drawn users were served and every element examined, and then the files were read out. Of the lines, which follow
+-- from the replies in the history, those are counted that tell of a refusal
 pub record IsDrilled (start steps : ℕ) (H : List Entry1) (text : List ℕ) : Type 0 where
   pub served : List Entry1
   pub inodes : ℕ
   pub blocks : ℕ
   pub lines : List (List Line)
   pub team : TeamMade (drill_session start steps) inodes blocks false lines (λ c. steps_by c served)
-  pub out : IsReadOut start steps (count_by is_refused_line (session_lines 1 (drill_session start steps) H)) served H text
+  pub out : IsReadOut start steps
+      (count_by is_refused_line (session_lines 1 (drill_session start steps) H)) served H text
 
--- What a drill adds to the history of a new mount, whatever comes of it: the steps of the drawn users and of the sweeps, which are as
--- those of every session; then of caller 0 none but such as read; then its flush of the whole disk. Where memory was wanting
--- (`short`), each may have ended early; else the reads are just those of the four files
+-- What a drill adds to the history of a new mount, whatever comes of it: the steps of the drawn users and of the
+-- sweeps, which are as those of every session; then of caller 0 none but such as read; then its flush of the whole
+-- disk. Where memory was wanting (`short`), each may have ended early; else the reads are just those of the four files
 pub record IsDrillRun (start steps inodes blocks : ℕ) (short : Bool) (H : List Entry1) : Type 0 where
   pub served : List Entry1
   pub seen : List Entry1
@@ -246,4 +256,5 @@ pub record IsReadFollowed (out : Bool) (served : List Entry1) (text : Option (Li
 -- a drill whose line the sink took
 abbrev pub IsDrillDone : ℕ → ℕ → Option HistoryState → SinkState → SinkState → Type 0
 IsDrillDone start steps None old new = ⊥
-IsDrillDone start steps (Some h) old new = (has_fault h.entries ≡ false) × ((text : List ℕ) × IsDrilled start steps h.entries text × AppendsAll old new text)
+IsDrillDone start steps (Some h) old new = (has_fault h.entries ≡ false)
+    × ((text : List ℕ) × IsDrilled start steps h.entries text × AppendsAll old new text)

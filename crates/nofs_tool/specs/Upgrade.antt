@@ -20,7 +20,8 @@ upgrade_status (why.Mount _) = 4
 -- the device was not upgraded, and nothing was written: its superblock has this fault, by the table
 abbrev pub IsRefusedUpgrade : DiskState → DiskState → Type 0
 IsRefusedUpgrade old new = KeepsCells old new
-    × (0 < old.blocks → IsTrue old.tells → (why : UpgradeFault) × (check_upgrade old.blocks (cell_at old.now 0).payload ≡ Err why))
+    × (0 < old.blocks → IsTrue old.tells
+    → (why : UpgradeFault) × (check_upgrade old.blocks (cell_at old.now 0).payload ≡ Err why))
 
 -- what comes of an upgrade: at status 0 it was made and the sink took its line
 pub record UpgradeEnds (old new : DiskState) (sink_old sink_new : SinkState) (status : ℕ) : Type 0 where

@@ -1,6 +1,7 @@
 //! Raising an image from version 1 to version 2.
 //!
-//! Promise: status 0 says that the version is 2, durably, and that the line was taken. No mount begins, so there is no history.
+//! Promise: status 0 says that the version is 2, durably, and that the line was taken. No mount begins, so there is no
+//! history.
 
 ghost use Rattle.std.specs.Prelude.{◌≡◌, ◌⊎◌, None};
 ghost use Rattle.nofs_disk.specs.Disk.{Rose};
@@ -52,8 +53,10 @@ pub(crate) fn upgrade_outcome<K: Sink, D: Disk + Drop>(
     disk: D,
 ) -> Outcome<D>
     ensures history { result.history ≡ None }
-    ensures ends { UpgradeEnds (D.state disk) (D.state result.disk) (K.state sink.old) (K.state sink.new) result.status }
-    ensures says { (result.status ≡ 3) ⊎ (result.status ≡ 4) ⊎ (result.status ≡ 5) → SaysUpgrade (K.state sink.old) (K.state sink.new) result.status }
+    ensures ends { UpgradeEnds (D.state disk) (D.state result.disk) (K.state sink.old)
+        (K.state sink.new) result.status }
+    ensures says { (result.status ≡ 3) ⊎ (result.status ≡ 4) ⊎ (result.status ≡ 5)
+        → SaysUpgrade (K.state sink.old) (K.state sink.new) result.status }
 {
     let mut disk = disk;
     match upgrade(&mut disk) {

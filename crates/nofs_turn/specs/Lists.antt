@@ -1,5 +1,6 @@
 -- Words on lists that the turn's rule needs.
-use Rattle.std.specs.Prelude.{◌≡◌, ℕ, ◌+◌, ◌<◌, ◌≤◌, ◌==◌, nat_lt, nat_le, Bool, true, cond, ◌&&◌, List, [], ◌∷◌, length, Some, slice_get}
+use Rattle.std.specs.Prelude.{◌≡◌, ℕ, ◌+◌, ◌<◌, ◌≤◌, ◌==◌, nat_lt, nat_le, Bool, true, cond, ◌&&◌, List, [], ◌∷◌}
+use Rattle.std.specs.Prelude.{length, Some, slice_get}
 
 -- 1 where the two are one number, and else 0
 abbrev pub one_if : ℕ → ℕ → ℕ

@@ -7,7 +7,9 @@ use Rattle.nofs_turn.specs.Lists.{numbered}
 use Rattle.nofs_turn.specs.Rule.Views.{gave}
 
 -- A section ran once between the views v and w, and answered out. It met the list `before` and left `after`
-pub record Ran {E F Out : Type 0} (tells : F → List E → List E → Out → Type 0) (v w : View E F) (out : Out) : Type 0 where
+pub record Ran {
+    E F Out : Type 0
+    } (tells : F → List E → List E → Out → Type 0) (v w : View E F) (out : Out) : Type 0 where
   pub part : F
   pub before : List E
   pub after : List E
@@ -18,10 +20,17 @@ pub record Ran {E F Out : Type 0} (tells : F → List E → List E → Out → T
   pub at_most_one : length after ≤ length before + 1
   pub told : tells part before after out
   pub looked_more : v.looks < looks_now
-  pub now : w ≡ record v { seen = after; mine = v.mine ++ numbered (length before) (drop (length before) after); looks = looks_now; last = 2 * length before }
+  pub now : w ≡ record v {
+    seen = after;
+    mine = v.mine ++ numbered (length before) (drop (length before) after);
+    looks = looks_now;
+    last = 2 * length before;
+  }
 
 -- A section ran on the value x, and y is what it left. Beside its answer stands the number of entries
-pub record RanOnce {T E F Out : Type 0} (entries : T → List E) (fixed : T → F) (tells : F → List E → List E → Out → Type 0) (x y : T) (answer : Out × ℕ)
+pub record RanOnce {
+    T E F Out : Type 0
+    } (entries : T → List E) (fixed : T → F) (tells : F → List E → List E → Out → Type 0) (x y : T) (answer : Out × ℕ)
     : Type 0 where
   pub same_part : fixed y ≡ fixed x
   pub keeps : IsPrefix (entries x) (entries y)
@@ -31,15 +40,20 @@ pub record RanOnce {T E F Out : Type 0} (entries : T → List E) (fixed : T → 
   pub small : answer.1 < 2 ^ 63
 
 -- the seat carries the value whose list its view has seen, and the section may run on it
-abbrev pub Carries : {T E F : Type 0} → (T → List E) → (T → F) → (F → List E → Type 0) → Me (Option T) (View E F) → Type 0
-Carries {T = T} entries fixed asks me = (x : T) × (me.1 ≡ (0, Some x) ∷ []) × (entries x ≡ me.0.seen) × (me.0.fixed ≡ Some (fixed x))
+abbrev pub Carries : {T E F : Type 0} → (T → List E) → (T → F) → (F → List E → Type 0)
+    → Me (Option T) (View E F) → Type 0
+Carries {T = T} entries fixed asks me = (x : T) × (me.1 ≡ (0, Some x) ∷ []) × (entries x ≡ me.0.seen)
+    × (me.0.fixed ≡ Some (fixed x))
     × asks (fixed x) (entries x)
 
 -- the section ran on the value whose list the view v had seen, and what it left was given back
-abbrev pub HasRun : {T E F Out : Type 0} → (T → List E) → (T → F) → (F → List E → List E → Out → Type 0) → View E F → Out → Me (Option T) (View E F)
+abbrev pub HasRun : {T E F Out : Type 0} → (T → List E) → (T → F) → (F → List E → List E → Out → Type 0) → View E F
+    → Out → Me (Option T) (View E F)
     → Type 0
-HasRun {T = T} entries fixed tells v out after = (x y : T) × (entries x ≡ v.seen) × (v.fixed ≡ Some (fixed x)) × IsPrefix (entries x) (entries y)
-    × (length (entries y) ≤ length (entries x) + 1) × tells (fixed x) (entries x) (entries y) out × (after ≡ (gave v (entries y), []))
+HasRun {T = T} entries fixed tells v out after = (x y : T) × (entries x ≡ v.seen) × (v.fixed ≡ Some (fixed x))
+    × IsPrefix (entries x) (entries y)
+    × (length (entries y) ≤ length (entries x) + 1) × tells (fixed x) (entries x) (entries y) out
+    × (after ≡ (gave v (entries y), []))
 
 -- what the pass v knows lets the section run
 abbrev pub MayRun : {E F : Type 0} → (F → List E → Type 0) → View E F → Type 0
@@ -49,7 +63,8 @@ MayRun {F = F} asks v = (f : F) → v.fixed ≡ Some f → asks f v.seen
 abbrev pub Waited : {E F : Type 0} → View E F → View E F → Type 0
 Waited v w = (v.looks ≤ w.looks) × (w ≡ record v { looks = w.looks; last = w.last })
 
--- The pass v gets the value at the end: it has the fixed part, the list begins with all that was seen, and the entries from the start on are the pass's own
+-- The pass v gets the value at the end: it has the fixed part, the list begins with all that was seen, and the entries
+-- from the start on are the pass's own
 pub record Closes {T E F : Type 0} (entries : T → List E) (fixed : T → F) (v : View E F) (value : T) : Type 0 where
   pub same_part : v.fixed ≡ Some (fixed value)
   pub begins : IsPrefix v.seen (entries value)

@@ -13,7 +13,8 @@
 //!
 //! - counted: `parked` has it in its number, so that the next give takes it off and sends a wake.
 //! - asleep: counted, or the wake for it is sent. Nothing is promised of who is woken: any sleeper is.
-ghost use Rattle.std.specs.Prelude.{◌≡◌, ℕ, ◌+◌, ◌*◌, ◌/◌, ◌%◌, ◌<◌, ◌≤◌, true, false, [], ◌∷◌, length, Some, IfOk, IfErr, OnErr};
+ghost use Rattle.std.specs.Prelude.{◌≡◌, ℕ, ◌+◌, ◌*◌, ◌/◌, ◌%◌, ◌<◌, ◌≤◌, true, false, [], ◌∷◌, length, Some, IfOk};
+ghost use Rattle.std.specs.Prelude.{IfErr, OnErr};
 ghost use mathlib.Core.List.{IsPrefix};
 
 use crate::rule::kept::{Kept, Section};
@@ -100,7 +101,8 @@ impl<V: Kept> Turn<V> {
     ) -> (S::Out, u64)
         requires of { seat.old.table_id ≡ self.now.table.shared.table_id }
         requires carries { (x : V) × (seat.old.me.1 ≡ (0, Some x) ∷ []) × S.asks section (V.fixed x) (V.entries x) }
-        ensures same { (seat.new.table_id ≡ seat.old.table_id) × (seat.new.id ≡ seat.old.id) × (seat.new.me.0 ≡ seat.old.me.0) }
+        ensures same { (seat.new.table_id ≡ seat.old.table_id) × (seat.new.id ≡ seat.old.id)
+            × (seat.new.me.0 ≡ seat.old.me.0) }
         ensures ran { (x y : V) × (seat.old.me.1 ≡ (0, Some x) ∷ []) × (seat.new.me.1 ≡ (0, Some y) ∷ [])
             × RanOnce V.entries V.fixed (S.tells section) x y result }
     {
@@ -172,7 +174,8 @@ impl<V: Kept> Turn<V> {
         ensures of { IsPassOf self.now pass.new }
         ensures ran { IfOk result (λ out. Ran (S.tells section) (view_of pass.old) (view_of pass.new) out) }
         ensures one_look { (view_of pass.new).looks ≡ (view_of pass.old).looks + 1 }
-        ensures busy { IfErr result (λ b. (b.section ≡ section) × (b.word % 2 ≡ 1) × (view_of pass.new ≡ looked (view_of pass.old) b.word)) }
+        ensures busy { IfErr result
+            (λ b. (b.section ≡ section) × (b.word % 2 ≡ 1) × (view_of pass.new ≡ looked (view_of pass.old) b.word)) }
         ensures others { OnErr result ((view_of pass.old).stands < (view_of pass.old).seats) }
     {
         let found = self.take(&mut pass.seat);
@@ -211,7 +214,8 @@ impl<V: Kept> Turn<V> {
         requires of { IsPassOf self.now into.old × IsPassOf self.now from }
         ensures of { IsPassOf self.now into.new }
         ensures joined { view_of into.new ≡ joined (view_of into.old) (view_of from) }
-        ensures knows { IsPrefix (view_of into.old).seen (view_of into.new).seen × IsPrefix (view_of from).seen (view_of into.new).seen }
+        ensures knows { IsPrefix (view_of into.old).seen (view_of into.new).seen
+            × IsPrefix (view_of from).seen (view_of into.new).seen }
     {
         let Pass { seat, stands } = from;
         self.table.shared.join_seat::<Unite>(&mut into.seat, seat);
@@ -223,8 +227,10 @@ impl<V: Kept> Turn<V> {
     /// that are out. A pass that was dropped stays out for good.
     pub fn close(self, pass: Pass<V>) -> Result<V, PassesOut<V>>
         requires of { IsPassOf self pass }
-        ensures closed { IfOk result (λ value. Closes V.entries V.fixed (view_of pass) value × ((view_of pass).stands ≡ (view_of pass).seats)) }
-        ensures out { IfErr result (λ e. (e.turn ≡ self) × (e.pass ≡ pass) × (0 < e.out) × (e.out + (view_of pass).stands ≡ (view_of pass).seats)) }
+        ensures closed { IfOk result
+            (λ value. Closes V.entries V.fixed (view_of pass) value × ((view_of pass).stands ≡ (view_of pass).seats)) }
+        ensures out { IfErr result (λ e. (e.turn ≡ self) × (e.pass ≡ pass) × (0 < e.out)
+            × (e.out + (view_of pass).stands ≡ (view_of pass).seats)) }
     {
         if pass.stands < self.seats {
             let out = self.seats - pass.stands;

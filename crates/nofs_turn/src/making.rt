@@ -21,7 +21,8 @@ impl<V: Kept> Turn<V> {
     /// then comes back unchanged.
     pub fn new(alloc: Global, value: V, seats: u32) -> Result<(Turn<V>, Vec<Pass<V>>), TurnFault<V>>
         requires { (0 < seats) × (seats ≤ 64) }
-        ensures passes { IfOk result (λ t. (vec_len t.1 ≡ seats) × All (IsFreshPass V.entries V.fixed t.0 value seats) t.1.items) }
+        ensures passes { IfOk result
+            (λ t. (vec_len t.1 ≡ seats) × All (IsFreshPass V.entries V.fixed t.0 value seats) t.1.items) }
         ensures made { IfOk result (λ t. (made_over t.0 ≡ value) × (t.0.seats ≡ seats)) }
         ensures err { IfErr result (λ e. e.value ≡ value) }
     {

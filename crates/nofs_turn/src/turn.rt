@@ -13,8 +13,8 @@
 //! - free: the value is at home, and each pass has seen a beginning of its list.
 //! - taken: one pass has the value, and no other can take it.
 //!
-//! A pass rests, or its section runs and it has the turn. It stands for itself and those that were joined to it; the one that stands
-//! for all can close the turn.
+//! A pass rests, or its section runs and it has the turn. It stands for itself and those that were joined to it; the
+//! one that stands for all can close the turn.
 ghost use Rattle.std.specs.Prelude.{◌≡◌, ◌<◌, ◌≤◌, false, true, []};
 ghost use Rattle.nofs_turn.specs.Lists.{rises};
 

@@ -3,7 +3,8 @@ use Rattle.std.proofs.Common.{◌≡◌, ◌≢◌, ℕ, ◌^◌, ◌<◌, true,
 use Rattle.std.specs.Prelude.{slice_range, is_none, nat_eq}
 use Rattle.std.proofs.lemmas.Bool.{and_parts}
 use lib.Pointwise.{pointwise}
-use Rattle.nofs_disk.specs.Number.{IsBytes, IsBytes-put_number, number_at, number_at-put_before, number_at-put_same, put_number}
+use Rattle.nofs_disk.specs.Number.{IsBytes, IsBytes-put_number, number_at, number_at-put_before, number_at-put_same}
+use Rattle.nofs_disk.specs.Number.{put_number}
 use Rattle.nofs_disk.specs.Parts.{range-put_behind, take-put_number}
 use Rattle.nofs_disk.specs.Tag.{tag_bytes}
 use Rattle.nofs_super.specs.Format.{super_cell, super_payload}
@@ -43,7 +44,8 @@ module _ (payload : List ℕ) (it : SuperBlock) (len : length payload ≡ 1024) 
   numbers-kept : super_in changed ≡ second it
   unfolding changed super_in
   numbers-kept =
-      let version : number_at 4 8 (put_number 4 8 2 payload) ≡ 2 = number_at-put_same 4 8 2 payload (omega arith) (omega (arith, len)) in
+      let version : number_at 4 8 (put_number 4 8 2 payload) ≡ 2 =
+      number_at-put_same 4 8 2 payload (omega arith) (omega (arith, len)) in
       let blocks : number_at 8 16 (put_number 4 8 2 payload) ≡ number_at 8 16 payload =
       number_at-put_before 4 8 8 16 2 payload (omega (arith, len)) (omega arith) in
       let inodes : number_at 8 24 (put_number 4 8 2 payload) ≡ number_at 8 24 payload =
@@ -55,7 +57,8 @@ module _ (payload : List ℕ) (it : SuperBlock) (len : length payload ≡ 1024) 
   changed-spelled : is_super changed ≡ true
   unfolding is_super
   changed-spelled =
-      let one = and_parts (has_magic payload) (is_version (super_in payload).version && is_none (rest_fault payload)) s.spelled in
+      let one = and_parts (has_magic payload)
+      (is_version (super_in payload).version && is_none (rest_fault payload)) s.spelled in
       let two = and_parts (is_version (super_in payload).version) (is_none (rest_fault payload)) one.1 in
       rw (magic-kept, rest-kept, numbers-kept, one.0, two.1) refl
 
@@ -81,7 +84,8 @@ module _ (blocks : ℕ) (it : SuperBlock) (can : CanMount blocks it) where
   second-spells = spells (super_cell (second it)).payload (second it) second-spelled
 
   -- the cell that is written is the one that was there, but for the version and the tag
-  pub second-is : (c : Cell) → IsBytes 1024 c.payload → super_of c.payload ≡ Some it → super_cell (second it) ≡ second_cell c
+  pub second-is : (c : Cell) → IsBytes 1024 c.payload → super_of c.payload ≡ Some it
+      → super_cell (second it) ≡ second_cell c
   unfolding super_cell
   second-is c is spelled =
       let b = can.geometry.most_blocks in
@@ -89,8 +93,10 @@ module _ (blocks : ℕ) (it : SuperBlock) (can : CanMount blocks it) where
       let m = can.mount in
       let new = changed-spells c.payload it is.len (spells c.payload it spelled) in
       let same : put_number 4 8 2 c.payload ≡ super_payload (second it) =
-      super_of-only (second it) two-small (omega (arith, b)) (omega (arith, i)) (omega (arith, m)) (put_number 4 8 2 c.payload)
-      (IsBytes-put_number 1024 4 8 2 c.payload (omega arith) is) (spelled-of (put_number 4 8 2 c.payload) (second it) new) in
+      super_of-only (second it) two-small (omega (arith, b)) (omega (arith, i)) (omega (arith, m))
+      (put_number 4 8 2 c.payload)
+      (IsBytes-put_number 1024 4 8 2 c.payload (omega arith) is)
+      (spelled-of (put_number 4 8 2 c.payload) (second it) new) in
       λ j. record { payload = sym same j; tag = tag_bytes super_tag }
 
   super-is : (X : Image) → cell_at X 0 ≡ super_cell (second it) → super_at X ≡ second it
@@ -104,7 +110,8 @@ module _ (blocks : ℕ) (it : SuperBlock) (can : CanMount blocks it) where
   }
 
   -- an image with the cell that is written is the one before, but for the version and the tag
-  pub second-of : (Z X : Image) → it.version ≡ 1 → length X ≡ length Z → ((b : ℕ) → b ≢ 0 → cell_at X b ≡ cell_at Z b) → IsBytes 1024 (cell_at Z 0).payload
+  pub second-of : (Z X : Image) → it.version ≡ 1 → length X ≡ length Z → ((b : ℕ) → b ≢ 0 → cell_at X b ≡ cell_at Z b)
+      → IsBytes 1024 (cell_at Z 0).payload
       → super_of (cell_at Z 0).payload ≡ Some it → cell_at X 0 ≡ super_cell (second it) → IsSecond Z X
   unfolding super_at
   second-of Z X one size others is spelled ex =

@@ -13,12 +13,15 @@ AreSound d = (X : Image) → Picks d.may d.blocks X → IsSound X
 
 -- A disk whose images are sound has sound images at each moment of an upgrade, and after it.
 abbrev pub LawSoundUpgrade : DiskState → DiskState → Type 0
-LawSoundUpgrade old new = StaysOrUpgrades old new → AreSound old → AreSound new × AtEach (λ m X. IsSound X) old.moment new
+LawSoundUpgrade old new = StaysOrUpgrades old new → AreSound old
+    → AreSound new × AtEach (λ m X. IsSound X) old.moment new
 
--- A life that begins at an image of an upgrade, whenever a crash ended it, comes next after the life whose images the disk may hold.
+-- A life that begins at an image of an upgrade, whenever a crash ended it, comes next after the life whose images the
+-- disk may hold.
 abbrev pub LawUpgradeBetween : DiskState → DiskState → Type 0
 LawUpgradeBetween old new =
-    StaysOrUpgrades old new → (before after : Life) (m : ℕ) → ((X : Image) → Picks old.may old.blocks X → IsAllowed before.base before.history m X)
+    StaysOrUpgrades old new → (before after : Life) (m : ℕ)
+    → ((X : Image) → Picks old.may old.blocks X → IsAllowed before.base before.history m X)
     → (X : Image) → Picks new.may new.blocks X → Raised X after.base → NextLife before after
 
 -- An upgrade that ended early and is run again is one upgrade.

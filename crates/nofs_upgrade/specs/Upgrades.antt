@@ -1,5 +1,6 @@
 -- What an upgrade is, why it is refused, and what a crash may leave while it runs.
-use Rattle.std.specs.Prelude.{◌≡◌, ◌≢◌, ◌==◌, ℕ, ◌+◌, ◌<◌, ◌≤◌, ◌⊎◌, if◌then◌else◌, List, [], length, IsTrue, Some, Result, Ok, Err, IfOk, IfErr, slice_set}
+use Rattle.std.specs.Prelude.{◌≡◌, ◌≢◌, ◌==◌, ℕ, ◌+◌, ◌<◌, ◌≤◌, ◌⊎◌, if◌then◌else◌, List, [], length, IsTrue, Some}
+use Rattle.std.specs.Prelude.{Result, Ok, Err, IfOk, IfErr, slice_set}
 use Rattle.nofs_disk.specs.Disk.{DiskState, IsSameDisk, IsSettled, KeepsCells, KeepsPast, Picks, Rose}
 use Rattle.nofs_disk.specs.Moments.{AtEach}
 use Rattle.nofs_disk.specs.Number.{IsBytes, put_number}
@@ -22,7 +23,10 @@ second it = record it { version = 2 }
 
 -- the cell of block 0 with version 2 and the tag of a superblock: each other byte of its payload is as it was
 abbrev pub second_cell : Cell → Cell
-second_cell c = record { payload = put_number 4 8 2 c.payload; tag = tag_bytes (record { kind = Super; inode = 0; generation = 0; slot = 0; stamp = 0 }) }
+second_cell c = record {
+  payload = put_number 4 8 2 c.payload;
+  tag = tag_bytes (record { kind = Super; inode = 0; generation = 0; slot = 0; stamp = 0 });
+}
 
 -- Y is X but for the version and the tag of block 0
 pub record OnlyVersion (X Y : Image) : Type 0 where
@@ -36,8 +40,8 @@ pub record IsSecond (X Y : Image) : Type 0 where
   pub upgraded : Upgraded X Y
   pub spelled : HasSuperCell Y
 
--- X is an image that picks from what the disk may hold, or such an image with version 2; its records, values, agreed inodes
--- and verdicts are of that image, and it is as sound
+-- X is an image that picks from what the disk may hold, or such an image with version 2; its records, values, agreed
+-- inodes and verdicts are of that image, and it is as sound
 pub record IsFoundOrSecond (d : DiskState) (X : Image) : Type 0 where
   pub found : Image
   pub picks : Picks d.may d.blocks found
@@ -58,7 +62,8 @@ abbrev pub check_version : Result SuperBlock MountFault → Result SuperBlock Up
 check_version (Err why) = Err (Mount why)
 check_version (Ok it) = if it.version == 2 then Err Already else Ok it
 
--- the table of faults: the superblock of a payload that is upgraded on a device of this many blocks, or the first fault that it has
+-- the table of faults: the superblock of a payload that is upgraded on a device of this many blocks, or the first fault
+-- that it has
 abbrev pub check_upgrade : ℕ → List ℕ → Result SuperBlock UpgradeFault
 check_upgrade device payload = check_version (check_super device payload)
 
@@ -103,8 +108,10 @@ pub record IsUpgradeRefused (old new : DiskState) (why : UpgradeFault) : Type 0 
   pub empty : old.blocks ≡ 0 → why ≡ Mount (mount.DeviceTooSmall 0)
   pub read : why ≡ Mount mount.ReadFault → Rose old.faults new.faults
   pub memory : why ≡ Mount mount.OutOfMemory → (it : SuperBlock) × CanUpgrade old it
-  pub told : IsOfTable why → 0 < old.blocks → IsTrue old.tells → check_upgrade old.blocks (cell_at old.now 0).payload ≡ Err why
-  pub some : IsOfTable why → 0 < old.blocks → (payload : List ℕ) × IsBytes 1024 payload × (check_upgrade old.blocks payload ≡ Err why)
+  pub told : IsOfTable why → 0 < old.blocks → IsTrue old.tells
+      → check_upgrade old.blocks (cell_at old.now 0).payload ≡ Err why
+  pub some : IsOfTable why
+      → 0 < old.blocks → (payload : List ℕ) × IsBytes 1024 payload × (check_upgrade old.blocks payload ≡ Err why)
 
 -- what comes before the write: the superblock, with room for two calls
 pub record PreparesUpgrade (old new : DiskState) (result : Result SuperBlock UpgradeFault) : Type 0 where

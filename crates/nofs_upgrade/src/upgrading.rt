@@ -1,7 +1,8 @@
 //! The upgrade: what is asked before it, and why it is refused.
 ghost use Rattle.std.specs.Prelude.{◌≡◌, ◌≢◌, IfErr, IsTrue, OnOk};
 ghost use Rattle.nofs_disk.specs.Disk.{IsSameDisk, KeepsPast};
-ghost use Rattle.nofs_upgrade.specs.Upgrades.{IsUpgradeRefused, IsUpgraded, IsUpgradeStopped, PreparesUpgrade, StaysOrUpgrades};
+ghost use Rattle.nofs_upgrade.specs.Upgrades.{IsUpgradeRefused, IsUpgraded, IsUpgradeStopped, PreparesUpgrade};
+ghost use Rattle.nofs_upgrade.specs.Upgrades.{StaysOrUpgrades};
 
 use crate::fault::UpgradeFault;
 use crate::second::write_second;
@@ -20,8 +21,10 @@ pub fn upgrade<D: Disk>(disk: &mut D) -> Result<(), UpgradeFault>
     ensures disk { IsSameDisk (D.state disk.old) (D.state disk.new) }
     ensures past { KeepsPast (D.state disk.old) (D.state disk.new) }
     ensures upgraded { OnOk result (IsUpgraded (D.state disk.old) (D.state disk.new)) }
-    ensures stopped { result ≡ Err (UpgradeFault.Mount MountFault.WriteFault) → IsUpgradeStopped (D.state disk.old) (D.state disk.new) }
-    ensures refused { IfErr result (λ why. why ≢ UpgradeFault.Mount MountFault.WriteFault → IsUpgradeRefused (D.state disk.old) (D.state disk.new) why) }
+    ensures stopped { result ≡ Err (UpgradeFault.Mount MountFault.WriteFault)
+        → IsUpgradeStopped (D.state disk.old) (D.state disk.new) }
+    ensures refused { IfErr result (λ why. why ≢ UpgradeFault.Mount MountFault.WriteFault
+        → IsUpgradeRefused (D.state disk.old) (D.state disk.new) why) }
     ensures images { IsTrue (D.state disk.old).tells → StaysOrUpgrades (D.state disk.old) (D.state disk.new) }
 {
     let old = prepare(disk)?;

@@ -1,5 +1,6 @@
 -- Which calls are to fail, and the counts of calls and faults.
-use Rattle.std.specs.Prelude.{ℕ, ◌+◌, ◌-◌, ◌^◌, min, if◌then◌else◌, is_some, ◌==◌, ◌&&◌, Bool, true, false, List, Option, find}
+use Rattle.std.specs.Prelude.{ℕ, ◌+◌, ◌-◌, ◌^◌, min, if◌then◌else◌, is_some, ◌==◌, ◌&&◌, Bool, true, false, List}
+use Rattle.std.specs.Prelude.{Option, find}
 use Rattle.std.specs.Option.{option_map}
 use Rattle.nofs_versions.specs.declared.call.CallKind.{CallKind}
 use Rattle.nofs_versions.specs.declared.call.CallKind.TheVariants.{Read, Write, Flush}

@@ -1,5 +1,6 @@
 -- A disk in memory, by the cells that it began with and the writes and flushes since.
-use Rattle.std.specs.Prelude.{◌≡◌, ◌⊎◌, ℕ, ◌+◌, ◌-◌, ◌*◌, ◌/◌, ◌<◌, ◌≤◌, ◌==◌, nat_lt, if◌then◌else◌, Bool, true, false, ◌&&◌, List, [], ◌∷◌, length}
+use Rattle.std.specs.Prelude.{◌≡◌, ◌⊎◌, ℕ, ◌+◌, ◌-◌, ◌*◌, ◌/◌, ◌<◌, ◌≤◌, ◌==◌, nat_lt, if◌then◌else◌, Bool, true, false}
+use Rattle.std.specs.Prelude.{◌&&◌, List, [], ◌∷◌, length}
 use Rattle.std.specs.Prelude.{take, fold, slice_index_or, slice_set}
 use Rattle.nofs_disk.specs.declared.tag.Cell.{Cell}
 use Rattle.nofs_disk.specs.Disk.{DiskState, Picks, cell_at, no_cell}
@@ -87,15 +88,21 @@ state_of start base calls spare faults = record {
 -- the search for a version of a block, after one call more
 abbrev pub searched : Search → ℕ → ℕ → Call → Search
 searched search block version (Write at cell taken) =
-    if taken && (at == block) then record { count = search.count + 1; last = cell; found = if search.count == version then cell else search.found } else search
+    if taken && (at == block) then record {
+      count = search.count + 1;
+      last = cell;
+      found = if search.count == version then cell else search.found;
+    } else search
 searched search block version (Flush settles) =
-    if settles then record { count = 1; last = search.last; found = if version == 0 then search.last else search.found } else search
+    if settles then record { count = 1; last = search.last; found = if version == 0 then search.last else search.found }
+    else search
 
 -- what is known of a search
 pub record IsSearch (held : Held) (block version : ℕ) (search : Search) : Type 0 where
   pub count : search.count ≡ length (held.may block)
   pub last : block < length held.now → search.last ≡ cell_at held.now block
-  pub found : block < length held.now → version < search.count → search.found ≡ slice_index_or (held.may block) version no_cell
+  pub found : block < length held.now
+      → version < search.count → search.found ≡ slice_index_or (held.may block) version no_cell
 
 -- a pick of a block that is there, and of a cell that it may hold
 pub record PicksVersions (disk : DiskState) (pick : Pick) : Type 0 where
@@ -105,4 +112,5 @@ pub record PicksVersions (disk : DiskState) (pick : Pick) : Type 0 where
 -- the cells with each pick in its place
 abbrev pub picked : (ℕ → List Cell) → List Cell → List Pick → List Cell
 picked may cells [] = cells
-picked may cells (pick ∷ picks) = picked may (slice_set cells pick.block (slice_index_or (may pick.block) pick.version no_cell)) picks
+picked may cells (pick ∷ picks) =
+    picked may (slice_set cells pick.block (slice_index_or (may pick.block) pick.version no_cell)) picks

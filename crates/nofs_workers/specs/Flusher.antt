@@ -14,7 +14,8 @@ module _ {S : Type 0} where
 
 module _ {S T : Type 0} where
   -- it wrote out `turns` times, and made no step
-  pub record Flushes (made : S → List Made) (wrote : S → Result (Option ℕ) OutFault → S → Type 0) (goes : S → S → Type 0) (old new : Flusher S T) : Type 0 where
+  pub record Flushes (made : S → List Made) (wrote : S → Result (Option ℕ) OutFault → S → Type 0)
+      (goes : S → S → Type 0) (old new : Flusher S T) : Type 0 where
     pub turns : new.turns ≡ old.turns
     pub none_made : made new.steps ≡ made old.steps
     pub wrote_out : WroteOut wrote old.turns old.steps new.steps

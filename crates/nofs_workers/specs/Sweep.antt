@@ -34,7 +34,8 @@ pub record Makes (kind : ElementKind) (elements : List ℕ) (old new : List Made
   pub steps : map made_step made ≡ map (see_of kind) elements
 
 -- just the steps that examine the first of these elements were made, and all where none found no memory
-pub record MakesFirst (kind : ElementKind) (elements : List ℕ) (out_of_memory : Bool) (old new : List Made) : Type 0 where
+pub record MakesFirst (kind : ElementKind) (elements : List ℕ) (out_of_memory : Bool)
+    (old new : List Made) : Type 0 where
   pub count : ℕ
   pub at_most : count ≤ length elements
   pub whole : out_of_memory ≡ false → count ≡ length elements
@@ -46,11 +47,13 @@ IsOrdered Item kind place element = (item : ℕ) × Item place item × (element 
 
 -- the elements are those of the places of an order from `place` on
 abbrev pub AreOrdered : (ℕ → ℕ → Type 0) → ElementKind → ℕ → List ℕ → Type 0
-AreOrdered Item kind place elements = (k : ℕ) → k < length elements → IsOrdered Item kind (place + k) (get_or elements k 0)
+AreOrdered Item kind place elements = (k : ℕ) → k < length elements
+    → IsOrdered Item kind (place + k) (get_or elements k 0)
 
 -- from old to new one step was made for each of `count` places of an order, from `place` on, and for
 -- fewer of them where memory was wanting
-pub record Sweeps (Item : ℕ → ℕ → Type 0) (kind : ElementKind) (place count : ℕ) (out_of_memory : Bool) (old new : List Made) : Type 0 where
+pub record Sweeps (Item : ℕ → ℕ → Type 0) (kind : ElementKind) (place count : ℕ) (out_of_memory : Bool)
+    (old new : List Made) : Type 0 where
   pub elements : List ℕ
   pub at_most : length elements ≤ count
   pub whole : out_of_memory ≡ false → length elements ≡ count

@@ -13,7 +13,8 @@ module _ {S T : Type 0} where
   -- wanting, those of the first of them. Lines of commands that were run are those that the replies give
   pub record WorkedAsUser (made : S → List Made) (goes : S → S → Type 0) (old new : UserWorker S T) : Type 0 where
     pub commands : new.script.commands ≡ old.script.commands
-    pub ran : new.out_of_memory ≡ false → RunsAll old.script.commands (made (steps_in old)) (made (steps_in new)) old.lines new.lines
+    pub ran : new.out_of_memory ≡ false
+        → RunsAll old.script.commands (made (steps_in old)) (made (steps_in new)) old.lines new.lines
     pub some : RunsSome old.script.commands (made (steps_in old)) (made (steps_in new)) old.lines new.lines
     pub goes_on : goes (steps_in old) (steps_in new)
     pub lines_follow : LinesFollow

@@ -26,7 +26,8 @@ pub trait Batches: Steps {
         requires in_range { AreInRange kind items.now }
         ensures made { Self.made self.new ≡ Self.made self.old }
         ensures own { IfOk result (λ evidence. owns self.new evidence) }
-        ensures asked { IfOk result (λ evidence. ((looked evidence).kind ≡ kind) × ((looked evidence).items ≡ items.now)) }
+        ensures asked { IfOk result
+            (λ evidence. ((looked evidence).kind ≡ kind) × ((looked evidence).items ≡ items.now)) }
         ensures goes { Self.goes self.old self.new };
 
     /// Whether the element at a place of the batch is used, by what was seen.

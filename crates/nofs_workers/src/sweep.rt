@@ -81,7 +81,8 @@ fn commit_each<S: Batches, T: Gate>(
 ) -> bool
     requires own { S.owns steps.old evidence.now }
     requires count { count ≡ length (S.looked evidence.now).items }
-    ensures made { MakesFirst (S.looked evidence.now).kind (S.looked evidence.now).items result (S.made steps.old) (S.made steps.new) }
+    ensures made { MakesFirst (S.looked evidence.now).kind (S.looked evidence.now).items result (S.made steps.old)
+        (S.made steps.new) }
     ensures goes { S.goes steps.old steps.new }
 {
     for at in 0..count {
@@ -143,7 +144,8 @@ pub fn sweep<S: Batches, O: Course, T: Gate>(
     gate: &mut T,
 ) -> bool
     requires { kind ≡ Inode → O.count_of order.now < 2 ^ 32 }
-    ensures swept { Sweeps (O.has_item order.now) kind 0 (O.count_of order.now) result (S.made steps.old) (S.made steps.new) }
+    ensures swept { Sweeps (O.has_item order.now) kind 0 (O.count_of order.now) result (S.made steps.old)
+        (S.made steps.new) }
     ensures goes { S.goes steps.old steps.new }
 {
     let (end, mut place) = (order.count(), 0);

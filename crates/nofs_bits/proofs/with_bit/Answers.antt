@@ -14,4 +14,5 @@ returns-else-value-clause-there c =
     bit_at_clear_same w64 c.args.word c.args.bit c.requires ∙ ap (λ b. cond b 1 0) (sym c.if-value.false)
 
 pub returns-else-value-clause-others : goal.returns-else-value-clause-others
-returns-else-value-clause-others c i within other = bit_at_clear_other w64 c.args.word c.args.bit c.requires i within other
+returns-else-value-clause-others c i within other =
+    bit_at_clear_other w64 c.args.word c.args.bit c.requires i within other

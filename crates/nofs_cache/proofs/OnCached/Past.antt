@@ -1,12 +1,14 @@
 -- What a cached disk knows after each of its calls, and what the call did.
-use Rattle.std.proofs.Common.{◌≡◌, ℕ, ◌+◌, ◌-◌, ◌*◌, ◌^◌, ◌<◌, ◌≤◌, List, ◌∷◌, length, ap, arith, refl, sym, ◌∙◌, Option, Result, Ok, Err}
+use Rattle.std.proofs.Common.{◌≡◌, ℕ, ◌+◌, ◌-◌, ◌*◌, ◌^◌, ◌<◌, ◌≤◌, List, ◌∷◌, length, ap, arith, refl, sym, ◌∙◌}
+use Rattle.std.proofs.Common.{Option, Result, Ok, Err}
 use Rattle.std.specs.Prelude.{Bool, OnErr, OnOk, is_ok}
 use Rattle.std.specs.declared.snapshot.Snapshot.{Snapshot}
 use Rattle.nofs_disk.specs.Chains.{IsSameDisk-refl}
 use Rattle.nofs_disk.specs.declared.disk.Disk.{Ghosts}
 use Rattle.nofs_disk.specs.declared.Failed.{Failed}
 use Rattle.nofs_disk.specs.declared.tag.Cell.{Cell}
-use Rattle.nofs_disk.specs.Disk.{DiskState, Flushes, IsDisk, IsSameDisk, IsSizedCell, MakesReady, Reads, Rose, StaysButFaults, Writes, WritesOut}
+use Rattle.nofs_disk.specs.Disk.{DiskState, Flushes, IsDisk, IsSameDisk, IsSizedCell, MakesReady, Reads, Rose}
+use Rattle.nofs_disk.specs.Disk.{StaysButFaults, Writes, WritesOut}
 use Rattle.nofs_cache.specs.declared.cached.Cached.{Cached}
 use Rattle.nofs_cache.specs.declared.dirty.cells.DirtyBlocks.{DirtyBlocks}
 use Rattle.nofs_cache.specs.declared.dirty.cells.DirtyEntry.{DirtyEntry}
@@ -62,8 +64,10 @@ module _ {D : Type 0} {δ : Ghosts D} (old : Cached D δ) where
   seen = cache_state under first calls before old.spare
 
   -- it after a call that makes no moment: a read below, a reservation, and a write-out
-  stays_holds : {new : DiskState} (dirty : DirtyBlocks) (t : ℕ) → IsSameDisk under new → under.moment ≤ new.moment → block_count dirty ≡ block_count old.dirty
-      → 2 * t + old.moment < 2 ^ 64 → length (entries_of dirty) + t ≤ room_of dirty → length (entries_of dirty) + t ≤ new.spare
+  stays_holds : {new : DiskState} (dirty : DirtyBlocks) (t : ℕ) → IsSameDisk under new
+      → under.moment ≤ new.moment → block_count dirty ≡ block_count old.dirty
+      → 2 * t + old.moment < 2 ^ 64 → length (entries_of dirty) + t ≤ room_of dirty
+      → length (entries_of dirty) + t ≤ new.spare
       → ∥ CacheKeeps new first calls (entries_of dirty) ∥₁ → Holds new first calls dirty old.moment t
   stays_holds dirty t disk later slots room kept_room below_room kept = record {
     blocks = old.blocks ∙ sym disk.blocks;
@@ -85,17 +89,22 @@ module _ {D : Type 0} {δ : Ghosts D} (old : Cached D δ) where
       stays_holds old.dirty old.spare stays.disk (omega arith) refl old.room old.kept_room (omega arith)
       (kept_stays under new first calls before stays.past stays.cells stays.disk old.kept)
 
-  pub ready_holds : {E : Type 0} {made : Result (Unit {0}) E} {new : DiskState} {n : ℕ} (dirty : DirtyBlocks) (t : ℕ) → MakesReady under new n made
-      → block_count dirty ≡ block_count old.dirty → entries_of dirty ≡ before → 2 * t + old.moment < 2 ^ 64 → length before + t ≤ room_of dirty
+  pub ready_holds : {E : Type 0} {made : Result (Unit {0}) E} {new : DiskState} {n : ℕ} (dirty : DirtyBlocks) (t : ℕ)
+      → MakesReady under new n made
+      → block_count dirty ≡ block_count old.dirty
+      → entries_of dirty ≡ before → 2 * t + old.moment < 2 ^ 64 → length before + t ≤ room_of dirty
       → length before + t ≤ new.spare → Holds new first calls dirty old.moment t
   ready_holds {new = new} dirty t made slots same room kept_room below_room =
       let stays = made.cells.moment in
       let len = ap length same in
       stays_holds dirty t made.disk (omega arith) slots room (omega arith) (omega arith)
-      (kept_same new first calls before (entries_of dirty) same (kept_stays under new first calls before made.past made.cells made.disk old.kept))
+      (kept_same new first calls before (entries_of dirty) same
+      (kept_stays under new first calls before made.past made.cells made.disk old.kept))
 
-  pub out_holds : {new : DiskState} (dirty : DirtyBlocks) → WrittenBack under new before (entries_of dirty) → block_count dirty ≡ block_count old.dirty
-      → length (entries_of dirty) + (old.spare - 1) ≤ room_of dirty → length (entries_of dirty) + (old.spare - 1) ≤ new.spare
+  pub out_holds : {new : DiskState} (dirty : DirtyBlocks) → WrittenBack under new before (entries_of dirty)
+      → block_count dirty ≡ block_count old.dirty
+      → length (entries_of dirty) + (old.spare - 1) ≤ room_of dirty
+      → length (entries_of dirty) + (old.spare - 1) ≤ new.spare
       → Holds new first calls dirty old.moment (old.spare - 1)
   out_holds {new} dirty wrote slots kept_room below_room =
       let room = old.room in
@@ -103,10 +112,14 @@ module _ {D : Type 0} {δ : Ghosts D} (old : Cached D δ) where
       (kept_writes_back under new first calls before (entries_of dirty) wrote old.kept)
 
   -- it after a write or flush that is noted
-  noted_holds : {new : DiskState} (dirty : DirtyBlocks) {next : List CacheCall} (call : CacheCall) → IsSameDisk under new → under.moment ≤ new.moment
-      → block_count dirty ≡ block_count old.dirty → next ≡ call ∷ calls → began call ≤ new.moment → ended_at call ≤ new.moment → 1 ≤ old.spare
-      → length (entries_of dirty) + (old.spare - 1) ≤ room_of dirty → length (entries_of dirty) + (old.spare - 1) ≤ new.spare
-      → ∥ CacheKeeps new first (call ∷ calls) (entries_of dirty) ∥₁ → Holds new first next dirty (old.moment + 2) (old.spare - 1)
+  noted_holds : {new : DiskState} (dirty : DirtyBlocks) {next : List CacheCall} (call : CacheCall)
+      → IsSameDisk under new → under.moment ≤ new.moment
+      → block_count dirty ≡ block_count old.dirty
+      → next ≡ call ∷ calls → began call ≤ new.moment → ended_at call ≤ new.moment → 1 ≤ old.spare
+      → length (entries_of dirty) + (old.spare - 1) ≤ room_of dirty
+      → length (entries_of dirty) + (old.spare - 1) ≤ new.spare
+      → ∥ CacheKeeps new first (call ∷ calls) (entries_of dirty) ∥₁
+      → Holds new first next dirty (old.moment + 2) (old.spare - 1)
   noted_holds dirty call disk later slots noted begins ends some kept_room below_room kept = rw noted (record {
     blocks = old.blocks ∙ sym disk.blocks;
     tells = old.tells ∙ sym disk.tells;
@@ -120,66 +133,91 @@ module _ {D : Type 0} {δ : Ghosts D} (old : Cached D δ) where
   })
 
   -- what the disk below may leave meanwhile, it may leave at the moment during the call
-  pub call_leaves : {new : DiskState} (call : CacheCall) (after : List DirtyEntry) (t : ℕ) → began call ≡ under.moment → ended_at call ≡ new.moment
+  pub call_leaves : {new : DiskState} (call : CacheCall) (after : List DirtyEntry) (t : ℕ)
+      → began call ≡ under.moment → ended_at call ≡ new.moment
       → LeavesAll under.moment new (cache_state new first (call ∷ calls) after t) (2 * length calls + 1)
   call_leaves {new} call after t begins ends = leaves_during under new first calls call after t begins ends
 
   -- and where the call makes none at the present one
-  pub out_leaves : {new : DiskState} (after : List DirtyEntry) (t : ℕ) → LeavesAll under.moment new (cache_state new first calls after t) (2 * length calls)
-  out_leaves {new} after t = leaves_now new first calls after t under.moment (marked_last first.moment calls under.moment old.marked)
+  pub out_leaves : {new : DiskState} (after : List DirtyEntry) (t : ℕ)
+      → LeavesAll under.moment new (cache_state new first calls after t) (2 * length calls)
+  out_leaves {new} after t =
+      leaves_now new first calls after t under.moment (marked_last first.moment calls under.moment old.marked)
 
   -- what contracts see after a reservation, a read of a dirty block or of another, and a write-out
-  pub ready_does : {E : Type 0} {made result : Result (Unit {0}) E} {new : DiskState} {after : List DirtyEntry} {m : ℕ} (t n : ℕ)
-      → MakesReady under new m made → after ≡ before → old.spare ≤ t → OnOk result (n ≤ t) → MakesReady seen (cache_state new first calls after t) n result
-  ready_does {new = new} {after = after} t n made same more room = cache_ready under new first calls before after old.spare t n made same old.marked more room
+  pub ready_does : {E : Type 0} {made result : Result (Unit {0}) E} {new : DiskState} {after : List DirtyEntry}
+      {m : ℕ} (t n : ℕ)
+      → MakesReady under new m made → after ≡ before → old.spare ≤ t → OnOk result (n ≤ t)
+      → MakesReady seen (cache_state new first calls after t) n result
+  ready_does {new = new} {after = after} t n made same more room =
+      cache_ready under new first calls before after old.spare t n made same old.marked more room
 
-  pub kept_reads : {block : ℕ} {cell : Cell} → HasCell before block cell → block < under.blocks → ((d : D) → IsDisk (δ.state d))
+  pub kept_reads : {block : ℕ} {cell : Cell} → HasCell before block cell
+      → block < under.blocks → ((d : D) → IsDisk (δ.state d))
       → Reads seen seen block cell (Ok tt)
   kept_reads {block} {cell} has low is = reads_kept under first calls before old.spare block cell cell has refl low
-      (cache_is under first calls before old.spare (is old.under) (is old.first.value) old.blocks old.tells old.made old.room old.kept) old.kept old.marked
+      (cache_is under first calls before old.spare (is old.under)
+      (is old.first.value) old.blocks old.tells old.made old.room old.kept) old.kept old.marked
 
-  pub below_reads : {new : DiskState} {block : ℕ} {into : Cell} {result : Result (Unit {0}) Failed} → IsClean before block → Reads under new block into result
+  pub below_reads : {new : DiskState} {block : ℕ} {into : Cell} {result : Result (Unit {0}) Failed}
+      → IsClean before block → Reads under new block into result
       → Reads seen (cache_state new first calls before old.spare) block into result
-  below_reads {new} {block} {into} {result} clean reads = reads_below under new first calls before old.spare block into result clean reads old.kept old.marked
+  below_reads {new} {block} {into} {result} clean reads =
+      reads_below under new first calls before old.spare block into result clean reads old.kept old.marked
 
-  pub out_does : {new : DiskState} {after : List DirtyEntry} {result : Result (Option ℕ) Failed} → WrittenBack under new before after
-      → TakesOut before after result → OnErr result (Rose under.faults new.faults) → OnOk result (WroteBelow under new before after) → 1 ≤ old.spare
+  pub out_does : {new : DiskState} {after : List DirtyEntry} {result : Result (Option ℕ) Failed}
+      → WrittenBack under new before after
+      → TakesOut before after result → OnErr result (Rose under.faults new.faults)
+      → OnOk result (WroteBelow under new before after) → 1 ≤ old.spare
       → WritesOut seen (cache_state new first calls after (old.spare - 1)) result
   out_does {new} {after} {result} wrote out cause one some =
       cache_writes_out under new first calls before after old.spare (old.spare - 1) result wrote out cause
       (part_of_ok result one (λ (w : WroteBelow under new before after). w.no_fault)) old.marked (omega arith)
 
   -- a write of a cell, and its snapshot
-  module _ {b at : ℕ} {cell : Cell} (dirty : DirtyBlocks) (snap : Snapshot Cell) (is : IsDisk under) (low : b < under.blocks) (some : 1 ≤ old.spare)
-      (size : IsSizedCell cell) (same : snap.value ≡ cell) (begins : at ≡ under.moment) (put : PutsDirtyEntry before (entries_of dirty) b cell) where
-    pub write_holds : {next : List CacheCall} → block_count dirty ≡ block_count old.dirty → room_of old.dirty ≤ room_of dirty → next ≡ Write b snap at ∷ calls
+  module _ {b at : ℕ} {cell : Cell} (dirty : DirtyBlocks) (snap : Snapshot Cell) (is : IsDisk under)
+      (low : b < under.blocks) (some : 1 ≤ old.spare)
+      (size : IsSizedCell cell) (same : snap.value ≡ cell) (begins : at ≡ under.moment)
+      (put : PutsDirtyEntry before (entries_of dirty) b cell) where
+    pub write_holds : {next : List CacheCall} → block_count dirty ≡ block_count old.dirty
+        → room_of old.dirty ≤ room_of dirty → next ≡ Write b snap at ∷ calls
         → Holds under first next dirty (old.moment + 2) (old.spare - 1)
     write_holds slots room noted =
         let more = put_len _ _ _ _ put in
         let kept_room = old.kept_room in
         let below_room = old.below_room in
-        noted_holds dirty (Write b snap at) (IsSameDisk-refl under) (omega arith) slots noted (omega arith) (omega arith) some (omega arith) (omega arith)
-        (write_kept under first calls before (entries_of dirty) b at snap is low (rw same size) begins (placed_distinct _ _ old.dirty.placed)
+        noted_holds dirty (Write b snap at) (IsSameDisk-refl under) (omega arith) slots noted (omega arith)
+        (omega arith) some (omega arith) (omega arith)
+        (write_kept under first calls before (entries_of dirty) b at snap is low (rw same size) begins
+        (placed_distinct _ _ old.dirty.placed)
         (rw same put) old.kept)
 
-    pub write_does : Writes seen (cache_state under first (Write b snap at ∷ calls) (entries_of dirty) (old.spare - 1)) b cell (Ok tt)
+    pub write_does : Writes seen
+        (cache_state under first (Write b snap at ∷ calls) (entries_of dirty) (old.spare - 1)) b cell (Ok tt)
     write_does = rw (← same)
-        (cache_writes under first calls before (entries_of dirty) old.spare (old.spare - 1) b at snap is low (rw same size) begins
+        (cache_writes under first calls before (entries_of dirty) old.spare (old.spare - 1) b at snap is low
+        (rw same size) begins
         (placed_distinct _ _ old.dirty.placed) (rw same put) old.kept old.marked (omega arith))
 
   -- a flush
-  module _ {new : DiskState} {from to : ℕ} {result : Result (Unit {0}) Failed} {settles : Bool} (dirty : DirtyBlocks) (is : IsDisk new) (some : 1 ≤ old.spare)
+  module _ {new : DiskState} {from to : ℕ} {result : Result (Unit {0}) Failed} {settles : Bool} (dirty : DirtyBlocks)
+      (is : IsDisk new) (some : 1 ≤ old.spare)
       (same : settles ≡ is_ok result) (begins : from ≡ under.moment) (ends : to ≡ new.moment)
       (settled : SettlesDirty under new before (entries_of dirty) result) where
-    pub flush_holds : {next : List CacheCall} → block_count dirty ≡ block_count old.dirty → next ≡ Flush settles from to ∷ calls
-        → length (entries_of dirty) + (old.spare - 1) ≤ room_of dirty → length (entries_of dirty) + (old.spare - 1) ≤ new.spare
+    pub flush_holds : {next : List CacheCall} → block_count dirty ≡ block_count old.dirty
+        → next ≡ Flush settles from to ∷ calls
+        → length (entries_of dirty) + (old.spare - 1) ≤ room_of dirty
+        → length (entries_of dirty) + (old.spare - 1) ≤ new.spare
         → Holds new first next dirty (old.moment + 2) (old.spare - 1)
     flush_holds slots noted kept_room below_room =
         let later = settled.writes_back.later in
-        noted_holds dirty (Flush settles from to) settled.writes_back.disk later slots noted (omega arith) (omega arith) some kept_room below_room
+        noted_holds dirty (Flush settles from to) settled.writes_back.disk later slots noted (omega arith)
+        (omega arith) some kept_room below_room
         (rw same (kept_flush under new first calls before (entries_of dirty) from to result is ends settled old.kept))
 
-    pub flush_does : Flushes seen (cache_state new first (Flush settles from to ∷ calls) (entries_of dirty) (old.spare - 1)) result
+    pub flush_does : Flushes seen
+        (cache_state new first (Flush settles from to ∷ calls) (entries_of dirty) (old.spare - 1)) result
     flush_does = rw same
-        (cache_flushes under new first calls before (entries_of dirty) old.spare (old.spare - 1) from to result begins ends settled old.kept old.marked
+        (cache_flushes under new first calls before (entries_of dirty) old.spare
+        (old.spare - 1) from to result begins ends settled old.kept old.marked
         (omega arith))

@@ -10,7 +10,8 @@ use Rattle.nofs_cache.specs.Cached.{Agrees, Covers, WrittenBack, SettlesDirty}
 use Rattle.nofs_cache.proofs.OnCached.WritesBelow.{Covers-picks, WrittenBack-trans}
 
 -- where no block is dirty, the cells below are the cells
-pub agrees_clean : (now below : List Cell) (entries : List DirtyEntry) → entries ≡ [] → Agrees now below entries → below ≡ now
+pub agrees_clean : (now below : List Cell) (entries : List DirtyEntry)
+    → entries ≡ [] → Agrees now below entries → below ≡ now
 agrees_clean now below entries none ag =
     let len : length entries ≡ 0 = ap length none in
     ext_get_or no_cell below now ag.len (λ b low. ag.clean b (record { none = λ i in_range e. absurd (omega arith) }))
@@ -20,11 +21,14 @@ pub no_entries : (entries : List DirtyEntry) → map (λ e. e.block) entries ≡
 no_entries [] none = refl
 no_entries (e ∷ entries) none = cc
 
-flush_covers : (may : ℕ → List Cell) (n : ℕ) (old new : DiskState) (entries : List DirtyEntry) {result : Result (Unit {0}) Failed} → Flushes old new result
+flush_covers : (may : ℕ → List Cell) (n : ℕ) (old new : DiskState)
+    (entries : List DirtyEntry) {result : Result (Unit {0}) Failed} → Flushes old new result
     → n ≡ old.blocks → Covers may n old.may entries → Covers may n new.may entries
-flush_covers may n old new entries f same cov = record { below = λ b c low has. cov.below b c low (f.may b c (omega arith) has); kept = cov.kept }
+flush_covers may n old new entries f same cov =
+    record { below = λ b c low has. cov.below b c low (f.may b c (omega arith) has); kept = cov.kept }
 
-pub flush_writes_back : (old new : DiskState) (entries : List DirtyEntry) {result : Result (Unit {0}) Failed} → Flushes old new result → IsDisk new
+pub flush_writes_back : (old new : DiskState) (entries : List DirtyEntry) {result : Result (Unit {0}) Failed}
+    → Flushes old new result → IsDisk new
     → WrittenBack old new entries entries
 flush_writes_back old new entries f is = record {
   disk = f.disk;
@@ -36,14 +40,17 @@ flush_writes_back old new entries f is = record {
       let G : ℕ → Type 0 = λ k. (image : List Cell) → Picks new.may k image → Picks may n image in
       AtEach-flushes (λ m image. Picks may n image) from old new is f
       (subst F same (λ image picks. Covers-picks may n old.may entries image cov picks))
-      (subst G (same ∙ sym f.disk.blocks) (λ image picks. Covers-picks may n new.may entries image (flush_covers may n old new entries f same cov) picks))
+      (subst G (same ∙ sym f.disk.blocks)
+      (λ image picks. Covers-picks may n new.may entries image (flush_covers may n old new entries f same cov) picks))
       at;
   agrees = λ now ag. let F : List Cell → Type 0 = λ l. Agrees now l entries in subst F (sym f.now) ag;
   fewer = λ b has. has;
 }
 
-pub settles_flush : (old mid new : DiskState) (before after : List DirtyEntry) (result : Result (Unit {0}) Failed) → WrittenBack old mid before after
-    → after ≡ [] → mid.faults ≡ old.faults → IsDisk new → Flushes mid new result → SettlesDirty old new before after result
+pub settles_flush : (old mid new : DiskState) (before after : List DirtyEntry) (result : Result (Unit {0}) Failed)
+    → WrittenBack old mid before after
+    → after ≡ [] → mid.faults ≡ old.faults → IsDisk new → Flushes mid new result
+    → SettlesDirty old new before after result
 settles_flush old mid new before after (Ok u) writes_back none no_fault is f = record {
   writes_back = WrittenBack-trans old mid new before after after writes_back (flush_writes_back mid new after f is);
   clean = none;

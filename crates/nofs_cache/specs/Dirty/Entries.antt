@@ -1,5 +1,6 @@
 -- The entries of dirty blocks.
-use Rattle.std.specs.Prelude.{◌≡◌, ◌≢◌, ◌⊎◌, ℕ, ◌-◌, ◌<◌, List, [], ◌∷◌, ◌++◌, length, slice_index, slice_index_or, slice_set}
+use Rattle.std.specs.Prelude.{◌≡◌, ◌≢◌, ◌⊎◌, ℕ, ◌-◌, ◌<◌, List, [], ◌∷◌, ◌++◌, length, slice_index, slice_index_or}
+use Rattle.std.specs.Prelude.{slice_set}
 use Rattle.nofs_cache.specs.declared.dirty.cells.DirtyEntry.{DirtyEntry}
 use Rattle.nofs_disk.specs.declared.tag.Cell.{Cell}
 use Rattle.nofs_disk.specs.Disk.{no_cell}
@@ -23,11 +24,13 @@ pub record AreBelow (entries : List DirtyEntry) (blocks : ℕ) : Type 0 where
 
 -- no two entries are of one block
 pub record HaveOwnBlocks (entries : List DirtyEntry) : Type 0 where
-  pub own : (i j : ℕ) → i < length entries → j < length entries → (dirty_entry_at entries i).block ≡ (dirty_entry_at entries j).block → i ≡ j
+  pub own : (i j : ℕ) → i < length entries → j < length entries
+      → (dirty_entry_at entries i).block ≡ (dirty_entry_at entries j).block → i ≡ j
 
 -- each entry's block is less than those of the entries before it
 pub record BlocksFall (entries : List DirtyEntry) : Type 0 where
-  pub falls : (i j : ℕ) → i < j → j < length entries → (dirty_entry_at entries j).block < (dirty_entry_at entries i).block
+  pub falls : (i j : ℕ) → i < j → j < length entries
+      → (dirty_entry_at entries j).block < (dirty_entry_at entries i).block
 
 -- the entry at a place is that of a block
 pub record IsDirtyEntryOf (entries : List DirtyEntry) (b : ℕ) (i : ℕ) : Type 0 where

@@ -3,7 +3,8 @@
 //!
 //! Promise: each dirty block has one cell, the last that was put. It is found in constant time by
 //! the block's number, and a clean block takes the four bytes of its slot.
-ghost use Rattle.std.specs.Prelude.{◌≡◌, ◌+◌, ◌^◌, IsPermutation, ◌<◌, ◌≤◌, ◌∷◌, [], ◌++◌, ◌-◌, take, IfOk, IfSome, IfNone, length, slice_set, OnOk};
+ghost use Rattle.std.specs.Prelude.{◌≡◌, ◌+◌, ◌^◌, IsPermutation, ◌<◌, ◌≤◌, ◌∷◌, [], ◌++◌, ◌-◌, take, IfOk, IfSome};
+ghost use Rattle.std.specs.Prelude.{IfNone, length, slice_set, OnOk};
 ghost use Rattle.nofs_cache.specs.Dirty.Entries.{HasCell, HasLast, HaveOwnBlocks, IsClean, IsDirtyEntryOf, AreBelow};
 ghost use Rattle.nofs_cache.specs.Dirty.Entries.{AreSlotted, BlocksFall};
 ghost use Rattle.nofs_cache.specs.Dirty.Entries.{PutsDirtyEntry, dirty_entry};

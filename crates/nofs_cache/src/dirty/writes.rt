@@ -20,11 +20,13 @@ pub(crate) fn write_back<D: Disk>(
 ) -> Result<Option<u64>, Failed>
     requires blocks { block_count dirty.old ≡ (D.state under.old).blocks }
     requires spare { 1 ≤ (D.state under.old).spare }
-    ensures writes_back { WrittenBack (D.state under.old) (D.state under.new) (entries_of dirty.old) (entries_of dirty.new) }
+    ensures writes_back { WrittenBack (D.state under.old) (D.state under.new) (entries_of dirty.old)
+        (entries_of dirty.new) }
     ensures out { TakesOut (entries_of dirty.old) (entries_of dirty.new) result }
     ensures shrinks { Shrinks dirty.old dirty.new }
     ensures spends { SpendsOne (D.state under.old) (D.state under.new) (entries_of dirty.old) (entries_of dirty.new) }
-    ensures wrote { OnOk result (WroteBelow (D.state under.old) (D.state under.new) (entries_of dirty.old) (entries_of dirty.new)) }
+    ensures wrote { OnOk result
+        (WroteBelow (D.state under.old) (D.state under.new) (entries_of dirty.old) (entries_of dirty.new)) }
     ensures cause { OnErr result (Rose (D.state under.old).faults (D.state under.new).faults) }
 {
     match dirty.last() {
@@ -44,10 +46,13 @@ pub(crate) fn write_back_all<D: Disk>(under: &mut D, dirty: &mut DirtyBlocks) ->
     requires falls { BlocksFall (entries_of dirty.old) }
     requires blocks { block_count dirty.old ≡ (D.state under.old).blocks }
     requires spare { length (entries_of dirty.old) ≤ (D.state under.old).spare }
-    ensures writes_back { WrittenBack (D.state under.old) (D.state under.new) (entries_of dirty.old) (entries_of dirty.new) }
+    ensures writes_back { WrittenBack (D.state under.old) (D.state under.new) (entries_of dirty.old)
+        (entries_of dirty.new) }
     ensures shrinks { Shrinks dirty.old dirty.new }
-    ensures wrote { OnOk result (WroteAllBelow (D.state under.old) (D.state under.new) (entries_of dirty.old) (entries_of dirty.new)) }
-    ensures stopped { OnErr result (Stopped (D.state under.old) (D.state under.new) (entries_of dirty.old) (entries_of dirty.new)) }
+    ensures wrote { OnOk result
+        (WroteAllBelow (D.state under.old) (D.state under.new) (entries_of dirty.old) (entries_of dirty.new)) }
+    ensures stopped { OnErr result
+        (Stopped (D.state under.old) (D.state under.new) (entries_of dirty.old) (entries_of dirty.new)) }
 {
     for _ in 0..dirty.len() {
         match write_back(under, dirty) {
@@ -66,12 +71,15 @@ pub(crate) fn write_back_and_flush<D: Disk>(
 ) -> Result<(), Failed>
     requires blocks { block_count dirty.old ≡ (D.state under.old).blocks }
     requires spare { length (entries_of dirty.old) + 1 ≤ (D.state under.old).spare }
-    ensures settles { SettlesDirty (D.state under.old) (D.state under.new) (entries_of dirty.old) (entries_of dirty.new) result }
-    ensures rising { WritesRising (map (λ e. e.block) (entries_of dirty.old)) (map (λ e. e.block) (entries_of dirty.new)) }
+    ensures settles { SettlesDirty (D.state under.old) (D.state under.new) (entries_of dirty.old)
+        (entries_of dirty.new) result }
+    ensures rising { WritesRising (map (λ e. e.block) (entries_of dirty.old))
+        (map (λ e. e.block) (entries_of dirty.new)) }
     ensures blocks { block_count dirty.new ≡ block_count dirty.old }
     ensures room { room_of dirty.old ≤ room_of dirty.new }
     ensures no_more { length (entries_of dirty.new) ≤ length (entries_of dirty.old) }
-    ensures spare { (D.state under.old).spare + length (entries_of dirty.new) ≤ (D.state under.new).spare + length (entries_of dirty.old) + 1 }
+    ensures spare { (D.state under.old).spare + length (entries_of dirty.new)
+        ≤ (D.state under.new).spare + length (entries_of dirty.old) + 1 }
 {
     dirty.sort_falling();
     match write_back_all(under, dirty) {

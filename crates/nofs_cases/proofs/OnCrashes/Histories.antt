@@ -51,7 +51,8 @@ absent i k e = no-file (agreed_files first_image i) (same-none first_image i k) 
 two-apart : (n : ℕ) → eqb 2 (suc (suc (suc n))) ≡ false
 two-apart n = grind arith
 
-no-value-given : (i g k : ℕ) → eqb i 2 ≡ false → is_some (agreed_files first_image i) ≡ false → put_gives.slots i g k ≡ None
+no-value-given : (i g k : ℕ)
+    → eqb i 2 ≡ false → is_some (agreed_files first_image i) ≡ false → put_gives.slots i g k ≡ None
 unfolding gives
 no-value-given zero g k t e = refl
 no-value-given (suc zero) g k t e = refl
@@ -85,4 +86,5 @@ rest-case = (
     stays (suc zero) t e = refl
     stays (suc (suc zero)) t e = refl
     stays (suc (suc (suc zero))) t e = absurd (absent 3 (ap (λ (r : Record). r.kind) (first-inode 3)) e)
-    stays (suc (suc (suc (suc n)))) t e = absurd (absent (suc (suc (suc (suc n)))) (ap (λ (r : Record). r.kind) (first-inode (suc (suc (suc (suc n)))))) e)
+    stays (suc (suc (suc (suc n)))) t e = absurd
+        (absent (suc (suc (suc (suc n)))) (ap (λ (r : Record). r.kind) (first-inode (suc (suc (suc (suc n)))))) e)

@@ -25,7 +25,8 @@ no-value : (k : ℕ) (q : Bool) → cond {A = Value} q Hole Hole ≡ Hole
 no-value k true = refl
 no-value k false = refl
 
-each-hole : (k : ℕ) (a b c : Bool) → held (cond a (Some (root_file Hole)) (cond b (Some (label_file 0 Hole)) (cond c None None))) k ≡ Hole
+each-hole : (k : ℕ) (a b c : Bool)
+    → held (cond a (Some (root_file Hole)) (cond b (Some (label_file 0 Hole)) (cond c None None))) k ≡ Hole
 unfolding held
 each-hole k true b c = no-value k (eqb k 0)
 each-hole k false true c = no-value k (eqb k 0)
@@ -41,7 +42,10 @@ all-holes : (i k : ℕ) → value_of first_files i k ≡ Hole
 all-holes i k = value-held (first_files i) i k refl ∙ each-hole k (eqb i 1) (eqb i 2) (eqb i 3)
 
 pub fits-case : FitsCase
-fits-case = (record { blocks = omega arith; inodes = omega arith; values = λ i k content e. let h = all-holes i k in cc (h, e) }, good-case.0)
+fits-case = (
+  record { blocks = omega arith; inodes = omega arith; values = λ i k content e. let h = all-holes i k in cc (h, e) },
+  good-case.0,
+)
 
 there : (o p : Option FileState) (g : FileState) → SameFile o p → p ≡ Some g → (f : FileState) × (o ≡ Some f)
 there None None g s e = cc e

@@ -44,7 +44,8 @@ each-small (x ∷ xs) e zero = ltb-true x 256 (and-both (ltb x 256) (list_all (�
 each-small (x ∷ xs) e (suc k) = each-small xs (and-both (ltb x 256) (list_all (λ b. ltb b 256) xs) e).1 k
 
 -- a cell of the right lengths, each of whose numbers is a byte
-pub sized-cell : (c : Cell) → length c.payload ≡ 1024 → length c.tag ≡ 32 → list_all (λ b. ltb b 256) c.payload ≡ true → list_all (λ b. ltb b 256) c.tag ≡ true
+pub sized-cell : (c : Cell) → length c.payload ≡ 1024 → length c.tag ≡ 32 → list_all (λ b. ltb b 256) c.payload ≡ true
+    → list_all (λ b. ltb b 256) c.tag ≡ true
     → IsSizedCell c
 sized-cell c payload tag bytes tag_bytes = record {
   payload = record { len = payload; each = each-small c.payload bytes };
@@ -67,17 +68,20 @@ pub sized-blank : IsSizedCell blank
 sized-blank = sized-cell blank refl refl refl refl
 
 -- each cell of an image
-pub sized-image : (t x : Cell) → IsSizedCell t → IsSizedCell x → (b : ℕ) → b < 16 → IsSizedCell (cell_at (image_of t x blank) b)
+pub sized-image : (t x : Cell) → IsSizedCell t → IsSizedCell x
+    → (b : ℕ) → b < 16 → IsSizedCell (cell_at (image_of t x blank) b)
 sized-image t x st sx zero lt = sized-super
 sized-image t x st sx (suc zero) lt = st
 sized-image t x st sx (suc (suc zero)) lt = sx
 sized-image t x st sx (suc (suc (suc zero))) lt = sized-blank
-sized-image t x st sx (suc (suc (suc (suc n)))) lt = subst IsSizedCell (sym (get_or-replicate 12 n blank _ (omega (arith, lt)))) sized-blank
+sized-image t x st sx (suc (suc (suc (suc n)))) lt =
+    subst IsSizedCell (sym (get_or-replicate 12 n blank _ (omega (arith, lt)))) sized-blank
 
 -- The state of the disk after a mount
 
 -- what stands in a list that is cut off at 16
-pub inside : (xs : ℕ → List Cell) (b : ℕ) (c : Cell) → Contains (cond (ltb b 16) (xs b) []) c → (b < 16) × Contains (xs b) c
+pub inside : (xs : ℕ → List Cell) (b : ℕ) (c : Cell) → Contains (cond (ltb b 16) (xs b) []) c
+    → (b < 16) × Contains (xs b) c
 inside xs b c has = elim (cases_lt b 16) [
   | inl lt ↦ (lt, subst (λ (q : Bool). Contains (cond q (xs b) []) c) (lt-ltb b 16 lt) has)
   | inr le ↦ absurd (none c (subst (λ (q : Bool). Contains (cond q (xs b) []) c) (le-ltb b 16 le) has))
@@ -86,7 +90,8 @@ inside xs b c has = elim (cases_lt b 16) [
     none : (c : Cell) → Contains [] c → ⊥
     none c h = omega (arith, h.1)
 
-pub within : (xs : ℕ → List Cell) (b : ℕ) (c : Cell) → b < 16 → Contains (xs b) c → Contains (cond (ltb b 16) (xs b) []) c
+pub within : (xs : ℕ → List Cell) (b : ℕ) (c : Cell) → b < 16 → Contains (xs b) c
+    → Contains (cond (ltb b 16) (xs b) []) c
 within xs b c lt has = subst (λ (q : Bool). Contains (cond q (xs b) []) c) (sym (lt-ltb b 16 lt)) has
 
 pub here : (x : Cell) → Contains (x ∷ []) x
@@ -99,7 +104,8 @@ still-disk moment spare room = record {
   whole = λ t. refl;
   has_now = λ b t lt. within (alone first_image) b (cell_at first_image b) lt (here (cell_at first_image b));
   beyond = λ b c le has. let i = inside (alone first_image) b c has in absurd (omega (arith, le, i.0));
-  sized = λ b c has. let i = inside (alone first_image) b c has in subst IsSizedCell (sole-is (cell_at first_image b) c i.1)
+  sized = λ b c has. let i = inside (alone first_image) b c has in
+      subst IsSizedCell (sole-is (cell_at first_image b) c i.1)
       (sized-image first_table blank sized-first sized-blank b i.0);
   at_rest = λ X e. record {
     len = ap length e;

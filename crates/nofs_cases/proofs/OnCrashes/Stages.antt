@@ -60,17 +60,21 @@ put-adds = record {
     less zero X le l = l
     less (suc m) X le l = absurd (omega (arith, le))
 
-    left : (m : ℕ) (X : Image) → 0 < m → left_after m X → (length X ≡ 16) × ((b : ℕ) → b < 16 → WasOr IsProperWrite (still 0 8) b (cell_at X b))
+    left : (m : ℕ) (X : Image) → 0 < m → left_after m X
+        → (length X ≡ 16) × ((b : ℕ) → b < 16 → WasOr IsProperWrite (still 0 8) b (cell_at X b))
     left zero X low l = absurd (omega (arith, low))
     left (suc m) X low l = (l.len, λ b lt. adds-cells b (cell_at X b) (l.each b lt))
 
 -- each number on the disk after the Put
 put-low : (b : ℕ) → b < 16 → CellBelow (2 ^ 40 + 1) put_image b (cell_at put_image b)
 put-low = cells-low (2 ^ 40 + 1) put_table (put_block 7) blank put_table (put_block 7) blank (omega arith)
-    (table-cell (2 ^ 40 + 1) put_table (put_block 7) blank put_table (root_record null) (label_record 1 (block_two 0)) free_record (omega arith)
+    (table-cell (2 ^ 40 + 1) put_table (put_block 7) blank put_table (root_record null)
+    (label_record 1 (block_two 0)) free_record (omega arith)
     refl put-records (record {
-      one = record-low (2 ^ 40 + 1) (root_record null) null refl (omega arith) (no-links-low (2 ^ 40 + 1) (omega arith)) (omega arith);
-      two = record-low (2 ^ 40 + 1) (label_record 1 (block_two 0)) (block_two 0) refl (omega arith) (no-links-low (2 ^ 40 + 1) (omega arith)) (omega arith);
+      one = record-low (2 ^ 40 + 1) (root_record null) null refl (omega arith)
+          (no-links-low (2 ^ 40 + 1) (omega arith)) (omega arith);
+      two = record-low (2 ^ 40 + 1) (label_record 1 (block_two 0)) (block_two 0) refl (omega arith)
+          (no-links-low (2 ^ 40 + 1) (omega arith)) (omega arith);
       three = free-low (2 ^ 40 + 1) (omega arith);
     }))
     (tag-low (2 ^ 40 + 1) (put_block 7) _ (put-tag 7) (omega arith) (omega arith) (λ e. cc e) (λ e. cc e))
@@ -79,7 +83,8 @@ put-low = cells-low (2 ^ 40 + 1) put_table (put_block 7) blank put_table (put_bl
 -- and on the one before it
 before-low : (b : ℕ) → b < 16 → CellBelow (2 ^ 40 + 1) put_image b (cell_at first_image b)
 before-low = cells-low (2 ^ 40 + 1) put_table (put_block 7) blank first_table blank blank (omega arith)
-    (table-cell (2 ^ 40 + 1) put_table (put_block 7) blank first_table (root_record null) (label_record 0 null) free_record (omega arith) refl first-records
+    (table-cell (2 ^ 40 + 1) put_table (put_block 7) blank first_table (root_record null)
+    (label_record 0 null) free_record (omega arith) refl first-records
     (first-low (2 ^ 40 + 1) (omega arith)))
     (blank-low (2 ^ 40 + 1) (omega arith)) (blank-low (2 ^ 40 + 1) (omega arith))
 
@@ -105,7 +110,14 @@ put-files = record {
 
 pub stage-case : StageCase
 stage-case = (
-  record { stage = first-stage; disk = still-disk 0 8 (omega arith); tells = refl; from = refl; to = refl; no_flush = refl },
+  record {
+    stage = first-stage;
+    disk = still-disk 0 8 (omega arith);
+    tells = refl;
+    from = refl;
+    to = refl;
+    no_flush = refl;
+  },
   put-adds,
   put-files,
 )
@@ -140,7 +152,14 @@ flush-stage-case = record {
 pub idle-stage-case : IdleStageCase
 unfolding gives
 idle-stage-case = (
-  record { stage = first-stage; disk = still-disk 0 8 (omega arith); tells = refl; from = refl; to = refl; no_flush = refl },
+  record {
+    stage = first-stage;
+    disk = still-disk 0 8 (omega arith);
+    tells = refl;
+    from = refl;
+    to = refl;
+    no_flush = refl;
+  },
   StaysButFaults-refl (still 0 8),
   files-stay (agreed_files first_image),
 )

@@ -37,7 +37,8 @@ use Rattle.nofs_cases.specs.Crashes.Put.{still}
 use Rattle.nofs_cases.proofs.OnCrashes.Put.{here, first-stage, mark-is, explained, own-pick, reads, size-is, no-value}
 use Rattle.nofs_cases.proofs.OnCrashes.Put.{label_now, label-now}
 
-given-content : put_content (value_of (agreed_files first_image) 2 0) (size_of (agreed_files first_image) 2) 0 0 (7 ∷ []) ≡ 7 ∷ z 1023
+given-content : put_content (value_of (agreed_files first_image) 2 0) (size_of (agreed_files first_image) 2) 0 0
+    (7 ∷ []) ≡ 7 ∷ z 1023
 unfolding label_now
 given-content =
     ap₂ (λ v n. put_content v n 0 0 (7 ∷ [])) (value-of (agreed_files first_image) 2 label_now label-now 0 ∙ no-value)
@@ -47,7 +48,8 @@ given-slot : put_gives.slots 2 2 0 ≡ Some (Bytes (7 ∷ z 1023))
 unfolding gives
 given-slot = ap (λ (c : List ℕ). Some (Bytes c)) given-content
 
-meta-is : (F : Files) (i : ℕ) (f : FileState) (change : FileState → Meta) → F i ≡ Some f → meta_with F i change ≡ change f
+meta-is : (F : Files) (i : ℕ) (f : FileState) (change : FileState → Meta) → F i ≡ Some f
+    → meta_with F i change ≡ change f
 meta-is F i f change e = rw (e, meta_with) refl
 
 given-meta : put_gives.metas 2 2 ≡ Some (Is File 1 no_links)
@@ -75,16 +77,20 @@ content-lies = record {
 pub record-lies : RecordLies first_mark put_gives first_image 2 (inode put_image 2)
 record-lies = record {
   live = ap is_live (first-inode 2);
-  generation = ap (λ (r : Record). r.generation) (put-inode 7 2) ∙ sym (ap (λ (r : Record). r.generation) (first-inode 2));
+  generation = ap (λ (r : Record). r.generation) (put-inode 7 2)
+      ∙ sym (ap (λ (r : Record). r.generation) (first-inode 2));
   kind = ap (λ (r : Record). r.kind) (put-inode 7 2) ∙ sym (ap (λ (r : Record). r.kind) (first-inode 2));
-  meta = inr (subst (λ (r : Record). put_gives.metas 2 r.generation ≡ Some (meta_of r)) (sym (put-inode 7 2)) given-meta);
+  meta =
+      inr (subst (λ (r : Record). put_gives.metas 2 r.generation ≡ Some (meta_of r)) (sym (put-inode 7 2)) given-meta);
   reads = reads;
   pointers = pointers;
 }
   where
     pointers : (n : ℕ) → n < 10 → (record_pointer (inode put_image 2) n ≡ record_pointer (inode first_image 2) n)
-        ⊎ (((2 ^ 40 ≤ (record_pointer (inode put_image 2) n).stamp) × ((z : Pointer) → find first_image 2 (InRecord n) ≡ answer.Holds z → ⊥))
-        ⊎ ((is_null (record_pointer (inode put_image 2) n) ≡ true) × Holes (during first_mark put_gives) 2 (inode put_image 2).generation (InRecord n)))
+        ⊎ (((2 ^ 40 ≤ (record_pointer (inode put_image 2) n).stamp)
+        × ((z : Pointer) → find first_image 2 (InRecord n) ≡ answer.Holds z → ⊥))
+        ⊎ ((is_null (record_pointer (inode put_image 2) n) ≡ true)
+        × Holes (during first_mark put_gives) 2 (inode put_image 2).generation (InRecord n)))
     pointers zero lt = inr (inl (
       subst (λ (r : Record). 2 ^ 40 ≤ (record_pointer r 0).stamp) (sym (put-inode 7 2)) (omega arith),
       λ y h. no-holds (InRecord 0) y (omega arith) h,
@@ -106,7 +112,8 @@ pointers-case = (
     on = inl refl;
     above = inr refl;
     live = ap is_live (first-inode 2);
-    generation = ap (λ (r : Record). r.generation) (leaf-inode 2) ∙ sym (ap (λ (r : Record). r.generation) (first-inode 2));
+    generation = ap (λ (r : Record). r.generation) (leaf-inode 2)
+        ∙ sym (ap (λ (r : Record). r.generation) (first-inode 2));
     kind = ap (λ (r : Record). r.kind) (leaf-inode 2) ∙ sym (ap (λ (r : Record). r.kind) (first-inode 2));
     reads = reads;
     block = inr (first-empty 2 leaf (omega arith), first-free 3);
@@ -125,10 +132,12 @@ table-proper = OfTable (record {
       λ i r e. each i (range-is first_table blank blank i r);
 })
   where
-    each : (i : ℕ) → (1 ≤ i) × (i ≤ 4) → RecordProper (during first_mark put_gives) first_image i (record_at put_table.payload ((i - 1) % 4))
+    each : (i : ℕ) → (1 ≤ i) × (i ≤ 4)
+        → RecordProper (during first_mark put_gives) first_image i (record_at put_table.payload ((i - 1) % 4))
     each zero n = absurd (omega (arith, n))
     each (suc zero) n = Unchanged (put-records.one ∙ sym (first-inode 1))
-    each (suc (suc zero)) n = subst (RecordProper (during first_mark put_gives) first_image 2) (put-inode 7 2 ∙ sym put-records.two)
+    each (suc (suc zero)) n =
+        subst (RecordProper (during first_mark put_gives) first_image 2) (put-inode 7 2 ∙ sym put-records.two)
         (law-record first_mark put_gives first_image 2 (inode put_image 2) record-lies)
     each (suc (suc (suc zero))) n = Unchanged (put-records.three ∙ sym (first-inode 3))
     each (suc (suc (suc (suc zero)))) n = Unchanged (put-records.four ∙ sym (first-inode 4))
@@ -137,7 +146,8 @@ table-proper = OfTable (record {
 proper-at : (b : ℕ) → (cell_at first_image b ≡ cell_at put_image b) ⊎ IsProperWrite b (cell_at put_image b)
 proper-at zero = inl refl
 proper-at (suc zero) = inr table-proper
-proper-at (suc (suc zero)) = inr (law-content first_mark put_gives first_image put_image 2 2 0 (block_two 0) (put_block 7) content-lies)
+proper-at (suc (suc zero)) =
+    inr (law-content first_mark put_gives first_image put_image 2 2 0 (block_two 0) (put_block 7) content-lies)
 proper-at (suc (suc (suc zero))) = inl refl
 proper-at (suc (suc (suc (suc n)))) = inl refl
 
@@ -151,11 +161,18 @@ only-proper b c has = elim (one-of (cell_at first_image b) (cell_at put_image b)
 ]
 
 pub moment-case : MomentCase
-moment-case = (mark-is, own-pick, law-tracked (still 0 8) first_image [] first_image (2 ^ 40) 0 (2 ^ 40) first-stage, explained, only-proper)
+moment-case = (
+  mark-is,
+  own-pick,
+  law-tracked (still 0 8) first_image [] first_image (2 ^ 40) 0 (2 ^ 40) first-stage,
+  explained,
+  only-proper,
+)
 
 pub images-case : ImagesCase
 images-case =
-    let k = law-moment first_mark put_gives first_image (alone first_image) put_may moment-case.0 moment-case.1 moment-case.2 moment-case.3 moment-case.4 in
+    let k = law-moment first_mark put_gives first_image
+    (alone first_image) put_may moment-case.0 moment-case.1 moment-case.2 moment-case.3 moment-case.4 in
     (k.0, k.1, record { len = refl; each = λ b lt. member b })
   where
     member : (b : ℕ) → Contains (put_may b) (cell_at torn_image b)

@@ -1,8 +1,10 @@
 -- What the images say: their numbers, records and tags.
-use Rattle.std.proofs.Common.{◌≡◌, ℕ, zero, suc, ◌+◌, ◌/◌, ◌^◌, true, false, leb, ltb, ◌&&◌, List, [], ◌∷◌, Option, Some, refl, ap, arith}
+use Rattle.std.proofs.Common.{◌≡◌, ℕ, zero, suc, ◌+◌, ◌/◌, ◌^◌, true, false, leb, ltb, ◌&&◌, List, [], ◌∷◌, Option}
+use Rattle.std.proofs.Common.{Some, refl, ap, arith}
 use Rattle.nofs_super.specs.Geometry.{format_fault}
 use Rattle.nofs_model.specs.Kinds as file
-use Rattle.nofs_model.specs.Cells.{Cell, Content, Nothing, Table, Super, Pointer, FileKind, BackLink, Record, SuperBlock, free_record, null}
+use Rattle.nofs_model.specs.Cells.{Cell, Content, Nothing, Table, Super, Pointer, FileKind, BackLink, Record}
+use Rattle.nofs_model.specs.Cells.{SuperBlock, free_record, null}
 use Rattle.nofs_model.specs.Cells.{number_at, tag_of, record_of, record_at, fields_in, link_in, pointer_in}
 use Rattle.nofs_model.specs.Image.{is_mountable, super_in, is_super, is_geometry, super_at, is_data_block, inode}
 use Rattle.nofs_cases.specs.Disks.Worlds.{block_two}
@@ -87,7 +89,8 @@ pub blank-tag : tag_of blank.tag ≡ Some (record { kind = Nothing; inode = 0; g
 unfolding tag_of number_at
 blank-tag = refl
 
-pub put-tag : (byte : ℕ) → tag_of (put_block byte).tag ≡ Some (record { kind = Content; inode = 2; generation = 2; slot = 0; stamp = 2 ^ 40 })
+pub put-tag : (byte : ℕ) → tag_of (put_block byte).tag ≡ Some
+    (record { kind = Content; inode = 2; generation = 2; slot = 0; stamp = 2 ^ 40 })
 unfolding tag_of number_at
 put-tag byte = refl
 

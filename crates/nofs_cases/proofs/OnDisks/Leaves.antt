@@ -17,7 +17,8 @@ others-empty m = refl
 -- a cell has no pointer behind its 64
 past-end : (xs : List ℕ) (n : ℕ) → length xs ≡ 1024 → 64 ≤ n → is_null (pointer_at xs n) ≡ true
 unfolding pointer_at pointer_in number_at
-past-end xs n len le = rw (drop_all (16 * n) xs (omega (arith, len, le)), drop_all (16 * n + 8) xs (omega (arith, len, le))) refl
+past-end xs n len le =
+    rw (drop_all (16 * n) xs (omega (arith, len, le)), drop_all (16 * n + 8) xs (omega (arith, len, le))) refl
 
 pub other-pointer : (m n : ℕ) → n ≢ 0 → is_null (pointer_at (leaf_bytes m) n) ≡ true
 other-pointer m zero ne = absurd (ne refl)

@@ -1,7 +1,9 @@
 -- Inodes with one pointer at most, in slot 0: what their slots hold.
-use Rattle.std.proofs.Common.{◌≡◌, ℕ, zero, suc, ◌<◌, ◌⊎◌, inl, inr, true, false, eqb, Option, Some, None, refl, sym, ap, ◌∙◌, subst, arith}
+use Rattle.std.proofs.Common.{◌≡◌, ℕ, zero, suc, ◌<◌, ◌⊎◌, inl, inr, true, false, eqb, Option, Some, None, refl, sym}
+use Rattle.std.proofs.Common.{ap, ◌∙◌, subst, arith}
 use Rattle.nofs_model.specs.Cells.{Cell, Pointer, Record, null, is_null, slot_limit}
-use Rattle.nofs_model.specs.Image.{Image, inode, Path, InRecord, Under, path_of, is_pointer_slot, IsSlot, record_pointer, judged, find, pointer}
+use Rattle.nofs_model.specs.Image.{Image, inode, Path, InRecord, Under, path_of, is_pointer_slot, IsSlot}
+use Rattle.nofs_model.specs.Image.{record_pointer, judged, find, pointer}
 use Rattle.nofs_model.specs.Image.{value, value_in, agreed, IsFree, owner, Home}
 use Rattle.nofs_model.specs.declared.image.path.PathAnswer.{PathAnswer}
 use Rattle.nofs_model.specs.declared.image.path.PathAnswer.TheVariants as answer
@@ -25,9 +27,11 @@ pick p q r = one_of null p q r
 abbrev pub ArePlain : Image → (ℕ → Pointer) → Type 0
 ArePlain X at = (i : ℕ) → IsPlain (inode X i) (at i)
 
-pub plain-image : (t x y : Cell) (a b c : Record) (p q r : Pointer) → HasRecords t a b c → IsPlain a p → IsPlain b q → IsPlain c r
+pub plain-image : (t x y : Cell) (a b c : Record) (p q r : Pointer) → HasRecords t a b c → IsPlain a p
+    → IsPlain b q → IsPlain c r
     → ArePlain (image_of t x y) (pick p q r)
-plain-image t x y a b c p q r h pa pb pc i = subst (λ (s : Record). IsPlain s (pick p q r i)) (sym (inode-is t x y a b c h i))
+plain-image t x y a b c p q r h pa pb pc i =
+    subst (λ (s : Record). IsPlain s (pick p q r i)) (sym (inode-is t x y a b c h i))
     (each-number (λ n. IsPlain (nth a b c n) (pick p q r n)) refl pa pb pc (λ n. refl) i)
 
 -- every place of the record but the first is empty
@@ -73,7 +77,8 @@ module _ (X : Image) (i : ℕ) (x : Pointer) (is : IsPlain (inode X i) x) where
   -- a slot is slot 0, or empty
   pub slot-is : (path : Path) → IsSlot path → (path ≡ InRecord 0) ⊎ (find X i path ≡ answer.Hole)
   slot-is (InRecord zero) lt = inl refl
-  slot-is (InRecord (suc m)) lt = inr (judged-built-null X i (InRecord (suc m)) (record_pointer (inode X i) (suc m)) (others-null (inode X i) x is m))
+  slot-is (InRecord (suc m)) lt = inr
+      (judged-built-null X i (InRecord (suc m)) (record_pointer (inode X i) (suc m)) (others-null (inode X i) x is m))
   slot-is (Under a n) slot = elim (slot-is a slot.2) [
     | inl e ↦ absurd (not-under a slot.0 e)
     | inr z ↦ inr (rw (z, find) refl)
@@ -83,9 +88,13 @@ module _ (X : Image) (i : ℕ) (x : Pointer) (is : IsPlain (inode X i) x) where
   slot-first = ap (λ (r : Record). judged X i (InRecord 0) (record_pointer r 0)) is
 
   -- what holds is slot 0 with its pointer
-  pub held-is : (path : Path) (y : Pointer) → IsSlot path → find X i path ≡ answer.Holds y → (path ≡ InRecord 0) × (x ≡ y)
+  pub held-is : (path : Path) (y : Pointer) → IsSlot path → find X i path ≡ answer.Holds y
+      → (path ≡ InRecord 0) × (x ≡ y)
   held-is path y slot h = elim (slot-is path slot) [
-    | inl e ↦ (e, (judged-held X i (InRecord 0) x y (sym slot-first ∙ subst (λ (p : Path). find X i p ≡ answer.Holds y) e h)).0)
+    | inl e ↦ (
+      e,
+      (judged-held X i (InRecord 0) x y (sym slot-first ∙ subst (λ (p : Path). find X i p ≡ answer.Holds y) e h)).0,
+    )
     | inr z ↦ cc (z, h)
   ]
 
@@ -108,11 +117,13 @@ empty X i is path slot = elim (slot-is X i null is path slot) [
 pub empty-value : (X : Image) (i : ℕ) → IsPlain (inode X i) null → (k : ℕ) → k < slot_limit → value X i k ≡ Hole
 empty-value X i is k lt = ap (λ (f : PathAnswer). value_in X f) (empty X i is (path_of k) (path_of-slot k lt))
 
-pub empty-holds : (X : Image) (i : ℕ) → IsPlain (inode X i) null → (path : Path) (y : Pointer) → IsSlot path → find X i path ≡ answer.Holds y → ⊥
+pub empty-holds : (X : Image) (i : ℕ) → IsPlain (inode X i) null → (path : Path) (y : Pointer) → IsSlot path
+    → find X i path ≡ answer.Holds y → ⊥
 empty-holds X i is path y slot h = let z = empty X i is path slot in cc (z, h)
 
 -- a block that no pointer names is free
-pub free-is : (X : Image) (at : ℕ → Pointer) (b : ℕ) → ArePlain X at → ((i : ℕ) → (at i).block ≡ b → at i ≡ null) → IsFree X b
+pub free-is : (X : Image) (at : ℕ → Pointer) (b : ℕ) → ArePlain X at
+    → ((i : ℕ) → (at i).block ≡ b → at i ≡ null) → IsFree X b
 free-is X at b are apart i path y slot agreed h e =
     let d = held-is X i (at i) (are i) path y slot h in
     let n : at i ≡ null = apart i (ap (λ (q : Pointer). q.block) d.1 ∙ e) in

@@ -40,7 +40,8 @@ upgraded-super = record { payload = refl; tag = super-tag }
 
 -- both differ in block 0 alone
 only-super : (v w m n : ℕ) → (super_at (first_with w n)).blocks ≡ (super_at (first_with v m)).blocks
-    → (super_at (first_with w n)).inodes ≡ (super_at (first_with v m)).inodes → OnlySuper (first_with v m) (first_with w n)
+    → (super_at (first_with w n)).inodes ≡ (super_at (first_with v m)).inodes
+    → OnlySuper (first_with v m) (first_with w n)
 only-super v w m n blocks inodes = record { size = refl; others = others; blocks = blocks; inodes = inodes }
   where
     others : (b : ℕ) → b ≢ 0 → cell_at (first_with w n) b ≡ cell_at (first_with v m) b
@@ -52,7 +53,8 @@ unfolding super_at super_in number_at
 first-numbers = refl
 
 -- each part of the numbers
-part : (f : SuperBlock → ℕ) (v w m n : ℕ) (p q : SuperBlock) → super_at (first_with v m) ≡ p → super_at (first_with w n) ≡ q → f q ≡ f p
+part : (f : SuperBlock → ℕ) (v w m n : ℕ) (p q : SuperBlock)
+    → super_at (first_with v m) ≡ p → super_at (first_with w n) ≡ q → f q ≡ f p
     → f (super_at (first_with w n)) ≡ f (super_at (first_with v m))
 part f v w m n p q a b e = ap f b ∙ e ∙ sym (ap f a)
 
@@ -83,6 +85,7 @@ upgrade-case = (
     only = only-super 2 2 1 2 (part (λ s. s.blocks) 2 2 1 2 _ _ upgraded-numbers later-numbers refl)
         (part (λ s. s.inodes) 2 2 1 2 _ _ upgraded-numbers later-numbers refl);
     version = part (λ s. s.version) 2 2 1 2 _ _ upgraded-numbers later-numbers refl;
-    mount = ap (λ (s : SuperBlock). s.mount) later-numbers ∙ sym (ap (λ (s : SuperBlock). s.mount + 1) upgraded-numbers);
+    mount = ap (λ (s : SuperBlock). s.mount) later-numbers
+        ∙ sym (ap (λ (s : SuperBlock). s.mount + 1) upgraded-numbers);
   },
 )

@@ -1,10 +1,12 @@
 -- A Put, a crash, and the next mount.
-use Rattle.std.proofs.Common.{◌≡◌, ◌≢◌, ℕ, zero, suc, ◌+◌, ◌/◌, ◌^◌, ◌<◌, inl, inr, Bool, true, false, cond, eqb, leb, ◌&&◌, ◌||◌, [], ◌∷◌, Option, Some}
+use Rattle.std.proofs.Common.{◌≡◌, ◌≢◌, ℕ, zero, suc, ◌+◌, ◌/◌, ◌^◌, ◌<◌, inl, inr, Bool, true, false, cond, eqb, leb}
+use Rattle.std.proofs.Common.{◌&&◌, ◌||◌, [], ◌∷◌, Option, Some}
 use Rattle.std.proofs.Common.{None, is_some, refl, sym, ap, ◌∙◌, subst, arith}
 use Rattle.nofs_disk.specs.Adds.{Adds}
 use Rattle.nofs_model.specs.Kinds.{File, Directory}
 use Rattle.nofs_model.specs.Cells.{Record, SuperBlock, number_at, is_null, is_live}
-use Rattle.nofs_model.specs.Image.{cell_at, super_at, super_in, inode, Path, InRecord, Under, path_of, record_pointer, find, value, value_in, node_in}
+use Rattle.nofs_model.specs.Image.{cell_at, super_at, super_in, inode, Path, InRecord, Under, path_of, record_pointer}
+use Rattle.nofs_model.specs.Image.{find, value, value_in, node_in}
 use Rattle.nofs_model.specs.Image.{Absent, is_special, Files, FileState, owner}
 use Rattle.nofs_model.specs.declared.image.path.PathAnswer.{PathAnswer}
 use Rattle.nofs_model.specs.declared.image.path.PathAnswer.TheVariants as answer
@@ -13,7 +15,8 @@ use Rattle.nofs_model.specs.declared.image.value.Value.TheVariants.{Hole, Bytes}
 use Rattle.nofs_model.proofs.OnSlots.Find.{judged-built-null}
 use Rattle.nofs_history.specs.Meta.{Is}
 use Rattle.nofs_history.specs.Marks.{Mark}
-use Rattle.nofs_history.specs.Machine.{gives, given_by, put_given, files_by, file_after, filled, after_meta, is_at, meta_with}
+use Rattle.nofs_history.specs.Machine.{gives, given_by, put_given, files_by, file_after, filled, after_meta, is_at}
+use Rattle.nofs_history.specs.Machine.{meta_with}
 use Rattle.nofs_history.specs.History.{agreed_files, mark_at, is_generation}
 use Rattle.nofs_history.specs.Allowed.{IsAllowed}
 use Rattle.nofs_history.specs.Search.{count_below, first_of}
@@ -51,7 +54,8 @@ use Rattle.nofs_cases.proofs.OnNumbers.Verdicts.{or-left, or-right, or-split}
 find-any : (i : ℕ) (p : Path) → find first_image i p ≡ answer.Hole
 find-any i (InRecord zero) = judged-built-null first_image i (InRecord 0) (record_pointer (inode first_image i) 0)
     (ap (λ (r : Record). is_null (record_pointer r 0)) (first-plain i) ∙ ap is_null (no-pointer i))
-find-any i (InRecord (suc m)) = judged-built-null first_image i (InRecord (suc m)) (record_pointer (inode first_image i) (suc m))
+find-any i (InRecord (suc m)) =
+    judged-built-null first_image i (InRecord (suc m)) (record_pointer (inode first_image i) (suc m))
     (others-null (inode first_image i) _ (first-plain i) m)
 find-any i (Under p n) = rw (find-any i p, find) refl
 
@@ -128,7 +132,13 @@ world-is = λ j. record {
 
 see-next : Next mounted see_block_entry seen_block
 unfolding gives
-see-next = Done refl refl refl (record { inode = NoInode refl refl; cell = Unclaimed refl; leaf = Unclaimed refl; top = Unclaimed refl; apart = tt })
+see-next = Done refl refl refl (record {
+  inode = NoInode refl refl;
+  cell = Unclaimed refl;
+  leaf = Unclaimed refl;
+  top = Unclaimed refl;
+  apart = tt;
+})
     (sym (files-stay first_files)) refl refl (refl, refl, refl, refl, refl) (record {
       inodes_stay = λ i k. k;
       blocks_stay = λ p k. or-left (leb p 1) (eqb p 2) k;
@@ -177,7 +187,8 @@ put-next = Done refl refl refl (record {
   blocks_why = λ p k. inl k;
 })
   where
-    changed : (p : ℕ) (b : Bool) → eqb p 2 ≡ b → uses_block put_seen p ≢ uses_block seen_block p → (leb p 1 || eqb p 2) ≡ true
+    changed : (p : ℕ) (b : Bool) → eqb p 2 ≡ b → uses_block put_seen p ≢ uses_block seen_block p
+        → (leb p 1 || eqb p 2) ≡ true
     changed p true e ne = or-right (leb p 1) (eqb p 2) e
     changed p false e ne = absurd (ne (other-blocks p e))
 
@@ -194,7 +205,8 @@ first-life = (
 -- The crash
 
 -- the look changes neither the mark nor the files
-same-mark : mark_at first_image (see_block_entry ∷ []) 1 first_image (2 ^ 40) ≡ mark_at first_image [] 1 first_image (2 ^ 40)
+same-mark : mark_at first_image (see_block_entry ∷ []) 1 first_image (2 ^ 40)
+    ≡ mark_at first_image [] 1 first_image (2 ^ 40)
 unfolding gives
 same-mark = refl
 
@@ -203,9 +215,11 @@ same-files = idle-stage-case.2
 
 adds-after : AddsProper first_image (see_block_entry ∷ []) put_entry first_image (2 ^ 40) (still 0 8) put_state
 adds-after =
-    subst (λ (F : Files). Adds (Proper (during (mark_at first_image (see_block_entry ∷ []) 1 first_image (2 ^ 40)) (given_by F put_entry)) first_image)
+    subst (λ (F : Files). Adds (Proper
+    (during (mark_at first_image (see_block_entry ∷ []) 1 first_image (2 ^ 40)) (given_by F put_entry)) first_image)
     (still 0 8) put_state) (sym same-files)
-    (subst (λ (m : Mark). Adds (Proper (during m (given_by (agreed_files first_image) put_entry)) first_image) (still 0 8) put_state) (sym same-mark) put-adds)
+    (subst (λ (m : Mark). Adds (Proper (during m (given_by (agreed_files first_image) put_entry)) first_image)
+    (still 0 8) put_state) (sym same-mark) put-adds)
 
 lasts : Lasts first_image (see_block_entry ∷ put_entry ∷ []) first_image (2 ^ 40) 0 put_state
 lasts = law-lasts (still 0 8) put_state first_image (see_block_entry ∷ []) put_entry first_image (2 ^ 40) 0 (2 ^ 40)
@@ -264,7 +278,14 @@ next-live = ap (λ (r : Record). is_live r && eqb r.generation 2) (next-label �
 pub bytes-case : BytesCase
 bytes-case = (
   (
-    record { moment = 4; left = put_image; found = put_image; allowed = put-allowed; between = inl refl; raised = next-raised },
+    record {
+      moment = 4;
+      left = put_image;
+      found = put_image;
+      allowed = put-allowed;
+      between = inl refl;
+      raised = next-raised;
+    },
     refl,
     (new-disk.1, first-life),
   ),

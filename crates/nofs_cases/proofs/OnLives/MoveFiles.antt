@@ -1,11 +1,13 @@
 -- The disk with one name: its slots, and the machine's files on it.
-use Rattle.std.proofs.Common.{◌≡◌, ◌≢◌, ℕ, zero, suc, ◌+◌, ◌-◌, ◌*◌, ◌^◌, ◌<◌, ◌≤◌, inl, inr, true, false, eqb, ltb, lt-ltb}
+use Rattle.std.proofs.Common.{◌≡◌, ◌≢◌, ℕ, zero, suc, ◌+◌, ◌-◌, ◌*◌, ◌^◌, ◌<◌, ◌≤◌, inl, inr, true, false, eqb, ltb}
+use Rattle.std.proofs.Common.{lt-ltb}
 use Rattle.std.proofs.Common.{le-ltb, ◌++◌, Some, None, refl, sym, ap, ◌∙◌, subst, arith}
 use Rattle.std.proofs.lemmas.Bool.{cases_lt}
 use Rattle.nofs_model.specs.Kinds.{File, Directory as Folder}
 use Rattle.nofs_disk.specs.Disk.{IsSizedCell}
 use Rattle.nofs_model.specs.Cells.{FileKind, Pointer, Record, SuperBlock, null, slot_limit}
-use Rattle.nofs_model.specs.Image.{super_at, inode, InRecord, Under, child, path_of, slot_of, record_pointer, find, value, value_in, node_in}
+use Rattle.nofs_model.specs.Image.{super_at, inode, InRecord, Under, child, path_of, slot_of, record_pointer, find}
+use Rattle.nofs_model.specs.Image.{value, value_in, node_in}
 use Rattle.nofs_model.specs.Image.{FileState, Files, files_in, agreed, IsBelow}
 use Rattle.nofs_model.specs.declared.image.path.PathAnswer.{PathAnswer}
 use Rattle.nofs_model.specs.declared.image.path.PathAnswer.TheVariants as answer
@@ -56,18 +58,21 @@ plain = root-plain name_table (short_entry_bytes 97 ++ z 960) (file_record one_l
 
 past : (k : ℕ) → slot_limit ≤ k → k < 2 ^ 32 + 2 → path_of k ≡ InRecord (8 + (k - 2 ^ 32))
 unfolding path_of
-past k low high = rw (le-ltb k 8 (omega arith), le-ltb k 72 (omega arith), le-ltb k slot_limit low, lt-ltb k (2 ^ 32 + 2) high)
+past k low high =
+    rw (le-ltb k 8 (omega arith), le-ltb k 72 (omega arith), le-ltb k slot_limit low, lt-ltb k (2 ^ 32 + 2) high)
 
 beyond : (k : ℕ) → 2 ^ 32 + 2 ≤ k → path_of k ≡ child (k - (2 ^ 32 + 2))
 unfolding path_of
-beyond k low = rw (le-ltb k 8 (omega arith), le-ltb k 72 (omega arith), le-ltb k slot_limit (omega arith), le-ltb k (2 ^ 32 + 2) low)
+beyond k low = rw
+    (le-ltb k 8 (omega arith), le-ltb k 72 (omega arith), le-ltb k slot_limit (omega arith), le-ltb k (2 ^ 32 + 2) low)
 
 first-alone : (k : ℕ) → k < slot_limit → path_of k ≡ InRecord 0 → k ≡ 0
 unfolding slot_of
 first-alone k lt e = sym (slot_of-path_of k lt) ∙ ap slot_of e
 
 -- nothing stands under a slot that is empty
-below-empty : (i n j : ℕ) → find name_image i (InRecord n) ≡ answer.Hole → find name_image i (Under (InRecord n) j) ≡ answer.Hole
+below-empty : (i n j : ℕ)
+    → find name_image i (InRecord n) ≡ answer.Hole → find name_image i (Under (InRecord n) j) ≡ answer.Hole
 below-empty i n j e = rw (e, find) refl
 
 module _ (i : ℕ) (x : Pointer) (is : IsPlain (inode name_image i) x) where
@@ -79,16 +84,19 @@ module _ (i : ℕ) (x : Pointer) (is : IsPlain (inode name_image i) x) where
   -- a slot other than slot 0 is empty
   empty-slot : (k : ℕ) → k ≢ 0 → find name_image i (path_of k) ≡ answer.Hole
   empty-slot k ne = elim (cases_lt k slot_limit) [
-    | inl lt ↦ elim (slot-is name_image i x is (path_of k) (path_of-slot k lt)) [ inl e ↦ absurd (ne (first-alone k lt e)) | inr hole ↦ hole ]
+    | inl lt ↦ elim (slot-is name_image i x is (path_of k) (path_of-slot k lt))
+        [ inl e ↦ absurd (ne (first-alone k lt e)) | inr hole ↦ hole ]
     | inr low ↦ elim (cases_lt k (2 ^ 32 + 2)) [
       | inl high ↦ ap (find name_image i) (past k low high) ∙ in-record (8 + (k - 2 ^ 32)) (λ e. omega (arith, e))
-      | inr far ↦ ap (find name_image i) (beyond k far) ∙ below-empty i 9 (k - (2 ^ 32 + 2)) (in-record 9 (λ e. omega (arith, e)))
+      | inr far ↦ ap (find name_image i) (beyond k far)
+          ∙ below-empty i 9 (k - (2 ^ 32 + 2)) (in-record 9 (λ e. omega (arith, e)))
     ]
   ]
 
   any-value : (v : Value) → value name_image i 0 ≡ v → (k : ℕ) → value name_image i k ≡ first_slot v k
   any-value v e zero = e
-  any-value v e (suc m) = ap (λ (f : PathAnswer). value_in name_image f) (empty-slot (suc m) (λ q. omega (arith, q))) ∙ rw (not-first m) refl
+  any-value v e (suc m) = ap (λ (f : PathAnswer). value_in name_image f) (empty-slot (suc m) (λ q. omega (arith, q)))
+      ∙ rw (not-first m) refl
     where
       not-first : (m : ℕ) → eqb (suc m) 0 ≡ false
       not-first m = grind arith
@@ -104,7 +112,8 @@ file_here i r kind v = record {
   nodes = λ p. node_in (find name_image i p);
 }
 
-here-is : (i : ℕ) (x : Pointer) (r : Record) (kind : FileKind) (v : Value) → IsPlain (inode name_image i) x → inode name_image i ≡ r → r.kind ≡ Some kind
+here-is : (i : ℕ) (x : Pointer) (r : Record) (kind : FileKind) (v : Value) → IsPlain (inode name_image i) x
+    → inode name_image i ≡ r → r.kind ≡ Some kind
     → agreed (files_in name_image) i ≡ true → value name_image i 0 ≡ v
     → agreed_files name_image i ≡ Some (file_here i r kind v)
 here-is i x r kind v is e k agreed first =
@@ -120,7 +129,8 @@ here-is i x r kind v is e k agreed first =
 
 -- the root, the label file, and inode 3
 abbrev pub move_files : Files
-move_files = three_files (file_here 1 (root_record (block_two 1)) Folder (Bytes (short_entry_bytes 97 ++ z 960))) (file_here 2 (label_record 0 null) File Hole)
+move_files = three_files (file_here 1 (root_record (block_two 1)) Folder (Bytes (short_entry_bytes 97 ++ z 960)))
+    (file_here 2 (label_record 0 null) File Hole)
     (Some (file_here 3 (file_record one_link) File Hole))
 
 empty-first : (i : ℕ) → IsPlain (inode name_image i) null → value name_image i 0 ≡ Hole
@@ -128,15 +138,20 @@ empty-first i is = empty-value name_image i is 0 (omega arith)
 
 pub each-file : (i : ℕ) → agreed_files name_image i ≡ move_files i
 each-file zero = none-is name_image 0 (ap (λ (r : Record). r.kind) (name-inode 0))
-each-file (suc zero) = here-is 1 (block_two 1) (root_record (block_two 1)) Folder (Bytes (short_entry_bytes 97 ++ z 960)) (plain 1) (name-inode 1) refl
+each-file (suc zero) = here-is 1 (block_two 1) (root_record (block_two 1)) Folder
+    (Bytes (short_entry_bytes 97 ++ z 960)) (plain 1) (name-inode 1) refl
     (one-agreed name_table (short_entry_bytes 97 ++ z 960) (file_record one_link) name-records refl)
-    (sym (first-value name_image 1 (block_two 1) (plain 1) (root-holds name_table (short_entry_bytes 97 ++ z 960) (file_record one_link) name-records refl) 0
+    (sym (first-value name_image 1 (block_two 1) (plain 1)
+    (root-holds name_table (short_entry_bytes 97 ++ z 960) (file_record one_link) name-records refl) 0
     (omega arith)))
 each-file (suc (suc zero)) = here-is 2 null (label_record 0 null) File Hole (plain 2) (name-inode 2) refl
-    (two-agreed name_table (short_entry_bytes 97 ++ z 960) (file_record one_link) name-records refl) (empty-first 2 (plain 2))
+    (two-agreed name_table (short_entry_bytes 97 ++ z 960) (file_record one_link) name-records refl)
+    (empty-first 2 (plain 2))
 each-file (suc (suc (suc zero))) = here-is 3 null (file_record one_link) File Hole (plain 3) (name-inode 3) refl
-    (three-agreed name_table (short_entry_bytes 97 ++ z 960) one_link name-records (0, omega arith, refl) first-entry) (empty-first 3 (plain 3))
-each-file (suc (suc (suc (suc n)))) = none-is name_image (suc (suc (suc (suc n)))) (ap (λ (r : Record). r.kind) (name-inode (suc (suc (suc (suc n))))))
+    (three-agreed name_table (short_entry_bytes 97 ++ z 960) one_link name-records (0, omega arith, refl) first-entry)
+    (empty-first 3 (plain 3))
+each-file (suc (suc (suc (suc n)))) =
+    none-is name_image (suc (suc (suc (suc n)))) (ap (λ (r : Record). r.kind) (name-inode (suc (suc (suc (suc n))))))
     ∙ sym (no-file n)
   where
     apart : (n k : ℕ) → k < 4 → eqb (suc (suc (suc (suc n)))) k ≡ false

@@ -1,5 +1,6 @@
 -- The root of the formatted disk, and a disk with one name.
-use Rattle.std.proofs.Common.{Option, ◌≡◌, ◌^◌, ℕ, Bool, true, false, cond, eqb, List, [], ◌∷◌, ◌++◌, Some, is_some, refl, sym, ap, ◌∙◌, subst, arith, Contains}
+use Rattle.std.proofs.Common.{Option, ◌≡◌, ◌^◌, ℕ, Bool, true, false, cond, eqb, List, [], ◌∷◌, ◌++◌, Some, is_some}
+use Rattle.std.proofs.Common.{refl, sym, ap, ◌∙◌, subst, arith, Contains}
 use Rattle.nofs_model.specs.Kinds.{File, Directory}
 use Rattle.nofs_model.specs.Cells.{Record, Entry, null, is_live}
 use Rattle.nofs_model.specs.Image.{Image, inode, files_in, agreed, value, names, FileState}
@@ -26,18 +27,21 @@ use Rattle.nofs_cases.proofs.OnSteps.Files.{first-inode, first-root}
 use Rattle.nofs_cases.specs.Lives.Paths.{RootCase, NamePathCase}
 
 -- an agreed file of the base stands before any entry
-pub base-stands : (B : Image) (i g : ℕ) (f : FileState) → agreed_files B i ≡ Some f → f.generation ≡ g → stands B [] 0 i g ≡ true
+pub base-stands : (B : Image) (i g : ℕ) (f : FileState) → agreed_files B i ≡ Some f
+    → f.generation ≡ g → stands B [] 0 i g ≡ true
 base-stands B i g f is e = rw (ap is_some is, gen-of (agreed_files B) i f is, e, same g) refl
   where
     same : (g : ℕ) → eqb g g ≡ true
     same g = grind arith
 
 -- its meta is the one that may be read
-pub base-meta : (B : Image) (i g : ℕ) (r : Record) → inode B i ≡ r → is_live r ≡ true → r.generation ≡ g → since_meta B [] 0 i g ≡ meta_of r ∷ []
+pub base-meta : (B : Image) (i g : ℕ) (r : Record)
+    → inode B i ≡ r → is_live r ≡ true → r.generation ≡ g → since_meta B [] 0 i g ≡ meta_of r ∷ []
 base-meta B i g r e live own =
     let live' : is_live (inode B i) ≡ true = ap is_live e ∙ live in
     let is : is_generation B i g ≡ true = rw (live', ap (λ (q : Record). q.generation) e ∙ own, same g) refl in
-    ap (λ (b : Bool). last_in (cond b (meta_of (inode B i) ∷ []) [] ++ []) ++ []) is ∙ ap (λ (q : Record). meta_of q ∷ []) e
+    ap (λ (b : Bool). last_in (cond b (meta_of (inode B i) ∷ []) [] ++ []) ++ []) is
+    ∙ ap (λ (q : Record). meta_of q ∷ []) e
   where
     same : (g : ℕ) → eqb g g ≡ true
     same g = grind arith
@@ -46,14 +50,16 @@ pub root-case : RootCase
 root-case = (
   law-unflushed first_image [] 0 refl,
   SureRoot
-      (base-stands first_image 1 1 _ (agreed-file first_image 1 Directory (ap (λ (r : Record). r.kind) (first-inode 1)) first-root)
+      (base-stands first_image 1 1 _
+      (agreed-file first_image 1 Directory (ap (λ (r : Record). r.kind) (first-inode 1)) first-root)
       (ap (λ (r : Record). r.generation) (first-inode 1)))
       (λ meta has. subst IsFolderMeta (sole-is (Is Directory 0 no_links) meta
       (subst (λ (ms : List Meta). Contains ms meta) (base-meta first_image 1 1 _ (first-inode 1) refl refl) has)) refl),
 )
 
 -- so is its value
-pub base-since : (B : Image) (i g k : ℕ) (r : Record) → inode B i ≡ r → is_live r ≡ true → r.generation ≡ g → since B [] 0 i g k ≡ value B i k ∷ []
+pub base-since : (B : Image) (i g k : ℕ) (r : Record)
+    → inode B i ≡ r → is_live r ≡ true → r.generation ≡ g → since B [] 0 i g k ≡ value B i k ∷ []
 base-since B i g k r e live own =
     let live' : is_live (inode B i) ≡ true = ap is_live e ∙ live in
     let is : is_generation B i g ≡ true = rw (live', ap (λ (q : Record). q.generation) e ∙ own, same g) refl in
@@ -64,25 +70,30 @@ base-since B i g k r e live own =
 
 -- A disk with one name
 
-name-inode : (i : ℕ) → inode name_image i ≡ nth (root_record (block_two 1)) (label_record 0 null) (file_record one_link) i
+name-inode : (i : ℕ)
+    → inode name_image i ≡ nth (root_record (block_two 1)) (label_record 0 null) (file_record one_link) i
 name-inode i = root-inode name_table (short_entry_bytes 97 ++ z 960) (file_record one_link) name-records refl i
 
 name-root : agreed (files_in name_image) 1 ≡ true
 name-root = one-agreed name_table (short_entry_bytes 97 ++ z 960) (file_record one_link) name-records refl
 
 name-file : agreed (files_in name_image) 3 ≡ true
-name-file = three-agreed name_table (short_entry_bytes 97 ++ z 960) one_link name-records (0, omega arith, refl) first-entry
+name-file = three-agreed name_table (short_entry_bytes 97 ++ z 960) one_link name-records
+    (0, omega arith, refl) first-entry
 
 name-value : value name_image 1 0 ≡ Bytes (short_entry_bytes 97 ++ z 960)
-name-value = sym (first-value name_image 1 (block_two 1) (root-plain name_table (short_entry_bytes 97 ++ z 960) (file_record one_link) name-records refl 1)
+name-value = sym (first-value name_image 1 (block_two 1)
+    (root-plain name_table (short_entry_bytes 97 ++ z 960) (file_record one_link) name-records refl 1)
     (root-holds name_table (short_entry_bytes 97 ++ z 960) (file_record one_link) name-records refl) 0 (omega arith))
 
 root-stands : stands name_image [] 0 1 1 ≡ true
-root-stands = base-stands name_image 1 1 _ (agreed-file name_image 1 Directory (ap (λ (r : Record). r.kind) (name-inode 1)) name-root)
+root-stands = base-stands name_image 1 1 _
+    (agreed-file name_image 1 Directory (ap (λ (r : Record). r.kind) (name-inode 1)) name-root)
     (ap (λ (r : Record). r.generation) (name-inode 1))
 
 file-stands : stands name_image [] 0 3 (2 ^ 40) ≡ true
-file-stands = base-stands name_image 3 (2 ^ 40) _ (agreed-file name_image 3 File (ap (λ (r : Record). r.kind) (name-inode 3)) name-file)
+file-stands = base-stands name_image 3 (2 ^ 40) _
+    (agreed-file name_image 3 File (ap (λ (r : Record). r.kind) (name-inode 3)) name-file)
     (ap (λ (r : Record). r.generation) (name-inode 3))
 
 root-metas : (meta : Meta) → Contains (since_meta name_image [] 0 1 1) meta → IsFolderMeta meta

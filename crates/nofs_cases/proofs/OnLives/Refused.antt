@@ -1,6 +1,8 @@
 -- A slot with the bytes of another file is refused.
-use Rattle.std.proofs.Common.{◌≡◌, ℕ, ◌+◌, ◌^◌, inl, inr, List, [], ◌∷◌, ◌++◌, Some, refl, sym, ap, ◌∙◌, subst, arith, Contains}
-use Rattle.nofs_model.specs.Cells.{Content, Record, tag_of, number_at, null, is_live, record_of, record_at, fields_in, link_in, pointer_in}
+use Rattle.std.proofs.Common.{◌≡◌, ℕ, ◌+◌, ◌^◌, inl, inr, List, [], ◌∷◌, ◌++◌, Some, refl, sym, ap, ◌∙◌, subst, arith}
+use Rattle.std.proofs.Common.{Contains}
+use Rattle.nofs_model.specs.Cells.{Content, Record, tag_of, number_at, null, is_live, record_of, record_at, fields_in}
+use Rattle.nofs_model.specs.Cells.{link_in, pointer_in}
 use Rattle.nofs_model.specs.Image.{inode, InRecord, tag_for, find, value}
 use Rattle.nofs_model.specs.declared.image.path.PathAnswer.TheVariants as answer
 use Rattle.nofs_model.specs.declared.image.value.Value.{Value}
@@ -26,21 +28,26 @@ two-records : HasRecords two_table (root_record (block_two 1)) (label_record 1 l
 unfolding record_at record_of fields_in link_in pointer_in number_at
 two-records = record { one = refl; two = refl; three = refl; four = refl }
 
-label-tag : (bytes : List ℕ) → tag_of (label_cell bytes).tag ≡ Some (record { kind = Content; inode = 2; generation = 2; slot = 0; stamp = 2 ^ 40 + 2 })
+label-tag : (bytes : List ℕ) → tag_of (label_cell bytes).tag ≡ Some
+    (record { kind = Content; inode = 2; generation = 2; slot = 0; stamp = 2 ^ 40 + 2 })
 unfolding tag_of number_at
 label-tag bytes = refl
 
 module _ (bytes : List ℕ) where
-  two-inode : (i : ℕ) → inode (two_with bytes) i ≡ nth (root_record (block_two 1)) (label_record 1 label_pointer) (file_record one_link) i
-  two-inode i = inode-is two_table (root_block (short_entry_bytes 97 ++ z 960)) (label_cell bytes) (root_record (block_two 1)) (label_record 1 label_pointer)
+  two-inode : (i : ℕ) → inode (two_with bytes) i ≡ nth (root_record (block_two 1)) (label_record 1 label_pointer)
+      (file_record one_link) i
+  two-inode i = inode-is two_table (root_block (short_entry_bytes 97 ++ z 960)) (label_cell bytes)
+      (root_record (block_two 1)) (label_record 1 label_pointer)
       (file_record one_link) two-records i
 
   two-plain : ArePlain (two_with bytes) (pick (block_two 1) label_pointer null)
-  two-plain = plain-image two_table (root_block (short_entry_bytes 97 ++ z 960)) (label_cell bytes) (root_record (block_two 1)) (label_record 1 label_pointer)
+  two-plain = plain-image two_table (root_block (short_entry_bytes 97 ++ z 960)) (label_cell bytes)
+      (root_record (block_two 1)) (label_record 1 label_pointer)
       (file_record one_link) (block_two 1) label_pointer null two-records refl refl refl
 
   label-slot : tag_of (label_cell bytes).tag ≡ Some (tag_for (two_with bytes) 2 (InRecord 0) (2 ^ 40 + 2))
-  label-slot = label-tag bytes ∙ sym (ap Some (first-tag (two_with bytes) 2 (label_record 1 label_pointer) (2 ^ 40 + 2) (two-inode 2)))
+  label-slot = label-tag bytes
+      ∙ sym (ap Some (first-tag (two_with bytes) 2 (label_record 1 label_pointer) (2 ^ 40 + 2) (two-inode 2)))
 
   label-holds : find (two_with bytes) 2 (InRecord 0) ≡ answer.Holds label_pointer
   label-holds = first-holds (two_with bytes) 2 label_pointer (two-plain 2) (ap is_live (two-inode 2))
@@ -50,8 +57,10 @@ module _ (bytes : List ℕ) where
   label-value : value (two_with bytes) 2 0 ≡ Bytes bytes
   label-value = sym (first-value (two_with bytes) 2 label_pointer (two-plain 2) label-holds 0 (omega arith))
 
-  root-slot : tag_of (root_block (short_entry_bytes 97 ++ z 960)).tag ≡ Some (tag_for (two_with bytes) 1 (InRecord 0) (2 ^ 40 + 1))
-  root-slot = root-tag (short_entry_bytes 97 ++ z 960) ∙ sym (ap Some (first-tag (two_with bytes) 1 (root_record (block_two 1)) (2 ^ 40 + 1) (two-inode 1)))
+  root-slot : tag_of (root_block (short_entry_bytes 97 ++ z 960)).tag ≡ Some
+      (tag_for (two_with bytes) 1 (InRecord 0) (2 ^ 40 + 1))
+  root-slot = root-tag (short_entry_bytes 97 ++ z 960)
+      ∙ sym (ap Some (first-tag (two_with bytes) 1 (root_record (block_two 1)) (2 ^ 40 + 1) (two-inode 1)))
 
   root-holds : find (two_with bytes) 1 (InRecord 0) ≡ answer.Holds (block_two 1)
   root-holds = first-holds (two_with bytes) 1 (block_two 1) (two-plain 1) (ap is_live (two-inode 1))
@@ -76,18 +85,21 @@ first_byte Lost = 0
 refused : (m : ℕ) → IsAllowed two_image [] m leaked_image → ⊥
 refused m a =
     let may : MayRead (since two_image [] m 2 2 0) (value leaked_image 2 0) =
-    subst (λ (g : ℕ). MayRead (since two_image [] m 2 g 0) (value leaked_image 2 0)) (ap (λ (r : Record). r.generation) (two-inode other 2))
+    subst (λ (g : ℕ). MayRead (since two_image [] m 2 g 0) (value leaked_image 2 0))
+    (ap (λ (r : Record). r.generation) (two-inode other 2))
     (a.versions.values 2 0 (ap is_live (two-inode other 2)) (omega arith)) in
     elim may [
       | inl lost ↦ let v = label-value other in cc (lost, v)
       | inr has ↦
           let one : since two_image [] m 2 2 0 ≡ value two_image 2 0 ∷ [] =
           base-since two_image 2 2 0 (label_record 1 label_pointer) (two-inode own 2) refl refl in
-          let same : value two_image 2 0 ≡ value leaked_image 2 0 = sole-is (value two_image 2 0) (value leaked_image 2 0)
+          let same : value two_image 2 0 ≡ value leaked_image 2 0 =
+          sole-is (value two_image 2 0) (value leaked_image 2 0)
           (subst (λ (vs : List Value). Contains vs (value leaked_image 2 0)) one has) in
           let e : 7 ≡ 3 = ap first_byte (sym (label-value own) ∙ same ∙ label-value other) in
           absurd (omega (arith, e))
     ]
 
 pub refused-case : RefusedCase
-refused-case m = (label-value own, label-value other ∙ sym (root-value own), law-unflushed two_image [] m refl, refused m)
+refused-case m =
+    (label-value own, label-value other ∙ sym (root-value own), law-unflushed two_image [] m refl, refused m)

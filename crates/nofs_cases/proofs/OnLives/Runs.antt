@@ -1,8 +1,11 @@
 -- The instances.
-use Rattle.std.proofs.Common.{◌≡◌, ℕ, zero, suc, ◌<◌, ◌≤◌, inl, inr, Bool, true, false, cond, leb, ◌&&◌, [], ◌∷◌, refl, sym, ap, ◌∙◌, subst, arith}
+use Rattle.std.proofs.Common.{◌≡◌, ℕ, zero, suc, ◌<◌, ◌≤◌, inl, inr, Bool, true, false, cond, leb, ◌&&◌, [], ◌∷◌, refl}
+use Rattle.std.proofs.Common.{sym, ap, ◌∙◌, subst, arith}
 use Rattle.std.proofs.lemmas.Bool.{cases_lt}
-use Rattle.nofs_model.specs.Cells.{Record, free_record, null, is_null, number_at, record_of, record_at, fields_in, link_in, pointer_in}
-use Rattle.nofs_model.specs.Image.{Image, is_mountable, super_in, is_super, is_geometry, super_at, inode, is_inode, record_pointer}
+use Rattle.nofs_model.specs.Cells.{Record, free_record, null, is_null, number_at, record_of, record_at, fields_in}
+use Rattle.nofs_model.specs.Cells.{link_in, pointer_in}
+use Rattle.nofs_model.specs.Image.{Image, is_mountable, super_in, is_super, is_geometry, super_at, inode, is_inode}
+use Rattle.nofs_model.specs.Image.{record_pointer}
 use Rattle.nofs_super.specs.Geometry.{format_fault}
 use Rattle.nofs_history.specs.History.{mark, is_flushed}
 use Rattle.nofs_history.specs.World.{World, world_of}
@@ -13,7 +16,8 @@ use Rattle.nofs_crashlaw.proofs.OnHistories.Unflushed.{law-unflushed}
 use Rattle.nofs_cases.specs.Lives.Runs.{disk, NewDisk, TwoLives, EarlyLife}
 
 -- a step at other moments
-at-moments : (W : World) (e : Entry1) (V : World) (from to : ℕ) → Next W e V → Next W (record e { from = from; to = to }) V
+at-moments : (W : World) (e : Entry1) (V : World) (from to : ℕ) → Next W e V
+    → Next W (record e { from = from; to = to }) V
 at-moments W e V from to (AfterFault s r c same) = AfterFault s r c same
 at-moments W e V from to (ByRow why s rows r c k st l) = ByRow why s rows r c k st l
 at-moments W e V from to (Done s rows r claim fs hs serial vs l) = Done s rows r claim fs hs serial vs l
@@ -35,7 +39,14 @@ two-lives total B found Y s new up raised =
       t.1,
       t.2,
       (
-        record { moment = 5; left = B; found = found; allowed = law-unflushed B (e ∷ []) 5 (no-flush t.0); between = inr up; raised = raised },
+        record {
+          moment = 5;
+          left = B;
+          found = found;
+          allowed = law-unflushed B (e ∷ []) 5 (no-flush t.0);
+          between = inr up;
+          raised = raised;
+        },
         refl,
         (new, (t.1, refl, omega arith, (λ f. omega arith), at-moments (world_of B 0) t.0 t.1 4 6 t.4, refl)),
       ),
@@ -59,7 +70,8 @@ unfolding super_at super_in number_at
 mount-is = refl
 
 -- the pointers of a record that has none
-all-null : (r : Record) → r.direct ≡ free_record.direct → r.leaf ≡ null → r.top ≡ null → (n : ℕ) → n < 10 → is_null (record_pointer r n) ≡ true
+all-null : (r : Record) → r.direct ≡ free_record.direct → r.leaf ≡ null → r.top ≡ null → (n : ℕ)
+    → n < 10 → is_null (record_pointer r n) ≡ true
 all-null r d l t zero lt = rw d refl
 all-null r d l t (suc zero) lt = rw d refl
 all-null r d l t (suc (suc zero)) lt = rw d refl
@@ -113,4 +125,7 @@ records i = elim (cases_lt 4 i) [
 ]
 
 pub new-disk : NewDisk
-new-disk = (mountable, record { mount = mount-is; empty = λ i n lt. let r = records i in all-null (inode disk i) r.0 r.1 r.2 n lt })
+new-disk = (
+  mountable,
+  record { mount = mount-is; empty = λ i n lt. let r = records i in all-null (inode disk i) r.0 r.1 r.2 n lt },
+)

@@ -33,9 +33,11 @@ fresh-now d X e = after_none d.base.items d.calls.items (ap (λ (p : Parts). p.c
 
 module _ (found last left : MemDisk) (first : ℕ) (h : HistoryState) (q : IsSoundDisk (memory_state found))
     (blank : IsBlankDisk (memory_state found)) (steps : SeesAndPuts 5 (codes "ab") h.entries) where
-  after-put : LawSettledAfter memory_state → IsSettled (memory_state left) → parts_of left ≡ fresh_parts (memory_state last).now
+  after-put : LawSettledAfter memory_state → IsSettled (memory_state left)
+      → parts_of left ≡ fresh_parts (memory_state last).now
       → Ends (memory_state found) (memory_state last) first h → Crashed left
-  after-put law settled parts e = (k, record { steps = steps; first = blank }, law k left (memory_state left).now refl settled leaves (inl refl))
+  after-put law settled parts e =
+      (k, record { steps = steps; first = blank }, law k left (memory_state left).now refl settled leaves (inl refl))
     where
       k : Mount memory_state
       k = record { found = found; last = last; first = first; history = h; sound = ∣ q ∣₁; ends = ∣ e ∣₁ }
@@ -52,11 +54,19 @@ module _ (found last left : MemDisk) (first : ℕ) (h : HistoryState) (q : IsSou
             flushed = inl later;
           }
 
-  pub crashed : LawSettledAfter memory_state → IsSettled (memory_state left) → parts_of left ≡ fresh_parts (memory_state last).now
+  pub crashed : LawSettledAfter memory_state → IsSettled (memory_state left)
+      → parts_of left ≡ fresh_parts (memory_state last).now
       → ∥ Ends (memory_state found) (memory_state last) first h ∥₁ → ∥ Crashed left ∥₁
   crashed law settled parts ends = ∥∥₁_map ends (λ e. after-put law settled parts e)
 
-pub both-mounts : LawFoundSound memory_state → (found last : MemDisk) (h : HistoryState) (first : ℕ) → ∥ Crashed found ∥₁
+pub both-mounts : LawFoundSound memory_state
+    → (found last : MemDisk) (h : HistoryState) (first : ℕ) → ∥ Crashed found ∥₁
     → ∥ Ends (memory_state found) (memory_state last) first h ∥₁ → ∥ TwoMounts last h ∥₁
-both-mounts law found last h first before ends = ∥∥₁_map before (λ c.
-    (record { found = found; last = last; first = first; history = h; sound = law c.0 found refl c.2; ends = ends }, c.0, refl, refl, c.1, (c.2, c.1.first)))
+both-mounts law found last h first before ends = ∥∥₁_map before (λ c. (
+  record { found = found; last = last; first = first; history = h; sound = law c.0 found refl c.2; ends = ends },
+  c.0,
+  refl,
+  refl,
+  c.1,
+  (c.2, c.1.first),
+))

@@ -9,13 +9,16 @@ use Rattle.nofs_model.specs.Sound.{LawFormatted}
 use Rattle.nofs_shared.specs.Mount.Invariant.{IsSoundDisk}
 use Rattle.nofs_shared.specs.Laws.{IsBlankDisk, LawFirstDisk}
 
-accepted-geometry : (device blocks inodes : ℕ) → format_fault device blocks inodes ≡ None → IsGeometry device blocks inodes
+accepted-geometry : (device blocks inodes : ℕ)
+    → format_fault device blocks inodes ≡ None → IsGeometry device blocks inodes
 unfolding is_geometry
 accepted-geometry device blocks inodes e = is_geometry-parts device blocks inodes (ap is_none e)
 
-pub sound-formatted : LawFormatted → (blocks inodes : ℕ) (old new : DiskState) (res : Result (Unit {0}) FormatFault) → IsSameDisk old new
+pub sound-formatted : LawFormatted → (blocks inodes : ℕ) (old new : DiskState) (res : Result (Unit {0}) FormatFault)
+    → IsSameDisk old new
     → FormatEnds blocks inodes old new res
-    → OnOk res (IsTrue old.tells → (b : ℕ) → b < blocks → cell_at new.now b ≡ formatted_cell blocks inodes b) → OnOk res (IsTrue old.tells → IsSoundDisk new)
+    → OnOk res (IsTrue old.tells → (b : ℕ) → b < blocks → cell_at new.now b ≡ formatted_cell blocks inodes b)
+    → OnOk res (IsTrue old.tells → IsSoundDisk new)
 sound-formatted law blocks inodes old new (Err why) same ends cells = tt
 sound-formatted law blocks inodes old new (Ok u) same ends cells = λ tells. record {
   tells = subst (λ b. IsTrue b) (sym same.tells) tells;
@@ -30,7 +33,8 @@ sound-formatted law blocks inodes old new (Ok u) same ends cells = λ tells. rec
       ends.settled b (cell_at X b) there (picks.each b there) ∙ cells tells b low);
 }
 
-pub blank-formatted : (old new : DiskState) → LawFirstDisk old new → (blocks inodes : ℕ) (res : Result (Unit {0}) FormatFault)
+pub blank-formatted : (old new : DiskState) → LawFirstDisk old new
+    → (blocks inodes : ℕ) (res : Result (Unit {0}) FormatFault)
     → FormatEnds blocks inodes old new res
     → OnOk res (IsTrue old.tells → IsSoundDisk new) → OnOk res (IsTrue old.tells → IsBlankDisk new)
 blank-formatted old new law blocks inodes (Err why) ends sound = tt

@@ -16,7 +16,8 @@ use Rattle.nofs_state.specs.declared.books.maps.Books.{Books}
 use Rattle.nofs_cases.specs.Mounts.Open.{MapsGood}
 
 -- known, and not used
-free-known : (free known uses used : Bool) → free ≡ (known && not uses) → known ≡ true → not uses ≡ not used → free ≡ not used
+free-known : (free known uses used : Bool) → free ≡ (known && not uses) → known ≡ true → not uses ≡ not used
+    → free ≡ not used
 free-known free known uses used is e same = is ∙ (rw e refl) ∙ same
 
 module _ (d : DiskState) (k : Books) (H : List Entry1) (p : Past) (o : IsOpen d k H p) where
@@ -44,8 +45,10 @@ module _ (d : DiskState) (k : Books) (H : List Entry1) (p : Past) (o : IsOpen d 
             let known : p.world.known_inodes i ≡ true = o.says.known_inodes i ∙ e in
             let parts = and_parts (nat_le 1 i) (nat_le i k.at.inodes && not (is_set k.unknown_inodes (i - 1))) e in
             let low = leb-true 1 i parts.0 in
-            let high = leb-true i k.at.inodes (and_parts (nat_le i k.at.inodes) (not (is_set k.unknown_inodes (i - 1))) parts.1).0 in
-            free-known (is_set k.free_inodes (i - 1)) (p.world.known_inodes i) (uses_inode p.world i) (is_used_inode d.now i) (o.says.free_inodes i low high)
+            let high = leb-true i k.at.inodes
+            (and_parts (nat_le i k.at.inodes) (not (is_set k.unknown_inodes (i - 1))) parts.1).0 in
+            free-known (is_set k.free_inodes (i - 1)) (p.world.known_inodes i) (uses_inode p.world i)
+            (is_used_inode d.now i) (o.says.free_inodes i low high)
             known (g.inode_verdicts i known);
         block_verdicts = λ b low e.
             let known : p.world.known_blocks b ≡ true = o.says.known_blocks b ∙ e in

@@ -12,7 +12,8 @@ pub leaves-sound : (d : DiskState) → IsDisk d → IsSoundDisk d → LeavesSoun
 leaves-sound d is sound X left = sound.sound X (is.at_rest X left)
 
 -- a disk that holds a sound image, and may hold no other
-pub settled-sound : (d : DiskState) (cells : List Cell) → IsTrue d.tells → length cells ≡ d.blocks → d.now ≡ cells → IsSettled d → IsSound cells
+pub settled-sound : (d : DiskState) (cells : List Cell) → IsTrue d.tells
+    → length cells ≡ d.blocks → d.now ≡ cells → IsSettled d → IsSound cells
     → IsSoundDisk d
 settled-sound d cells tells size now settled sound = record {
   tells = tells;

@@ -1,7 +1,8 @@
 -- A Make with a claimed block and a claimed leaf.
 use Rattle.std.proofs.Common.{◌≡◌, ◌≢◌, ℕ, ◌+◌, ◌^◌, ◌++◌, Some, refl, sym, ap, ◌∙◌, arith}
 use Rattle.nofs_disk.specs.Number.{put_number, put_bytes, zeros}
-use Rattle.nofs_model.specs.Cells.{Directory, Leaf, Record, tag_of, number_at, null, pointer_at, pointer_in, record_of, record_at, fields_in, link_in}
+use Rattle.nofs_model.specs.Cells.{Directory, Leaf, Record, tag_of, number_at, null, pointer_at, pointer_in, record_of}
+use Rattle.nofs_model.specs.Cells.{record_at, fields_in, link_in}
 use Rattle.nofs_model.specs.Cells.{spelled_entry, free_record}
 use Rattle.nofs_model.specs.Image.{cell_at, inode, Under, leaf, path_of, slot_of, tag_for, record_pointer}
 use Rattle.nofs_model.specs.declared.image.value.Value.TheVariants.{Hole, Bytes}
@@ -36,11 +37,13 @@ deep-records = record { one = refl; two = refl; three = refl; four = refl }
 deep-inode : (i : ℕ) → inode deep_image i ≡ nth deep_root (label_record 0 null) deep_file i
 deep-inode i = inode-is deep_table deep_entries root_leaf deep_root (label_record 0 null) deep_file deep-records i
 
-entries-tag : tag_of deep_entries.tag ≡ Some (record { kind = Directory; inode = 1; generation = 1; slot = 8; stamp = 2 ^ 40 + 1 })
+entries-tag : tag_of deep_entries.tag
+    ≡ Some (record { kind = Directory; inode = 1; generation = 1; slot = 8; stamp = 2 ^ 40 + 1 })
 unfolding tag_of number_at
 entries-tag = refl
 
-leaf-tag : tag_of root_leaf.tag ≡ Some (record { kind = Leaf; inode = 1; generation = 1; slot = 2 ^ 32; stamp = 2 ^ 40 + 2 })
+leaf-tag : tag_of root_leaf.tag
+    ≡ Some (record { kind = Leaf; inode = 1; generation = 1; slot = 2 ^ 32; stamp = 2 ^ 40 + 2 })
 unfolding tag_of number_at
 leaf-tag = refl
 
@@ -63,15 +66,20 @@ first-pointer = refl
 with-leaf : HoleWithLeaf (2 ^ 40) first_image deep_image 1 3 0 (block_two 1) leaf_pointer
 with-leaf = record {
   super = refl;
-  records = λ j n1 n3. deep-inode j ∙ but-one-and-three deep_root (root_record null) (label_record 0 null) deep_file free_record j n1 n3 ∙ sym (first-inode j);
+  records = λ j n1 n3. deep-inode j ∙ but-one-and-three deep_root (root_record null)
+      (label_record 0 null) deep_file free_record j n1 n3 ∙ sym (first-inode j);
   empty = first-empty 1 leaf (omega arith);
-  cell = record { free = first-free 2; area = data-two first_table blank blank; fresh = omega arith; tag = entries-slot };
-  above = record { free = first-free 3; area = data-three first_table blank blank; fresh = omega arith; tag = leaf-slot };
-  blocks = each-block (λ p. p ≢ 2 → p ≢ 3 → cell_at deep_image p ≡ cell_at first_image p) first_table blank blank (λ n2 n3. absurd (n2 refl))
+  cell =
+      record { free = first-free 2; area = data-two first_table blank blank; fresh = omega arith; tag = entries-slot };
+  above =
+      record { free = first-free 3; area = data-three first_table blank blank; fresh = omega arith; tag = leaf-slot };
+  blocks = each-block (λ p. p ≢ 2 → p ≢ 3 → cell_at deep_image p ≡ cell_at first_image p) first_table blank blank
+      (λ n2 n3. absurd (n2 refl))
       (λ n2 n3. absurd (n3 refl)) (λ n n2 n3. refl);
   meta = same-meta first_image deep_image 1 (root_record null) deep_root (first-inode 1) (deep-inode 1) refl;
   leaf_is = ap (λ (r : Record). record_pointer r 8) (deep-inode 1);
-  others = λ m ne. ap (λ (r : Record). record_pointer r m) (deep-inode 1) ∙ but-leaf (root_record null) leaf_pointer m ne
+  others = λ m ne. ap (λ (r : Record). record_pointer r m) (deep-inode 1)
+      ∙ but-leaf (root_record null) leaf_pointer m ne
       ∙ sym (ap (λ (r : Record). record_pointer r m) (first-inode 1));
   pointer = first-pointer;
   pointers = other-pointer 1;
@@ -86,7 +94,8 @@ written-a = refl
 pub deep-make-case : DeepMakeCase
 unfolding path_of
 deep-make-case = (
-  make-lies first_files first_image deep_image Hole 128 (2 ^ 40) first-ready (2 ^ 40) (block_two 1) leaf_pointer refl (omega arith) refl (omega arith) spells-a
+  make-lies first_files first_image deep_image Hole 128 (2 ^ 40) first-ready (2 ^ 40) (block_two 1) leaf_pointer refl
+      (omega arith) refl (omega arith) spells-a
       (deep-inode 3),
   record {
     empty = first-empty 1 (Under leaf 0) (refl, omega arith, omega arith);

@@ -1,11 +1,14 @@
 -- A Make in the block that the directory has, and a Link for which it gets a second block.
-use Rattle.std.proofs.Common.{◌≡◌, ◌≢◌, ℕ, zero, suc, ◌+◌, ◌^◌, ◌<◌, inl, inr, true, false, [], ◌∷◌, ◌++◌, Option, Some, None, IfSome}
+use Rattle.std.proofs.Common.{◌≡◌, ◌≢◌, ℕ, zero, suc, ◌+◌, ◌^◌, ◌<◌, inl, inr, true, false, [], ◌∷◌, ◌++◌, Option, Some}
+use Rattle.std.proofs.Common.{None, IfSome}
 use Rattle.std.proofs.Common.{refl, sym, ap, subst, arith}
 use Rattle.nofs_disk.specs.Number.{put_number, put_bytes, zeros}
 use Rattle.nofs_model.specs.Kinds.{File, Directory as Folder}
-use Rattle.nofs_model.specs.Cells.{Directory, Entry, Record, tag_of, null, free_record, number_at, Spells, is_name, entry_in, entry_of, entry_fields}
+use Rattle.nofs_model.specs.Cells.{Directory, Entry, Record, tag_of, null, free_record, number_at, Spells, is_name}
+use Rattle.nofs_model.specs.Cells.{entry_in, entry_of, entry_fields}
 use Rattle.nofs_model.specs.Cells.{spelled_entry, record_of, record_at, fields_in, link_in, pointer_in}
-use Rattle.nofs_model.specs.Image.{cell_at, inode, Path, InRecord, path_of, slot_of, tag_for, find, record_pointer, IsFree}
+use Rattle.nofs_model.specs.Image.{cell_at, inode, Path, InRecord, path_of, slot_of, tag_for, find, record_pointer}
+use Rattle.nofs_model.specs.Image.{IsFree}
 use Rattle.nofs_model.specs.declared.image.path.PathAnswer.TheVariants as answer
 use Rattle.nofs_model.specs.declared.image.value.Value.TheVariants.{Hole, Bytes}
 use Rattle.nofs_history.specs.Search.{least_from}
@@ -43,11 +46,14 @@ use Rattle.nofs_cases.proofs.OnNumbers.Homes.{name-low, disk-below}
 -- Make in place
 
 drop-match : FilesMatch drop_files drop_image
-drop-match = files-match drop_image (root_file (Bytes (z 1024))) (label_file 0 Hole) None (ap (λ (r : Record). r.kind) (drop-inode 0))
+drop-match = files-match drop_image (root_file (Bytes (z 1024))) (label_file 0 Hole) None
+    (ap (λ (r : Record). r.kind) (drop-inode 0))
     (same-first drop_image 1 (root_record (block_two 1)) Folder (block_two 1) (drop-inode 1) refl
     (root-plain drop_table (z 1024) free_record drop-records refl 1)
-    (one-agreed drop_table (z 1024) free_record drop-records refl) (root-holds drop_table (z 1024) free_record drop-records refl))
-    (same-empty drop_image 2 (label_record 0 null) File (drop-inode 2) refl (root-plain drop_table (z 1024) free_record drop-records refl 2)
+    (one-agreed drop_table (z 1024) free_record drop-records refl)
+    (root-holds drop_table (z 1024) free_record drop-records refl))
+    (same-empty drop_image 2 (label_record 0 null) File (drop-inode 2) refl
+    (root-plain drop_table (z 1024) free_record drop-records refl 2)
     (two-agreed drop_table (z 1024) free_record drop-records refl))
     (same-none drop_image 3 (ap (λ (r : Record). r.kind) (drop-inode 3)))
     (λ n. ap (λ (r : Record). r.kind) (drop-inode (suc (suc (suc (suc n))))))
@@ -93,8 +99,10 @@ drop-numbers = record {
   positive = omega arith;
   mountable = mountable drop_table (root_block (z 1024)) blank;
   below = disk-below drop_table (z 1024) free_record refl drop-records (record {
-    one = record-low (2 ^ 40 + 2) (root_record (block_two 1)) (block_two 1) refl (omega arith) (no-links-low (2 ^ 40 + 2) (omega arith)) (omega arith);
-    two = record-low (2 ^ 40 + 2) (label_record 0 null) null refl (omega arith) (no-links-low (2 ^ 40 + 2) (omega arith)) (omega arith);
+    one = record-low (2 ^ 40 + 2) (root_record (block_two 1)) (block_two 1) refl (omega arith)
+        (no-links-low (2 ^ 40 + 2) (omega arith)) (omega arith);
+    two = record-low (2 ^ 40 + 2) (label_record 0 null) null refl (omega arith)
+        (no-links-low (2 ^ 40 + 2) (omega arith)) (omega arith);
     three = free-low (2 ^ 40 + 2) (omega arith);
   }) (λ j lt. subst (λ (o : Option Entry). IfSome o (λ e. e.generation < 2 ^ 40 + 2)) (sym (no-entries j lt)) tt);
 }
@@ -107,7 +115,8 @@ make-in-place-case = (
     root = refl;
     old = root-old drop_table (z 1024) free_record drop-records refl;
   }) (2 ^ 40 + 2) null null refl (omega arith) again-unpaired (omega arith) spells-again (again-inode 3),
-  in-place drop_table again_table (z 1024) (again_bytes ++ z 960) free_record again_record drop-records again-records refl 0 (spelled_entry 3 (2 ^ 40 + 2) a)
+  in-place drop_table again_table (z 1024)
+      (again_bytes ++ z 960) free_record again_record drop-records again-records refl 0 (spelled_entry 3 (2 ^ 40 + 2) a)
       refl
       refl (sym written-again),
   again-place,
@@ -129,22 +138,27 @@ full-first = refl
 full-match : FilesMatch full_files full_image
 full-match = root-match name_table full_cell one_link name-records (0, omega arith, refl) full-first
 
-full-inode : (i : ℕ) → inode full_image i ≡ nth (root_record (block_two 1)) (label_record 0 null) (file_record one_link) i
+full-inode : (i : ℕ)
+    → inode full_image i ≡ nth (root_record (block_two 1)) (label_record 0 null) (file_record one_link) i
 full-inode i = root-inode name_table full_cell (file_record one_link) name-records refl i
 
 -- the root with two blocks
 abbrev wide_record : Record
 wide_record =
-    record (root_record (block_two 1)) { direct = block_two 1 ∷ third_block ∷ null ∷ null ∷ null ∷ null ∷ null ∷ null ∷ [] }
+    record (root_record (block_two 1)) {
+      direct = block_two 1 ∷ third_block ∷ null ∷ null ∷ null ∷ null ∷ null ∷ null ∷ [];
+    }
 
 hole-records : HasRecords hole_table wide_record (label_record 0 null) (file_record far_links)
 unfolding record_at record_of fields_in link_in pointer_in number_at
 hole-records = record { one = refl; two = refl; three = refl; four = refl }
 
 hole-inode : (i : ℕ) → inode hole_image i ≡ nth wide_record (label_record 0 null) (file_record far_links) i
-hole-inode i = inode-is hole_table (root_block full_cell) second_block wide_record (label_record 0 null) (file_record far_links) hole-records i
+hole-inode i = inode-is hole_table (root_block full_cell) second_block wide_record (label_record 0 null)
+    (file_record far_links) hole-records i
 
-second-tag : tag_of second_block.tag ≡ Some (record { kind = Directory; inode = 1; generation = 1; slot = 1; stamp = 2 ^ 40 + 2 })
+second-tag : tag_of second_block.tag
+    ≡ Some (record { kind = Directory; inode = 1; generation = 1; slot = 1; stamp = 2 ^ 40 + 2 })
 unfolding tag_of number_at
 second-tag = refl
 
@@ -193,14 +207,22 @@ second-empty = elim (slot-is full_image 1 (block_two 1) (full-plain 1) (InRecord
 
 block-three-free : IsFree full_image 3
 block-three-free = free-is full_image (pick (block_two 1) null null) 3 full-plain
-    (each-number (λ i. (pick (block_two 1) null null i).block ≡ 3 → pick (block_two 1) null null i ≡ null) (λ e. refl) (λ e. absurd (omega (arith, e)))
+    (each-number (λ i. (pick (block_two 1) null null i).block ≡ 3 → pick (block_two 1) null null i ≡ null) (λ e. refl)
+    (λ e. absurd (omega (arith, e)))
     (λ e. refl) (λ e. refl) (λ n e. refl))
 
 far-hole : HoleInRecord (2 ^ 40 + 2) full_image hole_image 1 3 1 third_block
-far-hole = hole-in-record name_table (root_block full_cell) blank hole_table (root_block full_cell) second_block (root_record (block_two 1)) wide_record
+far-hole = hole-in-record name_table (root_block full_cell) blank hole_table (root_block full_cell) second_block
+    (root_record (block_two 1)) wide_record
     (file_record one_link) (file_record far_links) name-records hole-records (2 ^ 40 + 2) 1 third_block refl
-    (record { free = block-three-free; area = data-three name_table (root_block full_cell) blank; fresh = omega arith; tag = second-slot })
-    (each-block (λ p. p ≢ 3 → cell_at hole_image p ≡ cell_at full_image p) name_table (root_block full_cell) blank (λ ne. refl) (λ ne. absurd (ne refl))
+    (record {
+      free = block-three-free;
+      area = data-three name_table (root_block full_cell) blank;
+      fresh = omega arith;
+      tag = second-slot;
+    })
+    (each-block (λ p. p ≢ 3 → cell_at hole_image p ≡ cell_at full_image p) name_table (root_block full_cell) blank
+    (λ ne. refl) (λ ne. absurd (ne refl))
     (λ n ne. refl))
     refl pointers
   where

@@ -1,7 +1,9 @@
 -- The numbers in the cells that a Put, a Make, a Link and a Drop write.
-use Rattle.std.proofs.Common.{◌≡◌, ℕ, zero, suc, ◌+◌, ◌-◌, ◌%◌, ◌^◌, ◌<◌, ◌≤◌, inl, true, List, [], ◌∷◌, ◌++◌, Option, Some, IfSome}
+use Rattle.std.proofs.Common.{◌≡◌, ℕ, zero, suc, ◌+◌, ◌-◌, ◌%◌, ◌^◌, ◌<◌, ◌≤◌, inl, true, List, [], ◌∷◌, ◌++◌, Option}
+use Rattle.std.proofs.Common.{Some, IfSome}
 use Rattle.std.proofs.Common.{Contains, refl, sym, ap, ◌∙◌, subst, arith}
-use Rattle.nofs_model.specs.Cells.{Cell, Entry, Pointer, BackLink, Record, record_at, tag_of, null, is_live, free_record}
+use Rattle.nofs_model.specs.Cells.{Cell, Entry, Pointer, BackLink, Record, record_at, tag_of, null, is_live}
+use Rattle.nofs_model.specs.Cells.{free_record}
 use Rattle.nofs_model.specs.Image.{Image, inode, InRecord, is_inode, tag_for, kind_in, pointer, record_pointer}
 use Rattle.nofs_history.specs.World.{World}
 use Rattle.nofs_history.specs.Claims.{no_claims}
@@ -34,7 +36,8 @@ only x = (0, omega arith, refl)
 -- Content
 
 put-tag-first : tag_of (put_block 7).tag ≡ Some (tag_for first_image 2 (InRecord 0) (2 ^ 40))
-put-tag-first = put-slot 7 ∙ ap Some (first-tag (image_of put_table (put_block 7) blank) 2 (label_record 1 (block_two 0)) (2 ^ 40) (put-inode 7 2))
+put-tag-first = put-slot 7 ∙ ap Some
+    (first-tag (image_of put_table (put_block 7) blank) 2 (label_record 1 (block_two 0)) (2 ^ 40) (put-inode 7 2))
     ∙ sym (ap Some (first-tag first_image 2 (label_record 0 null) (2 ^ 40) (first-inode 2)))
 
 pub content-cell-case : ContentCellCase
@@ -52,8 +55,10 @@ content-cell-case = (
 
 -- A directory's cell
 
-make-tag : tag_of (root_block (short_entry_bytes 97 ++ z 960)).tag ≡ Some (tag_for first_image 1 (InRecord 0) (2 ^ 40 + 1))
-make-tag = root-tag (short_entry_bytes 97 ++ z 960) ∙ sym (ap Some (first-tag first_image 1 (root_record null) (2 ^ 40 + 1) (first-inode 1)))
+make-tag : tag_of (root_block (short_entry_bytes 97 ++ z 960)).tag ≡ Some
+    (tag_for first_image 1 (InRecord 0) (2 ^ 40 + 1))
+make-tag = root-tag (short_entry_bytes 97 ++ z 960)
+    ∙ sym (ap Some (first-tag first_image 1 (root_record null) (2 ^ 40 + 1) (first-inode 1)))
 
 pub entry-in-hole-case : EntryInHoleCase
 entry-in-hole-case = (
@@ -69,7 +74,8 @@ entry-in-hole-case = (
   record { before = Zeros refl; whole = spells-a.short; content = sym written-a; number = entries-case.3 },
 )
 
-link-tag : tag_of (root_block (short_entry_bytes 97 ++ short_entry_bytes 98 ++ z 896)).tag ≡ Some (tag_for name_image 1 (InRecord 0) (2 ^ 40 + 1))
+link-tag : tag_of (root_block (short_entry_bytes 97 ++ short_entry_bytes 98 ++ z 896)).tag ≡ Some
+    (tag_for name_image 1 (InRecord 0) (2 ^ 40 + 1))
 link-tag = root-tag (short_entry_bytes 97 ++ short_entry_bytes 98 ++ z 896)
     ∙ sym (ap Some (first-tag name_image 1 (root_record (block_two 1)) (2 ^ 40 + 1) (name-inode 1)))
 
@@ -91,17 +97,20 @@ entry-in-place-case = (
     before = Held (block_two 1) name-holds refl refl;
     whole = spells-b.short;
     content = sym linked;
-    number = subst (λ (o : Option Entry). IfSome o (λ (n : Entry). Numbered name_world no_claims n.generation)) (sym spells-b.reads) (Old (omega arith));
+    number = subst (λ (o : Option Entry). IfSome o (λ (n : Entry). Numbered name_world no_claims n.generation))
+        (sym spells-b.reads) (Old (omega arith));
   },
 )
 
 -- Tables
 
 -- each record of the one cell of the table is written or as before
-table-written : (W : World) (c : Claims) (X : Image) (t : Cell) (p q r : Record) → HasRecords t p q r → (x y u : Cell) → X ≡ image_of u x y
+table-written : (W : World) (c : Claims) (X : Image) (t : Cell) (p q r : Record) → HasRecords t p q r
+    → (x y u : Cell) → X ≡ image_of u x y
     → RecordWritten W c X 1 p → RecordWritten W c X 2 q → RecordWritten W c X 3 r → (j : ℕ) → is_inode X j ≡ true
     → RecordWritten W c X j (record_at t.payload ((j - 1) % 4))
-table-written W c X t p q r h x y u e one two three j range = go j (range-is u x y j (subst (λ (Z : Image). is_inode Z j ≡ true) e range))
+table-written W c X t p q r h x y u e one two three j range =
+    go j (range-is u x y j (subst (λ (Z : Image). is_inode Z j ≡ true) e range))
   where
     go : (j : ℕ) → (1 ≤ j) × (j ≤ 4) → RecordWritten W c X j (record_at t.payload ((j - 1) % 4))
     go zero n = absurd (omega (arith, n))
@@ -112,7 +121,8 @@ table-written W c X t p q r h x y u e one two three j range = go j (range-is u x
     go (suc (suc (suc (suc (suc m))))) n = absurd (omega (arith, n))
 
 -- a record whose first pointer is claimed, and which has no other
-grown : (W : World) (c : Claims) (X : Image) (j : ℕ) (r : Record) (x : Pointer) → IsPlain r x → is_live (inode X j) ≡ true
+grown : (W : World) (c : Claims) (X : Image) (j : ℕ) (r : Record) (x : Pointer) → IsPlain r x
+    → is_live (inode X j) ≡ true
     → r.generation ≡ (inode X j).generation → r.links ≡ (inode X j).links → PointerFrom c X j (InRecord 0) x
     → RecordWritten W c X j r
 grown W c X j r x is live gen links first = Changed (record {
@@ -130,32 +140,46 @@ pub table-changed-case : TableChangedCase
 table-changed-case = (
   first-numbers,
   table-tag,
-  λ j range e. table-written first_world put_claims first_image put_table (root_record null) (label_record 1 (block_two 0)) free_record put-records blank
+  λ j range e. table-written first_world put_claims first_image put_table (root_record null)
+      (label_record 1 (block_two 0)) free_record put-records blank
       blank first_table refl
       (AsBefore (sym (first-inode 1)))
-      (grown first_world put_claims first_image 2 (label_record 1 (block_two 0)) (block_two 0) refl (ap is_live (first-inode 2))
-      (sym (ap (λ (r : Record). r.generation) (first-inode 2))) (sym (ap (λ (r : Record). r.links) (first-inode 2))) (Claimed (only (block_two 0))))
+      (grown first_world put_claims first_image 2 (label_record 1 (block_two 0)) (block_two 0) refl
+      (ap is_live (first-inode 2))
+      (sym (ap (λ (r : Record). r.generation) (first-inode 2))) (sym (ap (λ (r : Record). r.links) (first-inode 2)))
+      (Claimed (only (block_two 0))))
       (Freed refl) j range,
 )
 
 -- the links of the new record lead to the root
 new-links : (l : BackLink) → Contains one_link l → Numbered first_world make_claims l.generation
 new-links l (zero, lt, e) = Old (let g : 1 ≡ l.generation = ap (λ (q : BackLink). q.generation) e in omega (arith, g))
-new-links l (suc zero, lt, e) = Old (let g : 0 ≡ l.generation = ap (λ (q : BackLink). q.generation) e in omega (arith, g))
-new-links l (suc (suc zero), lt, e) = Old (let g : 0 ≡ l.generation = ap (λ (q : BackLink). q.generation) e in omega (arith, g))
-new-links l (suc (suc (suc zero)), lt, e) = Old (let g : 0 ≡ l.generation = ap (λ (q : BackLink). q.generation) e in omega (arith, g))
+new-links l (suc zero, lt, e) =
+    Old (let g : 0 ≡ l.generation = ap (λ (q : BackLink). q.generation) e in omega (arith, g))
+new-links l (suc (suc zero), lt, e) =
+    Old (let g : 0 ≡ l.generation = ap (λ (q : BackLink). q.generation) e in omega (arith, g))
+new-links l (suc (suc (suc zero)), lt, e) =
+    Old (let g : 0 ≡ l.generation = ap (λ (q : BackLink). q.generation) e in omega (arith, g))
 new-links l (suc (suc (suc (suc k))), lt, e) = absurd (omega (arith, lt))
 
 pub table-made-case : TableMadeCase
 table-made-case = (
   first-numbers,
   table-tag,
-  λ j range e. table-written first_world make_claims first_image name_table (root_record (block_two 1)) (label_record 0 null) (file_record one_link)
+  λ j range e. table-written first_world make_claims first_image name_table (root_record (block_two 1))
+      (label_record 0 null) (file_record one_link)
       name-records blank blank first_table refl
-      (grown first_world make_claims first_image 1 (root_record (block_two 1)) (block_two 1) refl (ap is_live (first-inode 1))
-      (sym (ap (λ (r : Record). r.generation) (first-inode 1))) (sym (ap (λ (r : Record). r.links) (first-inode 1))) (Claimed (only (block_two 1))))
+      (grown first_world make_claims first_image 1 (root_record (block_two 1)) (block_two 1) refl
+      (ap is_live (first-inode 1))
+      (sym (ap (λ (r : Record). r.generation) (first-inode 1))) (sym (ap (λ (r : Record). r.links) (first-inode 1)))
+      (Claimed (only (block_two 1))))
       (AsBefore (sym (first-inode 2)))
-      (Made (record { claimed = λ e. omega (arith, e); generation = refl; links = new-links; pointers = λ n lt. no-pointers (file_record one_link) refl n })) j
+      (Made (record {
+        claimed = λ e. omega (arith, e);
+        generation = refl;
+        links = new-links;
+        pointers = λ n lt. no-pointers (file_record one_link) refl n;
+      })) j
       range,
 )
 
@@ -163,7 +187,8 @@ pub table-freed-case : TableFreedCase
 table-freed-case = (
   name-numbers,
   table-tag,
-  λ j range e. table-written name_world no_claims name_image drop_table (root_record (block_two 1)) (label_record 0 null) free_record drop-records
+  λ j range e. table-written name_world no_claims name_image drop_table (root_record (block_two 1))
+      (label_record 0 null) free_record drop-records
       (root_block (short_entry_bytes 97 ++ z 960)) blank name_table refl
       (AsBefore (sym (name-inode 1))) (AsBefore (sym (name-inode 2))) (Freed refl) j range,
 )

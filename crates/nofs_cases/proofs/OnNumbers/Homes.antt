@@ -1,7 +1,9 @@
 -- Homes after steps on names, and the numbers before them and before a Put.
-use Rattle.std.proofs.Common.{◌≡◌, ℕ, ◌+◌, ◌^◌, ◌<◌, ◌++◌, Option, Some, IfSome, All, List, true, get_or, refl, sym, ap, subst, arith}
+use Rattle.std.proofs.Common.{◌≡◌, ℕ, ◌+◌, ◌^◌, ◌<◌, ◌++◌, Option, Some, IfSome, All, List, true, get_or, refl, sym, ap}
+use Rattle.std.proofs.Common.{subst, arith}
 use Rattle.nofs_model.specs.Kinds.{File}
-use Rattle.nofs_model.specs.Cells.{Cell, Record, Directory, Leaf, Tag, SuperBlock, number_at, pointer_at, entry_in, entry_of, entry_fields, null}
+use Rattle.nofs_model.specs.Cells.{Cell, Record, Directory, Leaf, Tag, SuperBlock, number_at, pointer_at, entry_in}
+use Rattle.nofs_model.specs.Cells.{entry_of, entry_fields, null}
 use Rattle.nofs_model.specs.Cells.{is_name}
 use Rattle.nofs_model.specs.Image.{path_of, TagBelow, IsBelow}
 use Rattle.nofs_history.specs.Search.{least_from}
@@ -51,7 +53,8 @@ make-claim = record {
 
 link-claim : IsClaim name_world (step.Link 1 1 b 3 (2 ^ 40)) no_claims
 unfolding place_for first_dead least_from path_of entry_of entry_fields number_at is_name
-link-claim = record { inode = NoInode refl refl; cell = Unclaimed refl; leaf = Unclaimed refl; top = Unclaimed refl; apart = tt }
+link-claim =
+    record { inode = NoInode refl refl; cell = Unclaimed refl; leaf = Unclaimed refl; top = Unclaimed refl; apart = tt }
 
 pub make-homes-case : MakeHomesCase
 make-homes-case = (make-case, record { place = make-place; cell = refl; leaf = λ e. cc e }, make-claim)
@@ -60,47 +63,71 @@ pub link-homes-case : LinkHomesCase
 link-homes-case = (link-case, link-place, link-claim)
 
 pub rename-homes-case : RenameHomesCase
-rename-homes-case = (rename-case, record { inode = NoInode refl refl; cell = Unclaimed refl; leaf = Unclaimed refl; top = Unclaimed refl; apart = tt })
+rename-homes-case = (
+  rename-case,
+  record { inode = NoInode refl refl; cell = Unclaimed refl; leaf = Unclaimed refl; top = Unclaimed refl; apart = tt },
+)
 
 pub drop-name-homes-case : DropNameHomesCase
-drop-name-homes-case = (drop-name-case, record { inode = NoInode refl refl; cell = Unclaimed refl; leaf = Unclaimed refl; top = Unclaimed refl; apart = tt })
+drop-name-homes-case = (
+  drop-name-case,
+  record { inode = NoInode refl refl; cell = Unclaimed refl; leaf = Unclaimed refl; top = Unclaimed refl; apart = tt },
+)
 
 pub drop-file-homes-case : DropFileHomesCase
-drop-file-homes-case = (drop-file-case, record { inode = NoInode refl refl; cell = Unclaimed refl; leaf = Unclaimed refl; top = Unclaimed refl; apart = tt })
+drop-file-homes-case = (
+  drop-file-case,
+  record { inode = NoInode refl refl; cell = Unclaimed refl; leaf = Unclaimed refl; top = Unclaimed refl; apart = tt },
+)
 
 -- Numbers
 
 pub first-numbers : OldNumbers first_world first_image
-first-numbers = record { positive = omega arith; mountable = mountable first_table blank blank; below = first-is-below (2 ^ 40) (omega arith) }
+first-numbers = record {
+  positive = omega arith;
+  mountable = mountable first_table blank blank;
+  below = first-is-below (2 ^ 40) (omega arith);
+}
 
 one-link-low : (s : ℕ) → 2 ^ 40 + 1 < s → All (λ l. l.generation < s) one_link
-one-link-low s lt n d low = each-number (λ k. k < 4 → (get_or one_link k d).generation < s) (λ below. omega (arith, lt)) (λ below. omega (arith, lt))
+one-link-low s lt n d low = each-number (λ k. k < 4 → (get_or one_link k d).generation < s) (λ below. omega (arith, lt))
+    (λ below. omega (arith, lt))
     (λ below. omega (arith, lt)) (λ below. omega (arith, lt)) (λ k below. absurd (omega (arith, below))) n low
 
-pub name-low : (s : ℕ) → 2 ^ 40 + 1 < s → RecordsLow s (root_record (block_two 1)) (label_record 0 null) (file_record one_link)
+pub name-low : (s : ℕ)
+    → 2 ^ 40 + 1 < s → RecordsLow s (root_record (block_two 1)) (label_record 0 null) (file_record one_link)
 name-low s lt = record {
-  one = record-low s (root_record (block_two 1)) (block_two 1) refl (omega (arith, lt)) (no-links-low s (omega (arith, lt))) lt;
-  two = record-low s (label_record 0 null) null refl (omega (arith, lt)) (no-links-low s (omega (arith, lt))) (omega (arith, lt));
+  one = record-low s (root_record (block_two 1)) (block_two 1) refl (omega (arith, lt))
+      (no-links-low s (omega (arith, lt))) lt;
+  two = record-low s (label_record 0 null) null refl (omega (arith, lt)) (no-links-low s (omega (arith, lt)))
+      (omega (arith, lt));
   three = record-low s (file_record one_link) null refl (omega (arith, lt)) (one-link-low s lt) (omega (arith, lt));
 }
 
 -- a disk whose root has one block of entries, each below the bound
 
-cell-low : (bytes : List ℕ) → ((j : ℕ) → j < 16 → IfSome (entry_in bytes j) (λ e. e.generation < 2 ^ 40 + 2)) → TagBelow (2 ^ 40 + 2) (root_block bytes)
+cell-low : (bytes : List ℕ) → ((j : ℕ) → j < 16 → IfSome (entry_in bytes j) (λ e. e.generation < 2 ^ 40 + 2))
+    → TagBelow (2 ^ 40 + 2) (root_block bytes)
 cell-low bytes entries = record {
-  own = subst (λ (o : Option Tag). IfSome o (λ t. (t.generation < 2 ^ 40 + 2) × (t.stamp < 2 ^ 40 + 2))) (sym (root-tag bytes)) (omega arith, omega arith);
-  entries = subst (λ (o : Option Tag). IfSome o (λ t. t.kind ≡ Directory → (j : ℕ) → j < 16 → IfSome (entry_in bytes j) (λ e. e.generation < 2 ^ 40 + 2)))
+  own = subst (λ (o : Option Tag). IfSome o (λ t. (t.generation < 2 ^ 40 + 2) × (t.stamp < 2 ^ 40 + 2)))
+      (sym (root-tag bytes)) (omega arith, omega arith);
+  entries = subst (λ (o : Option Tag). IfSome o
+      (λ t. t.kind ≡ Directory → (j : ℕ) → j < 16 → IfSome (entry_in bytes j) (λ e. e.generation < 2 ^ 40 + 2)))
       (sym (root-tag bytes)) (λ k j lt. entries j lt);
-  pointers = subst (λ (o : Option Tag). IfSome o (λ t. t.kind ≡ Leaf → (j : ℕ) → j < 64 → (pointer_at bytes j).stamp < 2 ^ 40 + 2)) (sym (root-tag bytes))
+  pointers = subst (λ (o : Option Tag). IfSome o
+      (λ t. t.kind ≡ Leaf → (j : ℕ) → j < 64 → (pointer_at bytes j).stamp < 2 ^ 40 + 2)) (sym (root-tag bytes))
       (λ k. cc k);
 }
 
-pub disk-below : (t : Cell) (bytes : List ℕ) (c : Record) → t.tag ≡ name_table.tag → HasRecords t (root_record (block_two 1)) (label_record 0 null) c
+pub disk-below : (t : Cell) (bytes : List ℕ) (c : Record)
+    → t.tag ≡ name_table.tag → HasRecords t (root_record (block_two 1)) (label_record 0 null) c
     → RecordsLow (2 ^ 40 + 2) (root_record (block_two 1)) (label_record 0 null) c
-    → ((j : ℕ) → j < 16 → IfSome (entry_in bytes j) (λ e. e.generation < 2 ^ 40 + 2)) → IsBelow (2 ^ 40 + 2) (image_of t (root_block bytes) blank)
+    → ((j : ℕ) → j < 16 → IfSome (entry_in bytes j) (λ e. e.generation < 2 ^ 40 + 2))
+    → IsBelow (2 ^ 40 + 2) (image_of t (root_block bytes) blank)
 disk-below t bytes c tag records low entries p lt =
     cells-low (2 ^ 40 + 2) t (root_block bytes) blank t (root_block bytes) blank (omega arith)
-    (table-cell (2 ^ 40 + 2) t (root_block bytes) blank t (root_record (block_two 1)) (label_record 0 null) c (omega arith) tag records low)
+    (table-cell (2 ^ 40 + 2) t (root_block bytes) blank t (root_record (block_two 1)) (label_record 0 null) c
+    (omega arith) tag records low)
     (cell-low bytes entries) (blank-low (2 ^ 40 + 2) (omega arith)) p
     (let n = ap (λ (q : SuperBlock). q.blocks) (numbers-are t (root_block bytes) blank) in omega (arith, n, lt))
 
@@ -110,11 +137,16 @@ unfolding all_below is_low entry_of entry_fields number_at is_name
 name-entries = refl
 
 pub name-below : IsBelow (2 ^ 40 + 2) name_image
-name-below = disk-below name_table (short_entry_bytes 97 ++ z 960) (file_record one_link) refl name-records (name-low (2 ^ 40 + 2) (omega arith))
+name-below = disk-below name_table (short_entry_bytes 97 ++ z 960) (file_record one_link) refl name-records
+    (name-low (2 ^ 40 + 2) (omega arith))
     (entries-low (2 ^ 40 + 2) (short_entry_bytes 97 ++ z 960) name-entries)
 
 pub name-numbers : OldNumbers name_world name_image
-name-numbers = record { positive = omega arith; mountable = mountable name_table (root_block (short_entry_bytes 97 ++ z 960)) blank; below = name-below }
+name-numbers = record {
+  positive = omega arith;
+  mountable = mountable name_table (root_block (short_entry_bytes 97 ++ z 960)) blank;
+  below = name-below;
+}
 
 pub make-numbers-case : MakeNumbersCase
 make-numbers-case = (first-numbers, make-homes-case)

@@ -1,5 +1,6 @@
 -- A look at inode 3 of the formatted disk.
-use Rattle.std.proofs.Common.{◌≡◌, ℕ, ◌⊎◌, inl, inr, Bool, true, false, not, ◌||◌, eqb, [], ◌∷◌, is_some, refl, sym, ap, subst, arith}
+use Rattle.std.proofs.Common.{◌≡◌, ℕ, ◌⊎◌, inl, inr, Bool, true, false, not, ◌||◌, eqb, [], ◌∷◌, is_some, refl, sym, ap}
+use Rattle.std.proofs.Common.{subst, arith}
 use Rattle.nofs_model.specs.Image.{is_special, Files}
 use Rattle.nofs_history.specs.Machine.{gives}
 use Rattle.nofs_history.specs.History.{FilesMatch}
@@ -37,7 +38,13 @@ same-uses : (i : ℕ) → uses_inode seen i ≡ uses_inode mounted i
 same-uses i = ap (λ (F : Files). is_special i || is_some (F i)) seen-files
 
 next : Next mounted see_entry seen
-next = Done refl refl refl (record { inode = NoInode refl refl; cell = Unclaimed refl; leaf = Unclaimed refl; top = Unclaimed refl; apart = tt })
+next = Done refl refl refl (record {
+  inode = NoInode refl refl;
+  cell = Unclaimed refl;
+  leaf = Unclaimed refl;
+  top = Unclaimed refl;
+  apart = tt;
+})
     refl refl refl (refl, refl, refl, refl, refl) (record {
       inodes_stay = λ i k. or-left (is_special i) (eqb i 3) k;
       blocks_stay = λ p k. k;
@@ -59,12 +66,15 @@ pub empty-run-case : EmptyRunCase
 empty-run-case = refl
 
 pub mounted-numbers : MatchesSuper mounted first_image
-mounted-numbers = let n = first-numbers in record { version = n.version; blocks = n.blocks; inodes = n.inodes; mount = n.mount }
+mounted-numbers = let n = first-numbers in
+    record { version = n.version; blocks = n.blocks; inodes = n.inodes; mount = n.mount }
 
 seen-numbers : MatchesSuper seen first_image
-seen-numbers = let n = first-numbers in record { version = n.version; blocks = n.blocks; inodes = n.inodes; mount = n.mount }
+seen-numbers = let n = first-numbers in
+    record { version = n.version; blocks = n.blocks; inodes = n.inodes; mount = n.mount }
 
-shows : (W : World) → MatchesSuper W first_image → FilesMatch W.files first_image → HomesMatch W first_image → Shows W first_image
+shows : (W : World) → MatchesSuper W first_image → FilesMatch W.files first_image → HomesMatch W first_image
+    → Shows W first_image
 shows W numbers match homes = record {
   verified_inodes = W.known_inodes;
   free_inodes = λ i. not (uses_inode W i);

@@ -1,9 +1,12 @@
 -- A Put with a claimed block and a claimed leaf.
-use Rattle.std.proofs.Common.{◌≡◌, ℕ, ◌+◌, ◌^◌, ◌⊎◌, inl, inr, true, false, eqb, [], ◌∷◌, Some, refl, sym, ap, ◌∙◌, subst, arith}
+use Rattle.std.proofs.Common.{◌≡◌, ℕ, ◌+◌, ◌^◌, ◌⊎◌, inl, inr, true, false, eqb, [], ◌∷◌, Some, refl, sym, ap, ◌∙◌}
+use Rattle.std.proofs.Common.{subst, arith}
 use Rattle.nofs_disk.specs.Number.{put_bytes}
-use Rattle.nofs_model.specs.Cells.{Content, Leaf, Pointer, Record, tag_of, number_at, null, is_null, pointer_at, pointer_in, record_of, record_at}
+use Rattle.nofs_model.specs.Cells.{Content, Leaf, Pointer, Record, tag_of, number_at, null, is_null, pointer_at}
+use Rattle.nofs_model.specs.Cells.{pointer_in, record_of, record_at}
 use Rattle.nofs_model.specs.Cells.{fields_in, link_in, free_record}
-use Rattle.nofs_model.specs.Image.{cell_at, is_data_block, inode, Path, InRecord, Under, leaf, path_of, slot_of, IsSlot, tag_for, record_pointer}
+use Rattle.nofs_model.specs.Image.{cell_at, is_data_block, inode, Path, InRecord, Under, leaf, path_of, slot_of, IsSlot}
+use Rattle.nofs_model.specs.Image.{tag_for, record_pointer}
 use Rattle.nofs_model.specs.Image.{find}
 use Rattle.nofs_model.specs.declared.image.path.PathAnswer.TheVariants as answer
 use Rattle.nofs_model.specs.declared.image.value.Value.TheVariants.{Hole}
@@ -39,7 +42,8 @@ deep-tag : tag_of deep_block.tag ≡ Some (record { kind = Content; inode = 2; g
 unfolding tag_of number_at
 deep-tag = refl
 
-leaf-tag : tag_of leaf_block.tag ≡ Some (record { kind = Leaf; inode = 2; generation = 2; slot = 2 ^ 32; stamp = 2 ^ 40 + 1 })
+leaf-tag : tag_of leaf_block.tag
+    ≡ Some (record { kind = Leaf; inode = 2; generation = 2; slot = 2 ^ 32; stamp = 2 ^ 40 + 1 })
 unfolding tag_of number_at
 leaf-tag = refl
 
@@ -52,7 +56,8 @@ first-pointer = refl
 -- What the Put touches
 
 leaf-touches : Touches (2 ^ 40) (λ j. eqb j 2) first_image leaf_image
-leaf-touches = label-touches (2 ^ 40) first_table blank blank leaf_table deep_block leaf_block (label_record 0 null) leaf_record first-records leaf-records
+leaf-touches = label-touches (2 ^ 40) first_table blank blank leaf_table deep_block leaf_block
+    (label_record 0 null) leaf_record first-records leaf-records
     (inr (inl (first-free 2, stamp-is (2 ^ 40) deep_block _ deep-tag (omega arith))))
     (inr (inl (first-free 3, stamp-is (2 ^ 40) leaf_block _ leaf-tag (omega arith))))
 
@@ -76,18 +81,24 @@ leaf-slot = tag-is leaf_image 2 leaf leaf_record leaf_block (2 ^ 40 + 1) (leaf-i
 pub leaf-grows : Grows (2 ^ 40) first_image leaf_image 2 (path_of 8) leaf_places
 unfolding path_of
 leaf-grows = record {
-  placed = by-path (λ a. IsPlaced leaf_image 2 leaf_places a) first-pointer (ap (λ (r : Record). record_pointer r 8) (leaf-inode 2));
+  placed = by-path (λ a. IsPlaced leaf_image 2 leaf_places a) first-pointer
+      (ap (λ (r : Record). record_pointer r 8) (leaf-inode 2));
   not_null = by-path (λ a. is_null (leaf_places a) ≡ false) refl refl;
-  area = by-path (λ a. is_data_block leaf_image (leaf_places a).block ≡ true) (data-two leaf_table deep_block leaf_block)
+  area = by-path (λ a. is_data_block leaf_image (leaf_places a).block ≡ true)
+      (data-two leaf_table deep_block leaf_block)
       (data-three leaf_table deep_block leaf_block);
-  tag = by-path (λ a. tag_of (cell_at leaf_image (leaf_places a).block).tag ≡ Some (tag_for leaf_image 2 a (leaf_places a).stamp)) deep-slot leaf-slot;
-  record_stays = λ n off. ap (λ (r : Record). record_pointer r n) (leaf-inode 2) ∙ but-leaf (label_record 0 null) block_three n (λ e. off (inr (ap InRecord e)))
+  tag = by-path (λ a. tag_of (cell_at leaf_image (leaf_places a).block).tag ≡ Some
+      (tag_for leaf_image 2 a (leaf_places a).stamp)) deep-slot leaf-slot;
+  record_stays = λ n off. ap (λ (r : Record). record_pointer r n) (leaf-inode 2)
+      ∙ but-leaf (label_record 0 null) block_three n (λ e. off (inr (ap InRecord e)))
       ∙ sym (ap (λ (r : Record). record_pointer r n) (first-inode 2));
   beside = λ b n slot on off. by-path
       (λ b. IsSlot (Under b n) → (OnPath (Under b n) → ⊥)
       → ((find first_image 2 b ≡ answer.Holds (leaf_places b)) ×
-      (pointer_at (cell_at leaf_image (leaf_places b).block).payload n ≡ pointer_at (cell_at first_image (leaf_places b).block).payload n))
-      ⊎ ((find first_image 2 b ≡ answer.Hole) × (is_null (pointer_at (cell_at leaf_image (leaf_places b).block).payload n) ≡ true)))
+      (pointer_at (cell_at leaf_image (leaf_places b).block).payload n
+      ≡ pointer_at (cell_at first_image (leaf_places b).block).payload n))
+      ⊎ ((find first_image 2 b ≡ answer.Hole)
+      × (is_null (pointer_at (cell_at leaf_image (leaf_places b).block).payload n) ≡ true)))
       (λ slot off. absurd (not-pointers slot.0))
       (λ slot off. inr (first-empty 2 leaf (omega arith), other-pointer 0 n (λ e. off (inl (ap (Under leaf) e)))))
       b on slot (λ o. off (widen n b o));
@@ -141,7 +152,10 @@ leaf-claim = record {
   cell = Claimed refl (omega arith) refl;
   leaf = Claimed refl (omega arith) refl;
   top = Unclaimed refl;
-  apart = ((λ y c e. let s : 3 ≡ y.block = ap (λ (q : Pointer). q.block) (sole-is block_three y c) in omega (arith, s, e)), ((λ y c. absurd (none-of c)), tt));
+  apart = (
+    (λ y c e. let s : 3 ≡ y.block = ap (λ (q : Pointer). q.block) (sole-is block_three y c) in omega (arith, s, e)),
+    ((λ y c. absurd (none-of c)), tt),
+  );
 }
 
 pub leaf-case : LeafCase

@@ -1,12 +1,15 @@
 -- The maps and the stamps over a Put of one byte.
-use Rattle.std.proofs.Common.{◌≡◌, ℕ, zero, suc, ◌-◌, ◌%◌, ◌^◌, ◌<◌, ◌≤◌, ◌⊎◌, inl, inr, true, false, eqb, [], ◌∷◌, Option, Some, None, refl, sym, ap, ◌∙◌}
+use Rattle.std.proofs.Common.{◌≡◌, ℕ, zero, suc, ◌-◌, ◌%◌, ◌^◌, ◌<◌, ◌≤◌, ◌⊎◌, inl, inr, true, false, eqb, [], ◌∷◌}
+use Rattle.std.proofs.Common.{Option, Some, None, refl, sym, ap, ◌∙◌}
 use Rattle.std.proofs.Common.{subst, arith, eqb-true, is_some, All, Contains}
-use Rattle.nofs_model.specs.Cells.{Content, Table, Pointer, Record, SuperBlock, record_at, is_live, free_record, null, FileKind}
+use Rattle.nofs_model.specs.Cells.{Content, Table, Pointer, Record, SuperBlock, record_at, is_live, free_record, null}
+use Rattle.nofs_model.specs.Cells.{FileKind}
 use Rattle.nofs_model.proofs.OnFiles.Chains.{agreed-holds}
 use Rattle.nofs_crashlaw.proofs.OnUntouched.Agreement.{agreed-some}
 use Rattle.nofs_crashlaw.proofs.OnMaps.Fresh.{sole-is}
 use Rattle.nofs_history.specs.Good.{MatchesSuper, IsFresh}
-use Rattle.nofs_model.specs.Image.{file_from, Image, cell_at, inode, Path, InRecord, path_of, IsSlot, find, files_in, agreed, Home, home_at}
+use Rattle.nofs_model.specs.Image.{file_from, Image, cell_at, inode, Path, InRecord, path_of, IsSlot, find, files_in}
+use Rattle.nofs_model.specs.Image.{agreed, Home, home_at}
 use Rattle.nofs_model.specs.Image.{CellBelow, IsBelow, record_pointer}
 use Rattle.nofs_model.specs.declared.image.path.PathAnswer.TheVariants as answer
 use Rattle.nofs_model.specs.declared.image.value.Value.TheVariants.{Hole}
@@ -52,7 +55,8 @@ pub first-homes : HomesMatch first_world first_image
 first-homes p lt = sym (unowned first_image p (first-free p))
 
 pub put-move : HomesMove first_files put_step put_claims first_image put_image
-put-move = law-put-homes first_world first_image put_image 2 2 0 0 (7 ∷ []) (label_file 0 Hole) (2 ^ 40) put_places put_claims put-lies put-claim put-placed
+put-move = law-put-homes first_world first_image put_image 2 2 0 0 (7 ∷ []) (label_file 0 Hole)
+    (2 ^ 40) put_places put_claims put-lies put-claim put-placed
 
 pub homes-case : HomesCase
 unfolding gives
@@ -102,7 +106,10 @@ agreed-are (suc (suc (suc (suc n)))) ne a = absurd (dead put_image (suc (suc (su
 held : (j : ℕ) → eqb j 2 ≡ true → HeldMove put_claims first_image put_image j
 held j e = subst (HeldMove put_claims first_image put_image) (sym (eqb-true j 2 e)) (λ a y slot agreed h.
     let d = held-is put_image 2 (block_two 0) (put-plain 7 2) a y slot h in
-    inr ((subst (λ (q : Pointer). is_claimed q ≡ true) d.1 refl, inl d.1), (λ x old. let z = first-empty 2 a slot in cc (z, old))))
+    inr (
+      (subst (λ (q : Pointer). is_claimed q ≡ true) d.1 refl, inl d.1),
+      (λ x old. let z = first-empty 2 a slot in cc (z, old)),
+    ))
 
 stands : (at : Home) → cell_slot first_files put_step ≡ Some at → ClaimsStand put_claims put_image at
 unfolding path_of
@@ -121,7 +128,8 @@ stands at e = subst (ClaimsStand put_claims put_image) (same (home_at 2 0) at e)
 
 pub first-low : (s : ℕ) → 2 < s → RecordsLow s (root_record null) (label_record 0 null) free_record
 first-low s lt = record {
-  one = record-low s (root_record null) null refl (omega (arith, lt)) (no-links-low s (omega (arith, lt))) (omega (arith, lt));
+  one = record-low s (root_record null) null refl (omega (arith, lt)) (no-links-low s (omega (arith, lt)))
+      (omega (arith, lt));
   two = record-low s (label_record 0 null) null refl lt (no-links-low s (omega (arith, lt))) (omega (arith, lt));
   three = free-low s (omega (arith, lt));
 }
@@ -129,12 +137,14 @@ first-low s lt = record {
 -- each cell of the formatted disk
 pub first-below : (s : ℕ) → 2 < s → (b : ℕ) → b < 16 → CellBelow s first_image b (cell_at first_image b)
 first-below s lt = cells-low s first_table blank blank first_table blank blank (omega (arith, lt))
-    (table-cell s first_table blank blank first_table (root_record null) (label_record 0 null) free_record (omega (arith, lt)) refl first-records
+    (table-cell s first_table blank blank first_table (root_record null) (label_record 0 null) free_record
+    (omega (arith, lt)) refl first-records
     (first-low s lt))
     (blank-low s (omega (arith, lt))) (blank-low s (omega (arith, lt)))
 
 pub first-is-below : (s : ℕ) → 2 < s → IsBelow s first_image
-first-is-below s lt b low = first-below s lt b (let n = ap (λ (q : SuperBlock). q.blocks) (numbers-are first_table blank blank) in omega (arith, n, low))
+first-is-below s lt b low = first-below s lt b
+    (let n = ap (λ (q : SuperBlock). q.blocks) (numbers-are first_table blank blank) in omega (arith, n, low))
 
 -- one of two members
 pub one-of : {A : Type 0} → (x y v : A) → Contains (x ∷ y ∷ []) v → (x ≡ v) ⊎ (y ≡ v)
@@ -143,7 +153,8 @@ one-of x y v (suc zero, lt, e) = inr e
 one-of x y v (suc (suc k), lt, e) = absurd (omega (arith, lt))
 
 first-fresh : IsFresh first_world first_image (alone first_image)
-first-fresh b lt c has = subst (CellBelow (2 ^ 40) first_image b) (sole-is (cell_at first_image b) c has) (first-below (2 ^ 40) (omega arith) b lt)
+first-fresh b lt c has = subst (CellBelow (2 ^ 40) first_image b) (sole-is (cell_at first_image b) c has)
+    (first-below (2 ^ 40) (omega arith) b lt)
 
 old : (n : ℕ) → n < 2 ^ 40 → Numbered first_world put_claims n
 old n lt = Old lt
@@ -155,7 +166,8 @@ IsPutNumber n = Numbered first_world put_claims n
 put-stamp : IsPutNumber (2 ^ 40)
 put-stamp = Stamp (block_two 0) (0, omega arith, refl) refl
 
-plain-numbers : (r : Record) (x : Pointer) → IsPlain r x → r.generation < 2 ^ 40 → All (λ l. IsPutNumber l.generation) r.links → IsPutNumber x.stamp
+plain-numbers : (r : Record) (x : Pointer) → IsPlain r x
+    → r.generation < 2 ^ 40 → All (λ l. IsPutNumber l.generation) r.links → IsPutNumber x.stamp
     → RecordNumbers IsPutNumber r
 plain-numbers r x is g links stamp = record { generation = old r.generation g; links = links; pointers = each }
   where
@@ -182,12 +194,15 @@ table-numbers (suc (suc (suc (suc zero)))) n = subst (RecordNumbers IsPutNumber)
     (plain-numbers free_record null refl (omega arith) links-old (old 0 (omega arith)))
 table-numbers (suc (suc (suc (suc (suc m))))) n = absurd (omega (arith, n))
 
-put-numbers : (b : ℕ) → (cell_at first_image b ≡ cell_at put_image b) ⊎ CellNumbers IsPutNumber first_image b (cell_at put_image b)
+put-numbers : (b : ℕ) → (cell_at first_image b ≡ cell_at put_image b)
+    ⊎ CellNumbers IsPutNumber first_image b (cell_at put_image b)
 put-numbers zero = inl refl
-put-numbers (suc zero) = inr (InTable (record { kind = Table; inode = 0; generation = 0; slot = 1; stamp = 0 }) table-tag refl (old 0 (omega arith))
+put-numbers (suc zero) = inr (InTable (record { kind = Table; inode = 0; generation = 0; slot = 1; stamp = 0 })
+    table-tag refl (old 0 (omega arith))
     (old 0 (omega arith)) (λ i r e live. table-numbers i (range-is first_table blank blank i r)))
 put-numbers (suc (suc zero)) = inr (InContent (data-two first_table blank blank)
-    (record { kind = Content; inode = 2; generation = 2; slot = 0; stamp = 2 ^ 40 }) (put-tag 7) refl (old 2 (omega arith)) put-stamp)
+    (record { kind = Content; inode = 2; generation = 2; slot = 0; stamp = 2 ^ 40 }) (put-tag 7) refl
+    (old 2 (omega arith)) put-stamp)
 put-numbers (suc (suc (suc zero))) = inl refl
 put-numbers (suc (suc (suc (suc n)))) = inl refl
 
@@ -222,7 +237,12 @@ pub shrink-case : ShrinkCase
 shrink-case = (put-label, λ p slot. ((λ cut. first-empty 2 p slot), (λ stays. absurd (uncut p stays))))
 
 pub fresh-case : FreshCase
-fresh-case = (ap (λ (n : SuperBlock). n.inodes % 4) (numbers-are first_table blank blank), first-fresh, only-numbered, omega arith)
+fresh-case = (
+  ap (λ (n : SuperBlock). n.inodes % 4) (numbers-are first_table blank blank),
+  first-fresh,
+  only-numbered,
+  omega arith,
+)
 
 pub pieces-case : PiecesCase
 pieces-case = (

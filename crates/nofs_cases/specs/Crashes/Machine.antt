@@ -14,4 +14,5 @@ FitsCase = IsSizedWorld first_world × Next first_world put_entry put_world
 
 -- A history without a write fault, and the label file after it.
 abbrev pub AcceptedCase : Type 0
-AcceptedCase = NoWriteFault (put_entry ∷ []) × (f : FileState) × (files_along (agreed_files first_image) (put_entry ∷ []) 2 ≡ Some f)
+AcceptedCase = NoWriteFault (put_entry ∷ [])
+    × (f : FileState) × (files_along (agreed_files first_image) (put_entry ∷ []) 2 ≡ Some f)

@@ -1,5 +1,6 @@
 -- Instances of the laws of a crash, by the formatted disk and a Put of one byte.
-use Rattle.std.specs.Prelude.{◌≡◌, ℕ, zero, suc, ◌+◌, ◌^◌, true, false, List, [], ◌∷◌, length, IsTrue, if◌then◌else◌, nat_lt, ◌==◌, Contains}
+use Rattle.std.specs.Prelude.{◌≡◌, ℕ, zero, suc, ◌+◌, ◌^◌, true, false, List, [], ◌∷◌, length, IsTrue, if◌then◌else◌}
+use Rattle.std.specs.Prelude.{nat_lt, ◌==◌, Contains}
 use Rattle.nofs_disk.specs.Disk.{DiskState, IsDisk, Picks, StaysButFaults}
 use Rattle.nofs_model.specs.Cells.{Cell}
 use Rattle.nofs_model.specs.Image.{Image, cell_at, inode, leaf, path_of}
@@ -42,11 +43,13 @@ torn_image = image_of first_table (put_block 7) blank
 
 -- A mark all of whose members are explained, and a pick of them that has one of the two writes alone.
 abbrev pub ImagesCase : Type 0
-ImagesCase = IsMark (during first_mark put_gives) × AllExplained (during first_mark put_gives) put_may × Picks put_may (length first_image) torn_image
+ImagesCase = IsMark (during first_mark put_gives) × AllExplained (during first_mark put_gives) put_may
+    × Picks put_may (length first_image) torn_image
 
 -- What holds before the Put, and its proper writes.
 abbrev pub MomentCase : Type 0
-MomentCase = IsMark first_mark × Picks (alone first_image) (length first_image) first_image × IsTracked first_mark first_image × AllExplained first_mark
+MomentCase = IsMark first_mark × Picks (alone first_image) (length first_image) first_image
+    × IsTracked first_mark first_image × AllExplained first_mark
     (alone first_image)
     × OnlyProper (during first_mark put_gives) first_image (alone first_image) put_may
 
@@ -56,12 +59,14 @@ FlushCase = IsMark first_mark × ((b : ℕ) (c : Cell) → Contains (alone first
 
 -- The two writes of the Put.
 abbrev pub WritesCase : Type 0
-WritesCase = ContentLies first_mark put_gives first_image put_image 2 2 0 (block_two 0) (put_block 7) × RecordLies first_mark put_gives first_image 2
+WritesCase = ContentLies first_mark put_gives first_image put_image 2 2 0 (block_two 0) (put_block 7)
+    × RecordLies first_mark put_gives first_image 2
     (inode put_image 2)
 
 -- The leaf of a Put to slot 8, on the way to its block.
 abbrev pub PointersCase : Type 0
-PointersCase = Grows (2 ^ 40) first_image leaf_image 2 (path_of 8) leaf_places × PointersLie first_mark first_image leaf_image 2 leaf 0 (path_of 8) leaf_places
+PointersCase = Grows (2 ^ 40) first_image leaf_image 2 (path_of 8) leaf_places
+    × PointersLie first_mark first_image leaf_image 2 leaf 0 (path_of 8) leaf_places
 
 -- The step under way, from moment 1 to moment 3 of its four.
 abbrev pub StepCase : Type 0
@@ -79,7 +84,8 @@ UnflushedCase = mark (put_entry ∷ []) 3 ≡ 0
 
 -- The Put touches the label file alone.
 abbrev pub RestCase : Type 0
-RestCase = SteadyRest first_image [] first_image × SparesRest first_image [] put_entry (2 ^ 40) (λ j. j == 2) first_image put_image put_files
+RestCase = SteadyRest first_image [] first_image
+    × SparesRest first_image [] put_entry (2 ^ 40) (λ j. j == 2) first_image put_image put_files
 
 -- States of a disk
 
@@ -127,12 +133,14 @@ abbrev pub see_block_entry : Entry1
 see_block_entry = entry_of_step (step.SeeBlock 2) (reply.Seen false) no_claims 0 0
 
 abbrev pub IdleStageCase : Type 0
-IdleStageCase = IsStep first_image [] see_block_entry first_image (2 ^ 40) 0 (2 ^ 40) (still 0 8) (still 0 8) × StaysButFaults (still 0 8) (still 0 8)
+IdleStageCase = IsStep first_image [] see_block_entry first_image (2 ^ 40) 0 (2 ^ 40) (still 0 8) (still 0 8)
+    × StaysButFaults (still 0 8) (still 0 8)
     × (files_by (agreed_files first_image) see_block_entry ≡ agreed_files first_image)
 
 -- The formatted disk after a mount: all is steady on it.
 abbrev pub SteadyCase : Type 0
-SteadyCase = IsDisk (still 0 8) × IsTrue (still 0 8).tells × Lasts first_image [] first_image (2 ^ 40) 0 (still 0 8) × SteadyRest first_image [] first_image
+SteadyCase = IsDisk (still 0 8) × IsTrue (still 0 8).tells × Lasts first_image [] first_image (2 ^ 40) 0 (still 0 8)
+    × SteadyRest first_image [] first_image
 
 -- A flush right after the mount.
 abbrev pub FlushStageCase : Type 0

@@ -14,14 +14,23 @@ use Rattle.nofs_crashlaw.specs.Machine.Worlds.{no_links, first_slot}
 use Rattle.nofs_cases.specs.Disks.Images.{z}
 
 abbrev pub root_file : Value → FileState
-root_file v = record { generation = 1; kind = Directory; size = 0; links = no_links; values = first_slot v; nodes = λ path. Absent }
+root_file v = record {
+  generation = 1;
+  kind = Directory;
+  size = 0;
+  links = no_links;
+  values = first_slot v;
+  nodes = λ path. Absent;
+}
 
 abbrev pub label_file : ℕ → Value → FileState
-label_file size v = record { generation = 2; kind = File; size = size; links = no_links; values = first_slot v; nodes = λ path. Absent }
+label_file size v =
+    record { generation = 2; kind = File; size = size; links = no_links; values = first_slot v; nodes = λ path. Absent }
 
 -- the root, the label file, and a third
 abbrev pub three_files : FileState → FileState → Option FileState → Files
-three_files root label third i = if i == 1 then Some root else (if i == 2 then Some label else (if i == 3 then third else None))
+three_files root label third i = if i == 1 then Some root
+    else (if i == 2 then Some label else (if i == 3 then third else None))
 
 -- the files of the formatted disk
 abbrev pub first_files : Files

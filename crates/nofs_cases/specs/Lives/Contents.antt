@@ -19,7 +19,8 @@ seen_block = record mounted { known_blocks = λ p. nat_le p 1 || (p == 2) }
 
 -- after the Put, which claims it
 abbrev pub put_seen : World
-put_seen = record (world_after seen_block put_step put_claims) { known_inodes = λ i. is_special i; known_blocks = λ p. nat_le p 1 || (p == 2) }
+put_seen = record (world_after seen_block put_step put_claims)
+    { known_inodes = λ i. is_special i; known_blocks = λ p. nat_le p 1 || (p == 2) }
 
 -- the disk with both writes of the Put, as the next mount raises it
 abbrev pub next_base : Image
@@ -28,5 +29,6 @@ next_base = super_with 1 2 ∷ put_table ∷ put_block 7 ∷ replicate 13 blank
 -- The second life begins with the byte that the first one put.
 abbrev pub BytesCase : Type 0
 BytesCase = Lives (record { base = next_base; first = 0; start = 5; history = []; end = world_of next_base 0 }
-    ∷ record { base = first_image; first = 0; start = 0; history = see_block_entry ∷ put_entry ∷ []; end = put_seen } ∷ [])
+    ∷ record { base = first_image; first = 0; start = 0; history = see_block_entry ∷ put_entry ∷ []; end = put_seen }
+    ∷ [])
     × (is_generation next_base 2 2 ≡ true) × (value next_base 2 0 ≡ Bytes (7 ∷ z 1023))

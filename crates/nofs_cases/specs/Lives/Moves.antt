@@ -1,5 +1,5 @@
--- Instances of the laws of runs and of the durable move: a move on the disk with one name, from a to b in the root, as five
--- entries of one history with nothing between them.
+-- Instances of the laws of runs and of the durable move: a move on the disk with one name, from a to b in the root, as
+-- five entries of one history with nothing between them.
 use Rattle.std.specs.Prelude.{◌≡◌, ℕ, ◌^◌, true, false, List, [], ◌∷◌, Some, slice_get}
 use Rattle.nofs_model.specs.Kinds.{File}
 use Rattle.nofs_history.specs.HistoryState.{HistoryState}
@@ -19,7 +19,8 @@ use Rattle.nofs_cases.specs.Names.Disks.{name_image}
 -- The entries
 
 abbrev pub look_entry : Entry1
-look_entry = entry_of_step (step.Look 1 1 a) (reply.Found (record { inode = 3; generation = 2 ^ 40; kind = File })) no_claims 0 0
+look_entry =
+    entry_of_step (step.Look 1 1 a) (reply.Found (record { inode = 3; generation = 2 ^ 40; kind = File })) no_claims 0 0
 
 abbrev pub first_flush : Entry1
 first_flush = entry_of_step (step.Flush 0 0) reply.Flushed no_claims 0 2
@@ -42,14 +43,16 @@ move_history = record { start = 0; entries = move_entries; spare = 0 }
 
 -- The root is a directory as the first entry comes, which is no Drop.
 abbrev pub DirectoryCase : Type 0
-DirectoryCase = IsHistory name_image move_history × (slice_get move_entries 0 ≡ Some look_entry) × IsDirectory (files_before name_image move_entries 0) 1 1
+DirectoryCase = IsHistory name_image move_history × (slice_get move_entries 0 ≡ Some look_entry)
+    × IsDirectory (files_before name_image move_entries 0) 1 1
     × (is_drop look_entry.step ≡ true → Filled (files_before name_image move_entries 0) 1)
 
 -- The name a is a pair then, and the first entry does not drop it.
 abbrev pub PairCase : Type 0
 PairCase = IsHistory name_image move_history × (slice_get move_entries 0 ≡ Some look_entry)
     × HasPair (files_before name_image move_entries 0) 3 (2 ^ 40) 0 (link_to 1 0 1)
-    × ((of : ℕ) (name : List ℕ) → look_entry.step ≡ step.Drop 1 of name → found (files_before name_image move_entries 0) 1 name ≡ Some 0 → ⊥)
+    × ((of : ℕ) (name : List ℕ) → look_entry.step ≡ step.Drop 1 of name
+    → found (files_before name_image move_entries 0) 1 name ≡ Some 0 → ⊥)
 
 -- The law of the move, and the law that its five entries alone are one.
 abbrev pub MoveCase : Type 0

@@ -13,5 +13,6 @@ RootCase = IsAllowed first_image [] 0 first_image × SureChain first_image [] 0 
 
 -- The name a leads to inode 3.
 abbrev pub NamePathCase : Type 0
-NamePathCase = IsAllowed name_image [] 0 name_image × SureChain name_image [] 0 1 × SureName name_image [] 0 3 (2 ^ 40) 0 (link_to 1 0 1)
+NamePathCase = IsAllowed name_image [] 0 name_image × SureChain name_image [] 0 1
+    × SureName name_image [] 0 3 (2 ^ 40) 0 (link_to 1 0 1)
     a × SureChain name_image [] 0 3

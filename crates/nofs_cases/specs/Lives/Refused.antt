@@ -9,7 +9,8 @@ use Rattle.nofs_cases.specs.Names.Disks.{short_entry_bytes, link_bytes, file_byt
 
 -- the root has block 2, with the entry of inode 3; the label file has block 3 and a size of one byte
 abbrev pub two_table : Cell
-two_table = table_of (root_bytes (pointer_bytes 2 1)) (label_bytes (1 ∷ z 7) (pointer_bytes 3 2)) (file_bytes 1 (link_bytes 0) (z 16)) (z 256)
+two_table = table_of (root_bytes (pointer_bytes 2 1)) (label_bytes (1 ∷ z 7) (pointer_bytes 3 2))
+    (file_bytes 1 (link_bytes 0) (z 16)) (z 256)
 
 abbrev pub label_pointer : Pointer
 label_pointer = record { block = 3; stamp = 2 ^ 40 + 2 }

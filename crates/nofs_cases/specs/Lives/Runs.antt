@@ -17,7 +17,8 @@ table_bytes = 1 ∷ z 7 ++ 2 ∷ z 3 ++ z 244 ++ 2 ∷ z 7 ++ 1 ∷ z 3 ++ z 244
 
 -- a formatted disk whose mount number was raised to 1
 abbrev pub disk : Image
-disk = record { payload = super_bytes; tag = 5 ∷ z 31 } ∷ record { payload = table_bytes; tag = 4 ∷ z 15 ++ 1 ∷ z 15 } ∷ replicate 14 blank
+disk = record { payload = super_bytes; tag = 5 ∷ z 31 } ∷ record { payload = table_bytes; tag = 4 ∷ z 15 ++ 1 ∷ z 15 }
+    ∷ replicate 14 blank
 
 abbrev pub NewDisk : Type 0
 NewDisk = (is_mountable disk ≡ true) × IsNew disk

@@ -13,7 +13,8 @@ use Rattle.nofs_state.specs.declared.books.maps.Books.{Books}
 
 -- the maps of the core are right for the disk: what they have as free the scan has as not used
 abbrev pub MapsGood : Books → World → Image → Type 0
-MapsGood k W X = IsGood W (knows_inode k) (λ i. is_set k.free_inodes (i - 1)) (knows_block k) (λ p. is_set k.free_blocks p) X
+MapsGood k W X =
+    IsGood W (knows_inode k) (λ i. is_set k.free_inodes (i - 1)) (knows_block k) (λ p. is_set k.free_blocks p) X
 
 -- `found` is the disk as the mount found it, `d` the disk now
 pub record StandsOpen (found d : DiskState) (first : ℕ) (k : Books) : Type 0 where

@@ -17,5 +17,6 @@ Crashed disk = (mount : Mount memory_state) × IsPutMount mount × ComesAfter mo
 
 -- a mount that ended so, after such a mount and a crash
 abbrev pub TwoMounts : MemDisk → HistoryState → Type 0
-TwoMounts last history = (mount before : Mount memory_state) × (mount.last ≡ last) × (mount.history ≡ history) × IsPutMount before × Mounts
+TwoMounts last history = (mount before : Mount memory_state) × (mount.last ≡ last) × (mount.history ≡ history)
+    × IsPutMount before × Mounts
     (mount ∷ before ∷ [])

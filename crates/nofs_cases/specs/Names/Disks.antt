@@ -60,7 +60,14 @@ drop_image = image_of drop_table (root_block (z 1024)) blank
 
 -- the file of inode 3
 abbrev pub third_file : List BackLink → FileState
-third_file links = record { generation = 2 ^ 40; kind = File; size = 0; links = links; values = first_slot Hole; nodes = λ path. Absent }
+third_file links = record {
+  generation = 2 ^ 40;
+  kind = File;
+  size = 0;
+  links = links;
+  values = first_slot Hole;
+  nodes = λ path. Absent;
+}
 
 -- its back links: to entry 0 of the root, and to entry 1 too
 abbrev pub one_link : List BackLink

@@ -14,16 +14,21 @@ use Rattle.nofs_cases.specs.Names.Disks.{short_entry_bytes, file_bytes, link_byt
 
 -- the leaf of the root is block 3, and inode 3 has its name in entry 128
 abbrev pub deep_table : Cell
-deep_table = table_of (1 ∷ z 7 ++ 2 ∷ z 3 ++ z 84 ++ z 128 ++ pointer_bytes 3 2 ++ z 16) (label_bytes (z 8) (z 16)) (file_bytes 1 (link_bytes 128) (z 16))
+deep_table = table_of (1 ∷ z 7 ++ 2 ∷ z 3 ++ z 84 ++ z 128 ++ pointer_bytes 3 2 ++ z 16) (label_bytes (z 8) (z 16))
+    (file_bytes 1 (link_bytes 128) (z 16))
     (z 256)
 
 -- the block of slot 8, in which the name a stands first
 abbrev pub deep_entries : Cell
-deep_entries = record { payload = short_entry_bytes 97 ++ z 960; tag = 2 ∷ z 3 ++ 1 ∷ z 3 ++ 1 ∷ z 7 ++ 8 ∷ z 7 ++ stamp_bytes 1 }
+deep_entries =
+    record { payload = short_entry_bytes 97 ++ z 960; tag = 2 ∷ z 3 ++ 1 ∷ z 3 ++ 1 ∷ z 7 ++ 8 ∷ z 7 ++ stamp_bytes 1 }
 
 -- the leaf, whose first pointer leads there
 abbrev pub root_leaf : Cell
-root_leaf = record { payload = pointer_bytes 2 1 ++ z 1008; tag = 3 ∷ z 3 ++ 1 ∷ z 3 ++ 1 ∷ z 7 ++ z 4 ++ 1 ∷ z 3 ++ stamp_bytes 2 }
+root_leaf = record {
+  payload = pointer_bytes 2 1 ++ z 1008;
+  tag = 3 ∷ z 3 ++ 1 ∷ z 3 ++ 1 ∷ z 7 ++ z 4 ++ 1 ∷ z 3 ++ stamp_bytes 2;
+}
 
 abbrev pub deep_image : Image
 deep_image = image_of deep_table deep_entries root_leaf

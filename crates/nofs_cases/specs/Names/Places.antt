@@ -1,5 +1,5 @@
--- Instances of the laws of new entries where the others have none: a Make in place, and a Link in a hole, each with all the
--- premises of the laws of its homes and of its numbers.
+-- Instances of the laws of new entries where the others have none: a Make in place, and a Link in a hole, each with all
+-- the premises of the laws of its homes and of its numbers.
 use Rattle.std.specs.Prelude.{◌≡◌, ℕ, zero, suc, ◌+◌, ◌^◌, List, [], ◌∷◌, ◌++◌, Some, None}
 use Rattle.nofs_model.specs.Kinds.{File}
 use Rattle.nofs_model.specs.Cells.{Cell, BackLink, Pointer, no_link, null, spelled_entry}
@@ -46,7 +46,8 @@ again_image = image_of again_table (root_block (again_bytes ++ z 960)) blank
 
 -- Make of a in entry 0, in the block that the root has.
 abbrev pub MakeInPlaceCase : Type 0
-MakeInPlaceCase = MakeLies drop_files drop_image again_image 1 1 0 (2 ^ 40 + 2) a File again_claims (root_file (Bytes (z 1024)))
+MakeInPlaceCase =
+    MakeLies drop_files drop_image again_image 1 1 0 (2 ^ 40 + 2) a File again_claims (root_file (Bytes (z 1024)))
     × EntryInPlace drop_image again_image 1 0 3 (spelled_entry 3 (2 ^ 40 + 2) a) (block_two 1)
     × (place_for drop_files 1 a ≡ Some 0) × IsClaim drop_world (step.Make 1 1 a File) again_claims
     × OldNumbers drop_world drop_image
@@ -80,12 +81,14 @@ hole_claims = cell_claim third_block
 
 -- the root has it in slot 1, and inode 3 has a second link, to entry 16
 abbrev pub hole_table : Cell
-hole_table = table_of (1 ∷ z 7 ++ 2 ∷ z 3 ++ z 84 ++ pointer_bytes 2 1 ++ pointer_bytes 3 2 ++ z 128) (label_bytes (z 8) (z 16))
+hole_table =
+    table_of (1 ∷ z 7 ++ 2 ∷ z 3 ++ z 84 ++ pointer_bytes 2 1 ++ pointer_bytes 3 2 ++ z 128) (label_bytes (z 8) (z 16))
     (file_bytes 2 (link_bytes 0) (link_bytes 16)) (z 256)
 
 -- the block of slot 1 of the root, with the entry b
 abbrev pub second_block : Cell
-second_block = record { payload = short_entry_bytes 98 ++ z 960; tag = 2 ∷ z 3 ++ 1 ∷ z 3 ++ 1 ∷ z 7 ++ 1 ∷ z 7 ++ stamp_bytes 2 }
+second_block =
+    record { payload = short_entry_bytes 98 ++ z 960; tag = 2 ∷ z 3 ++ 1 ∷ z 3 ++ 1 ∷ z 7 ++ 1 ∷ z 7 ++ stamp_bytes 2 }
 
 abbrev pub hole_image : Image
 hole_image = image_of hole_table (root_block full_cell) second_block
@@ -95,7 +98,9 @@ far_links = link_to 1 0 1 ∷ link_to 1 16 1 ∷ no_link ∷ no_link ∷ []
 
 -- Link of b to inode 3 in entry 16, for which slot 1 of the root gets its block.
 abbrev pub LinkInHoleCase : Type 0
-LinkInHoleCase = LinkLies full_files full_image hole_image 1 1 16 3 (2 ^ 40) 1 (2 ^ 40 + 2) b (root_file (Bytes full_cell)) (third_file one_link)
+LinkInHoleCase = LinkLies full_files full_image hole_image 1 1 16 3 (2 ^ 40) 1 (2 ^ 40 + 2) b
+    (root_file (Bytes full_cell)) (third_file one_link)
     × EntryInHole (2 ^ 40 + 2) full_image hole_image 1 16 3 (spelled_entry 3 (2 ^ 40) b) third_block null
-    × EntryClaims full_files hole_claims 1 16 b third_block null × IsClaim full_world (step.Link 1 1 b 3 (2 ^ 40)) hole_claims
+    × EntryClaims full_files hole_claims 1 16 b third_block null
+    × IsClaim full_world (step.Link 1 1 b 3 (2 ^ 40)) hole_claims
     × OldNumbers full_world full_image

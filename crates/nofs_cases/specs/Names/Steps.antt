@@ -40,28 +40,34 @@ BareCase = (p : Path) → IsSlot p → find name_image 3 p ≡ answer.Hole
 
 -- Rename of a to b.
 abbrev pub RenameCase : Type 0
-RenameCase = RenameLies name_files name_image rename_image 1 1 0 (2 ^ 40 + 2) b (root_file (Bytes (short_entry_bytes 97 ++ z 960))) (block_two 1)
+RenameCase = RenameLies name_files name_image rename_image 1 1 0 (2 ^ 40 + 2) b
+    (root_file (Bytes (short_entry_bytes 97 ++ z 960))) (block_two 1)
     (entry_named a)
 
 -- and where its blocks have their homes
 abbrev pub NameHomesCase : Type 0
-NameHomesCase = NameMoves name_world (step.Rename 1 1 a b) no_claims (rename_given name_files 1 1 b 0) (2 ^ 40 + 2) 1 1 name_image rename_image
+NameHomesCase = NameMoves name_world (step.Rename 1 1 a b) no_claims (rename_given name_files 1 1 b 0)
+    (2 ^ 40 + 2) 1 1 name_image rename_image
 
 -- Link of b to inode 3, in entry 1, which stands in the block of a.
 abbrev pub LinkCase : Type 0
-LinkCase = LinkLies name_files name_image link_image 1 1 1 3 (2 ^ 40) 1 (2 ^ 40 + 2) b (root_file (Bytes (short_entry_bytes 97 ++ z 960))) (third_file one_link)
+LinkCase = LinkLies name_files name_image link_image 1 1 1 3 (2 ^ 40) 1 (2 ^ 40 + 2) b
+    (root_file (Bytes (short_entry_bytes 97 ++ z 960))) (third_file one_link)
     × EntryInPlace name_image link_image 1 1 3 (spelled_entry 3 (2 ^ 40) b) (block_two 1)
 
 -- Drop of b, where the file has another name.
 abbrev pub DropNameCase : Type 0
-DropNameCase = DropLies link_files link_image name_image 1 1 1 (2 ^ 40 + 2) (root_file (Bytes (short_entry_bytes 97 ++ short_entry_bytes 98 ++ z 896)))
+DropNameCase = DropLies link_files link_image name_image 1 1 1 (2 ^ 40 + 2)
+    (root_file (Bytes (short_entry_bytes 97 ++ short_entry_bytes 98 ++ z 896)))
     (third_file two_links) (block_two 1) (entry_named b)
-    × (drop_meta link_files 3 (link_to 1 1 1) ≡ Is File 0 (without_link (link_to 1 1 1) two_links)) × Relinked link_image name_image 3
+    × (drop_meta link_files 3 (link_to 1 1 1) ≡ Is File 0 (without_link (link_to 1 1 1) two_links))
+    × Relinked link_image name_image 3
     (without_link (link_to 1 1 1) two_links)
 
 -- Drop of a, where it has none.
 abbrev pub DropFileCase : Type 0
-DropFileCase = DropLies name_files name_image drop_image 1 1 0 (2 ^ 40 + 2) (root_file (Bytes (short_entry_bytes 97 ++ z 960))) (third_file one_link)
+DropFileCase = DropLies name_files name_image drop_image 1 1 0 (2 ^ 40 + 2)
+    (root_file (Bytes (short_entry_bytes 97 ++ z 960))) (third_file one_link)
     (block_two 1) (entry_named a)
     × (drop_meta name_files 3 (link_to 1 0 1) ≡ Gone) × ((inode drop_image 3).kind ≡ None)
 

@@ -15,21 +15,26 @@ use Rattle.nofs_cases.specs.Names.Steps.{make_claims}
 
 -- The content cell of a Put, in a claimed block.
 abbrev pub ContentCellCase : Type 0
-ContentCellCase = OldNumbers first_world first_image × CellFor put_claims first_image 2 (InRecord 0) (block_two 0) (put_block 7)
+ContentCellCase = OldNumbers first_world first_image
+    × CellFor put_claims first_image 2 (InRecord 0) (block_two 0) (put_block 7)
     × (kind_in (inode first_image 2) (InRecord 0) ≡ Content)
 
 -- The directory's cell of a Make in a hole: zeros before, and the new entry.
 abbrev pub EntryInHoleCase : Type 0
-EntryInHoleCase = OldNumbers first_world first_image × CellFor make_claims first_image 1 (InRecord 0) (block_two 1) (root_block (short_entry_bytes 97 ++ z 960))
+EntryInHoleCase = OldNumbers first_world first_image
+    × CellFor make_claims first_image 1 (InRecord 0) (block_two 1) (root_block (short_entry_bytes 97 ++ z 960))
     × (kind_in (inode first_image 1) (InRecord 0) ≡ Directory)
-    × EntryWritten first_world make_claims first_image 1 (InRecord 0) (root_block (short_entry_bytes 97 ++ z 960)) Hole 0 (spelled_entry 3 (2 ^ 40) a)
+    × EntryWritten first_world make_claims first_image 1 (InRecord 0)
+    (root_block (short_entry_bytes 97 ++ z 960)) Hole 0 (spelled_entry 3 (2 ^ 40) a)
 
 -- The directory's cell of a Link in place: the entry a stays, and b is new.
 abbrev pub EntryInPlaceCase : Type 0
 EntryInPlaceCase = OldNumbers name_world name_image
-    × CellFor no_claims name_image 1 (InRecord 0) (block_two 1) (root_block (short_entry_bytes 97 ++ short_entry_bytes 98 ++ z 896))
+    × CellFor no_claims name_image 1 (InRecord 0) (block_two 1)
+    (root_block (short_entry_bytes 97 ++ short_entry_bytes 98 ++ z 896))
     × (kind_in (inode name_image 1) (InRecord 0) ≡ Directory)
-    × EntryWritten name_world no_claims name_image 1 (InRecord 0) (root_block (short_entry_bytes 97 ++ short_entry_bytes 98 ++ z 896))
+    × EntryWritten name_world no_claims name_image 1 (InRecord 0)
+    (root_block (short_entry_bytes 97 ++ short_entry_bytes 98 ++ z 896))
     (Bytes (short_entry_bytes 97 ++ z 960)) 1
     (spelled_entry 3 (2 ^ 40) b)
 

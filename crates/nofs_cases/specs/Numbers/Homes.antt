@@ -20,11 +20,13 @@ use Rattle.nofs_cases.specs.Names.Steps.{make_claims, MakeCase, RenameCase, Link
 
 -- Make of a in the empty slot 0 of the root: the entry goes where the machine has it, into the claimed block.
 abbrev pub MakeHomesCase : Type 0
-MakeHomesCase = MakeCase × EntryClaims first_files make_claims 1 0 a (block_two 1) null × IsClaim first_world (step.Make 1 1 a File) make_claims
+MakeHomesCase = MakeCase × EntryClaims first_files make_claims 1 0 a (block_two 1) null
+    × IsClaim first_world (step.Make 1 1 a File) make_claims
 
 -- Link of b in entry 1, beside a: nothing is claimed.
 abbrev pub LinkHomesCase : Type 0
-LinkHomesCase = LinkCase × (place_for name_files 1 b ≡ Some 1) × IsClaim name_world (step.Link 1 1 b 3 (2 ^ 40)) no_claims
+LinkHomesCase = LinkCase × (place_for name_files 1 b ≡ Some 1)
+    × IsClaim name_world (step.Link 1 1 b 3 (2 ^ 40)) no_claims
 
 -- Rename of a to b.
 abbrev pub RenameHomesCase : Type 0
@@ -59,4 +61,5 @@ DropNumbersCase = OldNumbers name_world name_image × DropFileCase
 -- A Put of one byte, with a claimed block.
 abbrev pub PutNumbersCase : Type 0
 PutNumbersCase = OldNumbers first_world first_image
-    × PutLies first_files first_image put_image 2 2 0 0 (7 ∷ []) (label_file 0 Hole) (2 ^ 40) put_places × ClaimsPlaced put_claims first_image 2 0 put_places
+    × PutLies first_files first_image put_image 2 2 0 0 (7 ∷ []) (label_file 0 Hole) (2 ^ 40) put_places
+    × ClaimsPlaced put_claims first_image 2 0 put_places

@@ -42,4 +42,5 @@ EmptyRunCase = Run 0 mounted [] mounted
 
 -- The maps are right before the run and after it.
 abbrev pub StaleCase : Type 0
-StaleCase = Run 0 mounted (see_entry ∷ []) seen × (mounted.blocks ≡ seen.blocks) × Shows mounted first_image × Shows seen first_image
+StaleCase = Run 0 mounted (see_entry ∷ []) seen × (mounted.blocks ≡ seen.blocks) × Shows mounted first_image
+    × Shows seen first_image

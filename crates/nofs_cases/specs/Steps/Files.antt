@@ -34,7 +34,8 @@ PutCase = PutLies first_files first_image put_image 2 2 0 0 (7 ∷ []) (label_fi
 
 -- A Put in place: the byte becomes 9.
 abbrev pub PutHeldCase : Type 0
-PutHeldCase = PutHeld put_files put_image (image_of put_table (put_block 9) blank) 2 2 0 0 (9 ∷ []) (label_file 1 (Bytes (7 ∷ z 1023))) (2 ^ 40 + 1)
+PutHeldCase = PutHeld put_files put_image (image_of put_table (put_block 9) blank) 2 2 0 0 (9 ∷ [])
+    (label_file 1 (Bytes (7 ∷ z 1023))) (2 ^ 40 + 1)
     (block_two 0)
 
 -- A Resize of the empty label file to 5,000 bytes, which claims nothing.
@@ -45,10 +46,12 @@ ResizeCase = ResizeLies first_files first_image resize_image 2 2 5000 (label_fil
 -- the Put does not touch the root
 abbrev pub UntouchedCase : Type 0
 UntouchedCase = Touches (2 ^ 40) (λ j. j == 2) first_image put_image
-    × (agreed (files_in first_image) 1 ≡ true) × OldPointers (2 ^ 40) first_image 1 × (is_live (inode first_image 1) ≡ true)
+    × (agreed (files_in first_image) 1 ≡ true) × OldPointers (2 ^ 40) first_image 1
+    × (is_live (inode first_image 1) ≡ true)
 
 -- and slot 0 of the label file gets its block
 abbrev pub GrownCase : Type 0
-GrownCase = Rewrites (2 ^ 40) first_image put_image × (agreed (files_in first_image) 2 ≡ true) × SameIdentity first_image put_image 2 × OldPointers (2 ^ 40)
+GrownCase = Rewrites (2 ^ 40) first_image put_image × (agreed (files_in first_image) 2 ≡ true)
+    × SameIdentity first_image put_image 2 × OldPointers (2 ^ 40)
     first_image 2
     × Grows (2 ^ 40) first_image put_image 2 (path_of 0) put_places

@@ -13,7 +13,8 @@ use Rattle.nofs_cases.specs.Disks.Worlds.{label_file, first_files, first_world, 
 
 -- the label file has 8,193 bytes, and its leaf is block 3
 abbrev pub leaf_table : Cell
-leaf_table = table_of (root_bytes (z 16)) (2 ∷ z 7 ++ 1 ∷ z 3 ++ z 4 ++ 1 ∷ 32 ∷ z 6 ++ z 72 ++ z 128 ++ pointer_bytes 3 1 ++ z 16) (z 256) (z 256)
+leaf_table = table_of (root_bytes (z 16))
+    (2 ∷ z 7 ++ 1 ∷ z 3 ++ z 4 ++ 1 ∷ 32 ∷ z 6 ++ z 72 ++ z 128 ++ pointer_bytes 3 1 ++ z 16) (z 256) (z 256)
 
 -- the block of slot 8
 abbrev pub deep_block : Cell
@@ -21,7 +22,10 @@ deep_block = record { payload = 7 ∷ z 1023; tag = 1 ∷ z 3 ++ 2 ∷ z 3 ++ 2 
 
 -- the leaf, whose first pointer leads there
 abbrev pub leaf_block : Cell
-leaf_block = record { payload = pointer_bytes 2 0 ++ z 1008; tag = 3 ∷ z 3 ++ 2 ∷ z 3 ++ 2 ∷ z 7 ++ z 4 ++ 1 ∷ z 3 ++ stamp_bytes 1 }
+leaf_block = record {
+  payload = pointer_bytes 2 0 ++ z 1008;
+  tag = 3 ∷ z 3 ++ 2 ∷ z 3 ++ 2 ∷ z 7 ++ z 4 ++ 1 ∷ z 3 ++ stamp_bytes 1;
+}
 
 abbrev pub leaf_image : Image
 leaf_image = image_of leaf_table deep_block leaf_block

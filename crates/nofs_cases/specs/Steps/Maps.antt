@@ -1,7 +1,8 @@
 -- Instances of the laws of the maps and of the stamps, by the Put of one byte.
 use Rattle.std.specs.Prelude.{◌≡◌, ◌==◌, ℕ, ◌%◌, ◌^◌, ◌≤◌, ◌<◌, ◌⊎◌, true, false, List, [], ◌∷◌, Some, Contains}
 use Rattle.nofs_model.specs.Cells.{Cell, is_live, Pointer}
-use Rattle.nofs_model.specs.Image.{Image, cell_at, super_at, is_mountable, inode, InRecord, path_of, files_in, agreed, find, Path, IsSlot, IsAbove}
+use Rattle.nofs_model.specs.Image.{Image, cell_at, super_at, is_mountable, inode, InRecord, path_of, files_in, agreed}
+use Rattle.nofs_model.specs.Image.{find, Path, IsSlot, IsAbove}
 use Rattle.nofs_model.specs.Image.{Home, IsBelow}
 use Rattle.nofs_model.specs.declared.image.path.PathAnswer.TheVariants as answer
 use Rattle.nofs_history.specs.declared.machine.history.Entry1.{Entry1}
@@ -40,7 +41,8 @@ put_may b = cell_at first_image b ∷ cell_at put_image b ∷ []
 
 -- The homes of the disk before the Put, and what it moves.
 abbrev pub HomesCase : Type 0
-HomesCase = HomesMatch first_world first_image × FilesMatch first_world.files first_image × HomesMove first_world.files put_step put_claims first_image
+HomesCase = HomesMatch first_world first_image × FilesMatch first_world.files first_image
+    × HomesMove first_world.files put_step put_claims first_image
     put_image
     × FilesMatch put_world.files put_image
 
@@ -59,7 +61,8 @@ MovesCase = IsClaim first_world put_step put_claims × Touches (2 ^ 40) (λ j. j
 
 -- Slot 0 gets its block, and each other slot stays.
 abbrev pub GrowCase : Type 0
-GrowCase = (agreed (files_in first_image) 2 ≡ true) × ((p : Path) → IsAbove p (path_of 0) → find put_image 2 p ≡ answer.Holds (put_places p))
+GrowCase = (agreed (files_in first_image) 2 ≡ true)
+    × ((p : Path) → IsAbove p (path_of 0) → find put_image 2 p ≡ answer.Holds (put_places p))
     × ((p : Path) → IsSlot p → (IsAbove p (path_of 0) → ⊥) → find put_image 2 p ≡ find first_image 2 p)
     × ((p : Path) → IsAbove p (path_of 0) → (find first_image 2 p ≡ answer.Holds (put_places p)) ⊎
     (IsClaimed put_claims (put_places p) × ((x : Pointer) → find first_image 2 p ≡ answer.Holds x → ⊥)))
@@ -67,17 +70,20 @@ GrowCase = (agreed (files_in first_image) 2 ≡ true) × ((p : Path) → IsAbove
 -- A Resize to the size 0 of the file with one block, which is cut off.
 abbrev pub ShrinkCase : Type 0
 ShrinkCase = (agreed (files_in put_image) 2 ≡ true) × ((p : Path) → IsSlot p
-    → (is_cut 0 p ≡ true → find first_image 2 p ≡ answer.Hole) × (is_cut 0 p ≡ false → find first_image 2 p ≡ find put_image 2 p))
+    → (is_cut 0 p ≡ true → find first_image 2 p ≡ answer.Hole)
+    × (is_cut 0 p ≡ false → find first_image 2 p ≡ find put_image 2 p))
 
 -- Each number on the disk is below the next one, and the Put writes only those that it claims.
 abbrev pub FreshCase : Type 0
-FreshCase = ((super_at first_image).inodes % 4 ≡ 0) × IsFresh first_world first_image (alone first_image) × OnlyNumbered first_world put_claims first_image
+FreshCase = ((super_at first_image).inodes % 4 ≡ 0) × IsFresh first_world first_image (alone first_image)
+    × OnlyNumbered first_world put_claims first_image
     (alone first_image) put_may
     × (first_world.serial ≤ 2 ^ 40)
 
 -- A pick of fresh cells, and the pointer that the Put writes.
 abbrev pub PiecesCase : Type 0
-PiecesCase = (first_world.blocks ≡ (super_at first_image).blocks) × ((b : ℕ) → b < first_world.blocks → Contains (alone first_image b) (cell_at first_image b))
+PiecesCase = (first_world.blocks ≡ (super_at first_image).blocks)
+    × ((b : ℕ) → b < first_world.blocks → Contains (alone first_image b) (cell_at first_image b))
     × (0 < next_stamp first_world) × (is_mountable first_image ≡ true) × IsBelow (next_stamp first_world) first_image ×
     (is_live (inode first_image 2) ≡ true) × IsSlot (InRecord 0)
     × PointerFrom put_claims first_image 2 (InRecord 0) (block_two 0)

@@ -102,7 +102,8 @@ pub(crate) fn reopened(
 fn mounted<D: Disk + Drop>(alloc: Global, disk: D) -> Result<Mount<D>, Unmade>
     ensures found { IfOk result (λ m. m.found.value ≡ disk) }
     ensures empty { IfOk result (λ m. m.core.books.history.entries ≡ []) }
-    ensures open { IsSoundDisk (D.state disk) → IfOk result (λ m. ∥ StandsOpen (D.state m.found.value) (D.state m.core.disk) m.first m.core.books ∥₁) }
+    ensures open { IsSoundDisk (D.state disk)
+        → IfOk result (λ m. ∥ StandsOpen (D.state m.found.value) (D.state m.core.disk) m.first m.core.books ∥₁) }
 {
     law_homes();
     match Mount::begin(alloc, disk, 0) {

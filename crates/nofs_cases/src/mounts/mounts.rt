@@ -82,7 +82,8 @@ pub(crate) fn formatted_mount(alloc: Global) -> Result<Mount<MemDisk>, Unmade>
     ensures found { IfOk result (λ m. IsSoundDisk (memory_state m.found.value)) }
     ensures blank { IfOk result (λ m. IsBlankDisk (memory_state m.found.value)) }
     ensures empty { IfOk result (λ m. m.core.books.history.entries ≡ []) }
-    ensures open { IfOk result (λ m. ∥ StandsOpen (memory_state m.found.value) (memory_state m.core.disk) m.first m.core.books ∥₁) }
+    ensures open { IfOk result
+        (λ m. ∥ StandsOpen (memory_state m.found.value) (memory_state m.core.disk) m.first m.core.books ∥₁) }
 {
     law_homes();
     let disk = match new_disk(alloc) {
@@ -110,7 +111,8 @@ fn is_stored(reply: &Reply) -> bool
 // Examines a block: whether it was found to be free.
 fn see_free(mount: &mut Mount<MemDisk>, alloc: Global, block: u64) -> bool
     ensures found { mount.new.found ≡ mount.old.found }
-    ensures adds { result ≡ true → AddsOne (step.SeeBlock block) (reply.Seen false) mount.old.core.books.history.entries mount.new.core.books.history.entries }
+    ensures adds { result ≡ true → AddsOne (step.SeeBlock block)
+        (reply.Seen false) mount.old.core.books.history.entries mount.new.core.books.history.entries }
 {
     let seen = mount.step(alloc, 1, Step::SeeBlock { block });
     tells_free(&seen)
@@ -119,7 +121,8 @@ fn see_free(mount: &mut Mount<MemDisk>, alloc: Global, block: u64) -> bool
 // Puts bytes to the first slot of the label file: whether they were stored.
 fn put_first(mount: &mut Mount<MemDisk>, alloc: Global, bytes: Content) -> bool
     ensures found { mount.new.found ≡ mount.old.found }
-    ensures adds { result ≡ true → AddsOne (step.Put 2 2 0 0 bytes) reply.Stored mount.old.core.books.history.entries mount.new.core.books.history.entries }
+    ensures adds { result ≡ true → AddsOne (step.Put 2 2 0 0 bytes) reply.Stored mount.old.core.books.history.entries
+        mount.new.core.books.history.entries }
 {
     let put = Step::Put {
         inode: 2,
@@ -142,7 +145,8 @@ pub fn formatted_put(alloc: Global) -> Result<Mount<MemDisk>, Unmade>
     ensures found { IfOk result (λ m. IsSoundDisk (memory_state m.found.value)) }
     ensures blank { IfOk result (λ m. IsBlankDisk (memory_state m.found.value)) }
     ensures history { IfOk result (λ m. SeesAndPuts 5 (codes "ab") m.core.books.history.entries) }
-    ensures open { IfOk result (λ m. ∥ StandsOpen (memory_state m.found.value) (memory_state m.core.disk) m.first m.core.books ∥₁) }
+    ensures open { IfOk result
+        (λ m. ∥ StandsOpen (memory_state m.found.value) (memory_state m.core.disk) m.first m.core.books ∥₁) }
 {
     law_homes();
     let mut mount = match formatted_mount(alloc) {

@@ -1,5 +1,6 @@
 -- Where a command stands after the reply to its step, as if there were always room.
-use Rattle.std.specs.Prelude.{ℕ, ◌+◌, ◌-◌, ◌%◌, ◌^◌, ◌++◌, List, [], ◌∷◌, length, take, drop, map, min, nat_lt, if◌then◌else◌}
+use Rattle.std.specs.Prelude.{ℕ, ◌+◌, ◌-◌, ◌%◌, ◌^◌, ◌++◌, List, [], ◌∷◌, length, take, drop, map, min, nat_lt}
+use Rattle.std.specs.Prelude.{if◌then◌else◌}
 use Rattle.nofs_inode.specs.declared.inode.FileKind.{FileKind}
 use Rattle.nofs_inode.specs.declared.inode.FileKind.TheVariants as kind
 use Rattle.nofs_history.specs.declared.machine.replies.Found.{Found}
@@ -29,7 +30,8 @@ handle_of found = record { inode = found.inode; generation = found.generation }
 
 -- after a Look of the path
 abbrev pub looked : Command → Location → ℕ → Reply → Task
-looked c place depth (reply.Found found) = arrived c (record { directory = place.found; found = handle_of found }) (depth + 1)
+looked c place depth (reply.Found found) =
+    arrived c (record { directory = place.found; found = handle_of found }) (depth + 1)
 looked c place depth (reply.Refused r) = refused c 0 r
 looked c place depth _ = task.Looking place depth
 
@@ -121,15 +123,19 @@ got_here from end = within_slot (from % 1024) (end - from)
 -- after a Get
 abbrev pub after_get : Handle → ℕ → ℕ → List GotPart → Reply → Task
 after_get at from end parts (reply.Bytes bytes) =
-    getting at (from + got_here from end) end (parts ++ got.Bytes (take (got_here from end) (drop (from % 1024) bytes)) ∷ [])
-after_get at from end parts reply.Hole = getting at (from + got_here from end) end (parts ++ got.Hole (got_here from end) ∷ [])
-after_get at from end parts reply.Lost = getting at (from + got_here from end) end (parts ++ got.Lost (got_here from end) ∷ [])
+    getting at (from + got_here from end) end
+    (parts ++ got.Bytes (take (got_here from end) (drop (from % 1024) bytes)) ∷ [])
+after_get at from end parts reply.Hole =
+    getting at (from + got_here from end) end (parts ++ got.Hole (got_here from end) ∷ [])
+after_get at from end parts reply.Lost =
+    getting at (from + got_here from end) end (parts ++ got.Lost (got_here from end) ∷ [])
 after_get at from end parts (reply.Refused r) = task.Ended (line.Refused r)
 after_get at from end parts _ = task.Getting at from end parts
 
 -- the slots after the one answered are listed; an answer below the slot asked ends the list and is no part of it
 abbrev pub listing : Handle → ℕ → ℕ → List ListPart → List ListPart → Task
-listing at asked slot parts more = if nat_lt slot asked then task.Ended (line.Names parts) else task.Listing at (slot + 1) (parts ++ more)
+listing at asked slot parts more = if nat_lt slot asked then task.Ended (line.Names parts)
+    else task.Listing at (slot + 1) (parts ++ more)
 
 -- after a List
 abbrev pub after_list : Handle → ℕ → List ListPart → Reply → Task

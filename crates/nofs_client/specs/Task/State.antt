@@ -30,7 +30,8 @@ first_stage (command.Move from to) = stage.Flush
 
 -- so many names of the new path are looked up
 abbrev pub arrived_new : Command → Location → Handle → ℕ → Task
-arrived_new c place to depth = if nat_lt depth (new_looks c) then task.LookingNew place to depth else task.Linking place to (first_stage c)
+arrived_new c place to depth = if nat_lt depth (new_looks c) then task.LookingNew place to depth
+    else task.Linking place to (first_stage c)
 
 -- the names of the path are looked up
 abbrev pub acting : Command → Location → Task

@@ -43,9 +43,11 @@ act_of (command.Move from to) at = step.Flush at.inode at.generation
 -- the steps of a link and of a move
 abbrev pub stage_step : Command → Location → Handle → Stage → Step
 stage_step c place to stage.Flush = step.Flush place.found.inode place.found.generation
-stage_step c place to stage.Link = step.Link to.inode to.generation (last_name (new_path_of c)) place.found.inode place.found.generation
+stage_step c place to stage.Link =
+    step.Link to.inode to.generation (last_name (new_path_of c)) place.found.inode place.found.generation
 stage_step c place to stage.FlushAgain = step.Flush place.found.inode place.found.generation
-stage_step c place to stage.Drop = step.Drop place.directory.inode place.directory.generation (last_name (command_path c))
+stage_step c place to stage.Drop =
+    step.Drop place.directory.inode place.directory.generation (last_name (command_path c))
 
 -- the slot of the byte of a put after so many
 abbrev pub put_slot : ℕ → ℕ → ℕ
@@ -61,7 +63,8 @@ within_slot at rest = min (1024 - at) rest
 
 -- the bytes of a put that lie in the next slot
 abbrev pub put_slot_step : Command → Handle → ℕ → Step
-put_slot_step (command.Put path offset bytes) at done = step.Put at.inode at.generation (put_slot offset done) (put_at offset done)
+put_slot_step (command.Put path offset bytes) at done =
+    step.Put at.inode at.generation (put_slot offset done) (put_at offset done)
     (take (within_slot (put_at offset done) (length bytes - done)) (drop done bytes))
 -- no other command puts
 put_slot_step (command.Make path) at done = step.Flush at.inode at.generation

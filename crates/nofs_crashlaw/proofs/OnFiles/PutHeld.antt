@@ -1,7 +1,9 @@
 -- A Put into a slot that holds: its block is written in place, and each slot of its path stays.
-use Rattle.std.proofs.Common.{◌≡◌, ◌≢◌, ℕ, ◌≤◌, ◌⊎◌, inl, inr, Bool, true, false, eqb, List, Some, refl, sym, ap, ◌∙◌, subst, eqb-true, eq-eqb}
+use Rattle.std.proofs.Common.{◌≡◌, ◌≢◌, ℕ, ◌≤◌, ◌⊎◌, inl, inr, Bool, true, false, eqb, List, Some, refl, sym, ap, ◌∙◌}
+use Rattle.std.proofs.Common.{subst, eqb-true, eq-eqb}
 use Rattle.nofs_model.specs.Cells.{Cell, Tag, Pointer, tag_of, pointer_at}
-use Rattle.nofs_model.specs.Image.{Image, cell_at, is_data_block, inode, Path, InRecord, Under, path_of, slot_of, is_pointer_slot, kind_in, tag_for}
+use Rattle.nofs_model.specs.Image.{Image, cell_at, is_data_block, inode, Path, InRecord, Under, path_of, slot_of}
+use Rattle.nofs_model.specs.Image.{is_pointer_slot, kind_in, tag_for}
 use Rattle.nofs_model.specs.Image.{find, pointer, FileState, Files, IsAbove, IsSlot, IsFree}
 use Rattle.nofs_model.specs.declared.image.path.PathAnswer.TheVariants as answer
 use Rattle.nofs_model.proofs.OnSlots.Find.{find-held}
@@ -15,14 +17,17 @@ use Rattle.nofs_crashlaw.proofs.OnFiles.Claims.{super-same}
 use Rattle.nofs_crashlaw.specs.Files.Puts.{PutHeld, PutLies, LawPutHeld}
 
 -- above a slot that holds, each slot holds
-above-held : (X : Image) (i : ℕ) (a p : Path) (x : Pointer) → IsAbove a p → find X i p ≡ answer.Holds x → find X i a ≡ answer.Holds (pointer X i a)
+above-held : (X : Image) (i : ℕ) (a p : Path) (x : Pointer) → IsAbove a p → find X i p ≡ answer.Holds x
+    → find X i a ≡ answer.Holds (pointer X i a)
 above-held X i a (InRecord n) x e held = subst (λ (q : Path). find X i q ≡ answer.Holds (pointer X i q)) (sym e)
     (held ∙ ap answer.Holds (sym (find-held X i (InRecord n) x held).same))
 above-held X i a (Under b n) x (inl e) held = subst (λ (q : Path). find X i q ≡ answer.Holds (pointer X i q)) (sym e)
     (held ∙ ap answer.Holds (sym (find-held X i (Under b n) x held).same))
-above-held X i a (Under b n) x (inr r) held = let up = (find-held X i (Under b n) x held).above in above-held X i a b up.0 r up.1
+above-held X i a (Under b n) x (inr r) held = let up = (find-held X i (Under b n) x held).above in
+    above-held X i a b up.0 r up.1
 
-module _ (F : Files) (X Y : Image) (i g k at : ℕ) (bytes : List ℕ) (f : FileState) (s : ℕ) (x : Pointer) (p : PutHeld F X Y i g k at bytes f s x) where
+module _ (F : Files) (X Y : Image) (i g k at : ℕ) (bytes : List ℕ) (f : FileState) (s : ℕ) (x : Pointer)
+    (p : PutHeld F X Y i g k at bytes f s x) where
   places : Path → Pointer
   places a = pointer X i a
 
@@ -40,18 +45,21 @@ module _ (F : Files) (X Y : Image) (i g k at : ℕ) (bytes : List ℕ) (f : File
       subst (λ (q : Path). is_pointer_slot q ≡ true) e points in cc (c, z)
 
   -- the cell of a block of pointers stays
-  cell-stays : (a : Path) (y : Pointer) → IsSlot a → find X i a ≡ answer.Holds y → a ≢ path_of k → cell_at Y y.block ≡ cell_at X y.block
+  cell-stays : (a : Path) (y : Pointer) → IsSlot a → find X i a ≡ answer.Holds y → a ≢ path_of k
+      → cell_at Y y.block ≡ cell_at X y.block
   cell-stays a y slot e ne = p.blocks y.block (find-held X i a y e).agrees.area (other-block a y slot e ne)
 
   same-tag : (a : Path) (z : ℕ) → tag_for Y i a z ≡ tag_for X i a z
-  same-tag a z = λ j. record { kind = kinds j; inode = i; generation = p.names.generation j; slot = slot_of a; stamp = z }
+  same-tag a z =
+      λ j. record { kind = kinds j; inode = i; generation = p.names.generation j; slot = slot_of a; stamp = z }
     where
       kinds : kind_in (inode Y i) a ≡ kind_in (inode X i) a
       kinds = let e = p.names.kind in rw e refl
 
   tag-stays : (a : Path) → IsSlot a → IsAbove a (path_of k) → (t : Bool) → eqb (pointer X i a).block x.block ≡ t
       → tag_of (cell_at Y (pointer X i a).block).tag ≡ tag_of (cell_at X (pointer X i a).block).tag
-  tag-stays a slot h true e = let eb = eqb-true (pointer X i a).block x.block e in subst (λ (b : ℕ). tag_of (cell_at Y b).tag ≡ tag_of (cell_at X b).tag)
+  tag-stays a slot h true e = let eb = eqb-true (pointer X i a).block x.block e in
+      subst (λ (b : ℕ). tag_of (cell_at Y b).tag ≡ tag_of (cell_at X b).tag)
       (sym eb) p.tag
   tag-stays a slot h false e = ap (λ (c : Cell). tag_of c.tag)
       (p.blocks (pointer X i a).block (find-held X i a (pointer X i a) (holds a h)).agrees.area (λ eb. let t =
@@ -65,7 +73,8 @@ module _ (F : Files) (X Y : Image) (i g k at : ℕ) (bytes : List ℕ) (f : File
     placed = placed;
     not_null = λ a h. (find-held X i a (pointer X i a) (holds a h)).not_null;
     area = λ a h. let z = super-same X Y p.super in rw z (find-held X i a (pointer X i a) (holds a h)).agrees.area;
-    tag = λ a h. tag-stays a (slot-of-above a h) h (eqb (pointer X i a).block x.block) refl ∙ (find-held X i a (pointer X i a) (holds a h)).agrees.tag
+    tag = λ a h. tag-stays a (slot-of-above a h) h (eqb (pointer X i a).block x.block) refl
+        ∙ (find-held X i a (pointer X i a) (holds a h)).agrees.tag
         ∙ ap Some (sym (same-tag a (pointer X i a).stamp));
     record_stays = λ n off. p.pointers n;
     beside = λ b n slot h off. inl (
@@ -73,7 +82,8 @@ module _ (F : Files) (X Y : Image) (i g k at : ℕ) (bytes : List ℕ) (f : File
       ap (λ (c : Cell). pointer_at c.payload n)
           (cell-stays b (pointer X i b) slot.2 (holds b h) (pointers-apart b slot.0)),
     );
-    apart = λ b y slot off e. cell-stays b y slot e (λ eb. off (subst (λ (q : Path). IsAbove q (path_of k)) (sym eb) (itself (path_of k))));
+    apart = λ b y slot off e. cell-stays b y slot e
+        (λ eb. off (subst (λ (q : Path). IsAbove q (path_of k)) (sym eb) (itself (path_of k))));
   }
     where
       itself : (q : Path) → IsAbove q q
@@ -87,7 +97,8 @@ module _ (F : Files) (X Y : Image) (i g k at : ℕ) (bytes : List ℕ) (f : File
           let hb = holds b up in
           let slot = slot-of-above (Under b n) h in
           let c = cell-stays b (pointer X i b) slot.2 hb (pointers-apart b slot.0) in
-          let e : pointer X i (Under b n) ≡ pointer_at (cell_at X (pointer X i b).block).payload n = rw (hb, pointer) refl in
+          let e : pointer X i (Under b n) ≡ pointer_at (cell_at X (pointer X i b).block).payload n =
+          rw (hb, pointer) refl in
           ap (λ (q : Cell). pointer_at q.payload n) c ∙ sym e
 
   touches : Touches s (λ j. eqb j i) X Y
@@ -100,10 +111,14 @@ module _ (F : Files) (X Y : Image) (i g k at : ℕ) (bytes : List ℕ) (f : File
       place : (b : ℕ) → is_data_block X b ≡ true → (t : Bool) → eqb b x.block ≡ t → (cell_at Y b ≡ cell_at X b)
           ⊎ ((IsFree X b × ((t : Tag) → tag_of (cell_at Y b).tag ≡ Some t → s ≤ t.stamp))
           ⊎ ((tag_of (cell_at Y b).tag ≡ tag_of (cell_at X b).tag) ×
-          ((j : ℕ) × (path : Path) × (y : Pointer) × (eqb j i ≡ true) × (find X j path ≡ answer.Holds y) × (y.block ≡ b))))
+          ((j : ℕ) × (path : Path) × (y : Pointer) × (eqb j i ≡ true) × (find X j path ≡ answer.Holds y)
+          × (y.block ≡ b))))
       place b area true e =
           let eb = eqb-true b x.block e in
-          inr (inr (subst (λ (q : ℕ). tag_of (cell_at Y q).tag ≡ tag_of (cell_at X q).tag) (sym eb) p.tag, (i, path_of k, x, eq-eqb i i refl, p.held, sym eb)))
+          inr (inr (
+            subst (λ (q : ℕ). tag_of (cell_at Y q).tag ≡ tag_of (cell_at X q).tag) (sym eb) p.tag,
+            (i, path_of k, x, eq-eqb i i refl, p.held, sym eb),
+          ))
       place b area false e = inl (p.blocks b area (λ eb. let t = eq-eqb b x.block eb in cc (e, t)))
 
   lies : PutLies F X Y i g k at bytes f s (λ a. pointer X i a)

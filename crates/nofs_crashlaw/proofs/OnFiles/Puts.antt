@@ -1,7 +1,8 @@
 -- A Put at any depth: the files after it, and the homes of what it claims.
 use Rattle.std.proofs.Common.{◌≡◌, ◌≢◌, ℕ, ◌<◌, inl, inr, true, false, eqb, List, refl, sym, ap, ◌∙◌, subst, eqb-true}
 use Rattle.nofs_model.specs.Cells.{Pointer, slot_limit}
-use Rattle.nofs_model.specs.Image.{Image, files_in, agreed, value, node_in, Path, path_of, is_pointer_slot, find, FileState, Files, Home, home_at}
+use Rattle.nofs_model.specs.Image.{Image, files_in, agreed, value, node_in, Path, path_of, is_pointer_slot, find}
+use Rattle.nofs_model.specs.Image.{FileState, Files, Home, home_at}
 use Rattle.nofs_model.specs.Image.{IsAbove, IsSlot}
 use Rattle.nofs_model.specs.declared.image.value.Value.TheVariants.{Bytes}
 use Rattle.nofs_model.specs.declared.image.path.PathAnswer.TheVariants as answer
@@ -38,13 +39,16 @@ module _ (F : Files) (X Y : Image) (i g k at : ℕ) (bytes : List ℕ) (f : File
 
   here : value Y i k ≡ Bytes (put_content (f.values k) f.size k at bytes)
   here = value-on s X Y i changes own.agreed same (p.old i (some-is (F i) f p.is)) (path_of k)
-      places p.grows.placed p.grows.not_null p.grows.area p.grows.tag p.grows.record_stays p.grows.beside p.grows.apart k refl ∙ ap Bytes p.content
+      places p.grows.placed p.grows.not_null p.grows.area p.grows.tag p.grows.record_stays p.grows.beside p.grows.apart
+      k refl ∙ ap Bytes p.content
 
   beside : (l : ℕ) → l < slot_limit → l ≢ k → value Y i l ≡ value X i l
   beside l lt ne = value-off s X Y i changes own.agreed same (p.old i (some-is (F i) f p.is)) (path_of k)
-      places p.grows.placed p.grows.not_null p.grows.area p.grows.tag p.grows.record_stays p.grows.beside p.grows.apart k l refl p.range lt ne
+      places p.grows.placed p.grows.not_null p.grows.area p.grows.tag p.grows.record_stays p.grows.beside p.grows.apart
+      k l refl p.range lt ne
 
-  apart : (path : Path) → is_pointer_slot path ≡ true → lies_above path (path_of k) ≡ false → IsAbove path (path_of k) → ⊥
+  apart : (path : Path)
+      → is_pointer_slot path ≡ true → lies_above path (path_of k) ≡ false → IsAbove path (path_of k) → ⊥
   apart path q above h = elim (above-test path (path_of k) h) [
     | inl e ↦ (let c = path_of-content k p.range in let z : is_pointer_slot (path_of k) ≡ true =
         subst (λ (r : Path). is_pointer_slot r ≡ true) e q in cc (c, z))
@@ -52,7 +56,8 @@ module _ (F : Files) (X Y : Image) (i g k at : ℕ) (bytes : List ℕ) (f : File
   ]
 
   pub put-file : FilesMatch (files_after F (put_given F i g k at bytes)) Y
-  put-file = one-file F (put_given F i g k at bytes) X Y i s f (put-made F i g k at bytes f p.is p.generation p.file) p.files
+  put-file = one-file F (put_given F i g k at bytes) X Y i s f
+      (put-made F i g k at bytes f p.is p.generation p.file) p.files
       (put-gives F i g k at bytes f p.is p.generation p.file) p.touches p.names p.old
       (put-own F i g k at bytes f p.is p.generation p.file X Y p.files p.names p.size here beside
       (λ path slot above. ap node_in (on path (test-above path (path_of k) above)))
@@ -85,13 +90,15 @@ law-put-homes W X Y i g k at bytes f s places c p claim placed =
     there = (matched-file W.files X i p.files (some-is (W.files i) f p.is)).agreed
 
     moved : HeldMove c X Y i
-    moved = law-grow c X Y i (path_of k) places there (on W.files X Y i g k at bytes f s places p) (off W.files X Y i g k at bytes f s places p) placed.each
+    moved = law-grow c X Y i (path_of k) places there (on W.files X Y i g k at bytes f s places p)
+        (off W.files X Y i g k at bytes f s places p) placed.each
 
     stand : ClaimsStand c Y (home_at i k)
     stand = record {
       agreed = as-before W.files X Y i g k at bytes f s places p i ∙ there;
       range = p.range;
-      cell = λ e. on W.files X Y i g k at bytes f s places p (path_of k) (above-refl (path_of k)) ∙ ap answer.Holds (placed.cell e);
+      cell = λ e. on W.files X Y i g k at bytes f s places p (path_of k) (above-refl (path_of k))
+          ∙ ap answer.Holds (placed.cell e);
       leaf = λ e. let l = placed.leaf e in on W.files X Y i g k at bytes f s places p _ l.0 ∙ ap answer.Holds l.1;
       top = λ e. let l = placed.top e in on W.files X Y i g k at bytes f s places p _ l.0 ∙ ap answer.Holds l.1;
     }

@@ -21,7 +21,14 @@ use Rattle.nofs_crashlaw.proofs.OnHistories.Unflushed.{self-match, law-unflushed
 
 -- what is live and not agreed is the base's
 rest-first : (B : Image) → SteadyRest B [] B
-rest-first B i live not_agreed = record { live = live; generation = refl; meta = refl; no_value = λ k. refl; no_meta = refl; values = λ k lt. inl refl }
+rest-first B i live not_agreed = record {
+  live = live;
+  generation = refl;
+  meta = refl;
+  no_value = λ k. refl;
+  no_meta = refl;
+  values = λ k lt. inl refl;
+}
 
 module _ (d : DiskState) (s : ℕ) (p : IsLeftByMount d s) where
   geometry : IsGeometry (length d.now) (super_at d.now).blocks (super_at d.now).inodes
@@ -47,7 +54,11 @@ module _ (d : DiskState) (s : ℕ) (p : IsLeftByMount d s) where
   survives : CellsSurvive d (mark_at d.now [] (d.moment + 1) d.now s)
   survives =
       let m : IsMark (mark_at d.now [] (d.moment + 1) d.now s) = subst IsMark (sym (new-is (d.moment + 1))) new in
-      record { mark = m; size = p.disk.whole p.tells; explained = law-flush (mark_at d.now [] (d.moment + 1) d.now s) d.may m alone }
+      record {
+        mark = m;
+        size = p.disk.whole p.tells;
+        explained = law-flush (mark_at d.now [] (d.moment + 1) d.now s) d.may m alone;
+      }
 
   only : (X : Image) → d.left d.moment X → X ≡ d.now
   only X left = settled_image d p.disk p.settled p.tells X (p.disk.at_rest X left)

@@ -1,6 +1,7 @@
 -- A flush that succeeds makes a new mark, from which the next step may begin.
 use Rattle.nofs_model.specs.Geometry.{IsGeometry}
-use Rattle.std.proofs.Common.{◌≡◌, ℕ, suc, ◌+◌, ◌%◌, ◌<◌, ◌≤◌, inl, inr, true, false, cond, is_some, append-nil, eqb, if◌then◌else◌, leb, ◌&&◌, List, [], ◌∷◌}
+use Rattle.std.proofs.Common.{◌≡◌, ℕ, suc, ◌+◌, ◌%◌, ◌<◌, ◌≤◌, inl, inr, true, false, cond, is_some, append-nil, eqb}
+use Rattle.std.proofs.Common.{if◌then◌else◌, leb, ◌&&◌, List, [], ◌∷◌}
 use Rattle.std.proofs.Common.{◌++◌, length, Option, Some, None, IsTrue, Ok, refl, sym, ap, ◌∙◌, subst, arith, le_refl}
 use Rattle.std.proofs.lemmas.Bool.{cases_lt}
 use Rattle.nofs_disk.specs.Disk.{DiskState, IsDisk, IsSettled, Flushes, Picks, cell_at}
@@ -13,7 +14,8 @@ use Rattle.nofs_crashlaw.proofs.OnImages.Moments.{law-images, law-flush}
 use Rattle.nofs_history.specs.Meta.{meta_of}
 use Rattle.nofs_history.specs.Marks.{Mark}
 use Rattle.nofs_history.specs.Machine.{generation_of, nothing, gives, file_after, files_after}
-use Rattle.nofs_history.specs.History.{agreed_files, files_along, mark_at, mark, mark_from, is_flushed, new_mark, last_in, is_generation}
+use Rattle.nofs_history.specs.History.{agreed_files, files_along, mark_at, mark, mark_from, is_flushed, new_mark}
+use Rattle.nofs_history.specs.History.{last_in, is_generation}
 use Rattle.nofs_history.specs.History.{values_given, metas_given, FilesMatch, NoWriteFault}
 use Rattle.nofs_history.specs.Allowed.{IsAllowed}
 use Rattle.nofs_history.specs.Steady.{SteadyRest}
@@ -47,9 +49,11 @@ files-stay F = λ j i. same i (F i) j
     same i None = refl
     same i (Some f) = refl
 
-module _ (B : Image) (H : List Entry1) (M : Image) (S start s caller i g : ℕ) (old new : DiskState) (is_old : IsDisk old) (is_new : IsDisk new)
+module _ (B : Image) (H : List Entry1) (M : Image) (S start s caller i g : ℕ) (old new : DiskState)
+    (is_old : IsDisk old) (is_new : IsDisk new)
     (tells : IsTrue old.tells)
-    (st : Stage B H M S start s old) (f : Flushes old new (Ok tt)) (settled : IsSettled new) (mountable : is_mountable old.now ≡ true) (ok : NoWriteFault H)
+    (st : Stage B H M S start s old) (f : Flushes old new (Ok tt)) (settled : IsSettled new)
+    (mountable : is_mountable old.now ≡ true) (ok : NoWriteFault H)
     (rest : SteadyRest B H old.now) where
   F : Files
   F = files_along (agreed_files B) H
@@ -61,7 +65,8 @@ module _ (B : Image) (H : List Entry1) (M : Image) (S start s caller i g : ℕ) 
   size = pick.len ∙ st.lasts.size
 
   first : cell_at old.now 0 ≡ cell_at B 0
-  first = (law-images (mark_at B H (old.moment + 1) M S) old.may old.now st.ready.survives.mark st.ready.survives.explained pick).reads.super ∙ st.lasts.first
+  first = (law-images (mark_at B H (old.moment + 1) M S) old.may old.now st.ready.survives.mark
+      st.ready.survives.explained pick).reads.super ∙ st.lasts.first
 
   geometry : IsGeometry (length old.now) (super_at old.now).blocks (super_at old.now).inodes
   geometry = let m = (mountable-law old.now).1 mountable in m.fits
@@ -80,15 +85,20 @@ module _ (B : Image) (H : List Entry1) (M : Image) (S start s caller i g : ℕ) 
 
   files-along : files_along (agreed_files B) (H ++ flush_entry caller old new i g ∷ []) ≡ files_along (agreed_files B) H
   unfolding gives
-  files-along = along-append (agreed_files B) H (flush_entry caller old new i g ∷ []) ∙ files-stay (files_along (agreed_files B) H)
+  files-along = along-append (agreed_files B) H (flush_entry caller old new i g ∷ [])
+      ∙ files-stay (files_along (agreed_files B) H)
 
-  no-values : (j h k : ℕ) → values_given (agreed_files B) (H ++ flush_entry caller old new i g ∷ []) j h k ≡ values_given (agreed_files B) H j h k
+  no-values : (j h k : ℕ) → values_given (agreed_files B) (H ++ flush_entry caller old new i g ∷ []) j h k
+      ≡ values_given (agreed_files B) H j h k
   unfolding gives
-  no-values j h k = values-append (agreed_files B) H (flush_entry caller old new i g ∷ []) j h k ∙ append-nil (values_given (agreed_files B) H j h k)
+  no-values j h k = values-append (agreed_files B) H (flush_entry caller old new i g ∷ []) j h k
+      ∙ append-nil (values_given (agreed_files B) H j h k)
 
-  no-metas : (j h : ℕ) → metas_given (agreed_files B) (H ++ flush_entry caller old new i g ∷ []) j h ≡ metas_given (agreed_files B) H j h
+  no-metas : (j h : ℕ)
+      → metas_given (agreed_files B) (H ++ flush_entry caller old new i g ∷ []) j h ≡ metas_given (agreed_files B) H j h
   unfolding gives
-  no-metas j h = metas-append (agreed_files B) H (flush_entry caller old new i g ∷ []) j h ∙ append-nil (metas_given (agreed_files B) H j h)
+  no-metas j h = metas-append (agreed_files B) H (flush_entry caller old new i g ∷ []) j h
+      ∙ append-nil (metas_given (agreed_files B) H j h)
 
   new-same : new_mark B (H ++ flush_entry caller old new i g ∷ []) old.now s ≡ new_mark B H old.now s
   new-same = λ j. record {
@@ -99,31 +109,38 @@ module _ (B : Image) (H : List Entry1) (M : Image) (S start s caller i g : ℕ) 
     stands = λ a h. is_some (files-along j a) && (eqb (generation_of (files-along j) a) h);
   }
 
-  all-through : (m : ℕ) → new.moment ≤ m → mark_at B (H ++ flush_entry caller old new i g ∷ []) m old.now s ≡ new_mark B H old.now s
+  all-through : (m : ℕ)
+      → new.moment ≤ m → mark_at B (H ++ flush_entry caller old new i g ∷ []) m old.now s ≡ new_mark B H old.now s
   all-through m le =
       let t : leb new.moment m ≡ true = le-test new.moment m le in
-      let place : mark (H ++ flush_entry caller old new i g ∷ []) m ≡ length (H ++ flush_entry caller old new i g ∷ []) = let r =
+      let place : mark (H ++ flush_entry caller old new i g ∷ []) m
+      ≡ length (H ++ flush_entry caller old new i g ∷ []) = let r =
       mark-flushed H (flush_entry caller old new i g) m 0 0 t in omega (arith, r) in
       mark-new B (H ++ flush_entry caller old new i g ∷ []) m old.now s place
-      (begun-append H (flush_entry caller old new i g) old.moment m (let q = f.moment in omega arith) st.lasts.by (let q = f.moment in omega arith))
+      (begun-append H (flush_entry caller old new i g) old.moment m
+      (let q = f.moment in omega arith) st.lasts.by (let q = f.moment in omega arith))
       ∙ new-same
 
   fresh-mark : IsMark (new_mark B H old.now s)
   fresh-mark = flushed B H old.now s ok st.ready.files rest st.ready.positive quarters
-      (live-below old.now s (super_at old.now).blocks now-below (le_refl (super_at old.now).blocks) (let g = geometry in g.table))
+      (live-below old.now s (super_at old.now).blocks now-below (le_refl (super_at old.now).blocks)
+      (let g = geometry in g.table))
       (tag-below old.now s (super_at old.now).blocks now-below (le_refl (super_at old.now).blocks))
 
   mark-again : (m : ℕ) → new.moment ≤ m → IsMark (mark_at B (H ++ flush_entry caller old new i g ∷ []) m old.now s)
   mark-again m le = subst (λ (q : Mark). IsMark q) (sym (all-through m le)) fresh-mark
 
-  explained-again : (m : ℕ) → new.moment ≤ m → AllExplained (mark_at B (H ++ flush_entry caller old new i g ∷ []) m old.now s) new.may
-  explained-again m le = law-flush (mark_at B (H ++ flush_entry caller old new i g ∷ []) m old.now s) new.may (mark-again m le)
+  explained-again : (m : ℕ)
+      → new.moment ≤ m → AllExplained (mark_at B (H ++ flush_entry caller old new i g ∷ []) m old.now s) new.may
+  explained-again m le =
+      law-flush (mark_at B (H ++ flush_entry caller old new i g ∷ []) m old.now s) new.may (mark-again m le)
       (λ b c has. elim (cases_lt b new.blocks) [
         | inl lt ↦ settled b c lt has ∙ ap (λ (X : Image). cell_at X b) f.now
         | inr past ↦ absurd (is_new.beyond b c past has)
       ])
 
-  pub flush-survives : CellsSurvive new (mark_at B (H ++ flush_entry caller old new i g ∷ []) (new.moment + 1) old.now s)
+  pub flush-survives : CellsSurvive new
+      (mark_at B (H ++ flush_entry caller old new i g ∷ []) (new.moment + 1) old.now s)
   flush-survives = record {
     mark = mark-again (new.moment + 1) (omega arith);
     size = is_old.whole tells ∙ sym f.disk.blocks;
@@ -131,9 +148,11 @@ module _ (B : Image) (H : List Entry1) (M : Image) (S start s caller i g : ℕ) 
         explained-again (new.moment + 1) (omega arith);
   }
 
-  images : (m : ℕ) (X : Image) → start ≤ m → m ≤ new.moment → new.left m X → IsAllowed B (H ++ flush_entry caller old new i g ∷ []) m X
+  images : (m : ℕ) (X : Image) → start ≤ m → m ≤ new.moment → new.left m X
+      → IsAllowed B (H ++ flush_entry caller old new i g ∷ []) m X
   images m X low high left = elim (cases_lt m (old.moment + 1)) [
-    | inl before ↦ law-later B H (flush_entry caller old new i g ∷ []) m X ((omega arith), (λ e. let q = f.moment in omega arith), tt)
+    | inl before ↦ law-later B H (flush_entry caller old new i g ∷ []) m X
+        ((omega arith), (λ e. let q = f.moment in omega arith), tt)
         (st.lasts.images.each m X low (omega arith) (f.past.no_more m X (omega arith) left))
     | inr after ↦ elim (cases_lt m new.moment) [
       | inl mid ↦ during-image (let q = f.moment in omega arith)
@@ -146,8 +165,12 @@ module _ (B : Image) (H : List Entry1) (M : Image) (S start s caller i g : ℕ) 
           let L : ℕ → Type 0 = λ n. new.left n X in
           let p = f.during X (subst L e left) in
           let late : leb new.moment m ≡ false = not-le new.moment m (let q = f.moment in omega arith) in
-          (stage-keeps B H (flush_entry caller old new i g) M S start s old is_old tells st m (omega arith) refl late old.may (λ b c has. inl has)).allowed X
-          (record { len = p.len ∙ sym st.ready.survives.size; each = λ b lt. p.each b (let q = st.ready.survives.size in omega (arith, lt, q)) })
+          (stage-keeps B H (flush_entry caller old new i g) M S start s old is_old tells st m
+          (omega arith) refl late old.may (λ b c has. inl has)).allowed X
+          (record {
+            len = p.len ∙ sym st.ready.survives.size;
+            each = λ b lt. p.each b (let q = st.ready.survives.size in omega (arith, lt, q));
+          })
 
       end-image : m ≡ new.moment → IsAllowed B (H ++ flush_entry caller old new i g ∷ []) m X
       end-image e =
@@ -155,7 +178,8 @@ module _ (B : Image) (H : List Entry1) (M : Image) (S start s caller i g : ℕ) 
           let p = is_new.at_rest X (subst L e left) in
           let w = is_old.whole tells in
           let same = f.disk.blocks in
-          allowed-image B (H ++ flush_entry caller old new i g ∷ []) m old.now s new.may X (mark-again m (omega arith)) size first
+          allowed-image B (H ++ flush_entry caller old new i g ∷ []) m old.now s new.may X
+          (mark-again m (omega arith)) size first
           (explained-again m (omega arith))
           (record { len = p.len ∙ same ∙ sym w; each = λ b lt. p.each b (omega (arith, lt, w, same)) })
 
@@ -165,7 +189,8 @@ module _ (B : Image) (H : List Entry1) (M : Image) (S start s caller i g : ℕ) 
     lasts = record {
       size = size;
       first = first;
-      by = by-append H (flush_entry caller old new i g) new.moment (by-more H old.moment new.moment (let q = f.moment in omega arith) st.lasts.by) (let q =
+      by = by-append H (flush_entry caller old new i g) new.moment
+          (by-more H old.moment new.moment (let q = f.moment in omega arith) st.lasts.by) (let q =
           f.moment in omega arith) (omega arith);
       survives = flush-survives;
       images = record { begun = (let a = st.lasts.images.begun in let q = f.moment in omega arith); each = images };
@@ -177,10 +202,12 @@ module _ (B : Image) (H : List Entry1) (M : Image) (S start s caller i g : ℕ) 
       positive = st.ready.positive;
       fresh = λ b c lt has.
           let lt_old : b < (super_at old.now).blocks = subst (λ (X : Image). b < (super_at X).blocks) f.now lt in
-          subst (λ (X : Image). CellBelow s X b c) (sym f.now) (st.ready.fresh b c lt_old (f.may b c (low b lt_old) has));
+          subst (λ (X : Image). CellBelow s X b c) (sym f.now)
+          (st.ready.fresh b c lt_old (f.may b c (low b lt_old) has));
     };
   }
 
 pub law-flush-stage : (old new : DiskState) → LawFlushStage old new
-law-flush-stage old new B H M S start s caller i g p = flush-stage B H M S start s caller i g old new p.before p.after p.tells p.stage p.flushes
+law-flush-stage old new B H M S start s caller i g p =
+    flush-stage B H M S start s caller i g old new p.before p.after p.tells p.stage p.flushes
     p.flushes.settled p.mountable p.no_fault p.rest

@@ -1,11 +1,13 @@
 -- Where the last entry that has begun flushed, the mark of the moment is the new mark.
-use Rattle.std.proofs.Common.{◌≡◌, ℕ, Bool, true, false, eqb, ◌&&◌, not, List, [], ◌++◌, length, take, drop, is_some, refl, ap, ◌∙◌, le_refl, append-nil}
+use Rattle.std.proofs.Common.{◌≡◌, ℕ, Bool, true, false, eqb, ◌&&◌, not, List, [], ◌++◌, length, take, drop, is_some}
+use Rattle.std.proofs.Common.{refl, ap, ◌∙◌, le_refl, append-nil}
 use Rattle.std.proofs.Common.{take_all, drop_of_length-le}
 use Rattle.std.specs.List.{list_any}
 use Rattle.nofs_history.specs.Meta.{is_gone}
 use Rattle.nofs_history.specs.declared.machine.history.Entry1.{Entry1}
 use Rattle.nofs_history.specs.Machine.{generation_of}
-use Rattle.nofs_history.specs.History.{agreed_files, files_along, values_given, metas_given, accepted_of, accepted_meta_of, last_in, begun, mark}
+use Rattle.nofs_history.specs.History.{agreed_files, files_along, values_given, metas_given, accepted_of}
+use Rattle.nofs_history.specs.History.{accepted_meta_of, last_in, begun, mark}
 use Rattle.nofs_history.specs.History.{before_mark, since_mark, since, since_meta, stands, mark_at, new_mark}
 use Rattle.nofs_model.specs.Image.{Image}
 
@@ -29,18 +31,23 @@ mark-new B H m image stamps place all = λ j. record {
     before = ap (λ (n : ℕ). take n H) place ∙ take_all (length H) H (le_refl (length H))
 
     after : since_mark H m ≡ []
-    after = ap (λ (n : ℕ). drop n (begun H m)) place ∙ ap (λ (es : List Entry1). drop (length H) es) all ∙ drop_of_length-le H (le_refl (length H))
+    after = ap (λ (n : ℕ). drop n (begun H m)) place ∙ ap (λ (es : List Entry1). drop (length H) es) all
+        ∙ drop_of_length-le H (le_refl (length H))
 
     values : (i g k : ℕ) → since B H m i g k ≡ last_in (accepted_of B H i g k)
-    values i g k = (λ j. last_in (accepted_of B (before j) i g k) ++ values_given (files_along (agreed_files B) (before j)) (after j) i g k)
+    values i g k = (λ j. last_in (accepted_of B (before j) i g k)
+        ++ values_given (files_along (agreed_files B) (before j)) (after j) i g k)
         ∙ append-nil (last_in (accepted_of B H i g k))
 
     metas : (i g : ℕ) → since_meta B H m i g ≡ last_in (accepted_meta_of B H i g)
-    metas i g = (λ j. last_in (accepted_meta_of B (before j) i g) ++ metas_given (files_along (agreed_files B) (before j)) (after j) i g)
+    metas i g = (λ j. last_in (accepted_meta_of B (before j) i g)
+        ++ metas_given (files_along (agreed_files B) (before j)) (after j) i g)
         ∙ append-nil (last_in (accepted_meta_of B H i g))
 
-    still : (i g : ℕ) → stands B H m i g ≡ (is_some (files_along (agreed_files B) H i) && eqb (generation_of (files_along (agreed_files B) H) i) g)
+    still : (i g : ℕ) → stands B H m i g
+        ≡ (is_some (files_along (agreed_files B) H i) && eqb (generation_of (files_along (agreed_files B) H) i) g)
     still i g = (λ j. is_some (files_along (agreed_files B) (before j) i)
         && (eqb (generation_of (files_along (agreed_files B) (before j)) i) g
         && not (list_any is_gone (metas_given (files_along (agreed_files B) (before j)) (after j) i g))))
-        ∙ and-true (is_some (files_along (agreed_files B) H i)) (eqb (generation_of (files_along (agreed_files B) H) i) g)
+        ∙ and-true (is_some (files_along (agreed_files B) H i))
+        (eqb (generation_of (files_along (agreed_files B) H) i) g)

@@ -1,5 +1,6 @@
 -- What is not agreed loses slots at most.
-use Rattle.std.proofs.Common.{◌≡◌, ℕ, ◌<◌, ◌≤◌, ◌⊎◌, inl, inr, Bool, true, false, Some, refl, sym, ap, ◌∙◌, subst, arith}
+use Rattle.std.proofs.Common.{◌≡◌, ℕ, ◌<◌, ◌≤◌, ◌⊎◌, inl, inr, Bool, true, false, Some, refl, sym, ap, ◌∙◌, subst}
+use Rattle.std.proofs.Common.{arith}
 use Rattle.nofs_model.specs.declared.image.path.PathAnswer.{PathAnswer}
 use Rattle.nofs_crashlaw.specs.Untouched.Frames.{OldPointers, Touches}
 use Rattle.nofs_model.proofs.OnSlots.Find.{agrees-true, find-held}
@@ -7,12 +8,14 @@ use Rattle.nofs_model.proofs.OnSlots.Paths.{path_of-slot}
 use Rattle.nofs_crashlaw.proofs.OnUntouched.Inodes.{one-owner}
 use Rattle.nofs_model.specs.declared.image.path.PathAnswer.TheVariants as answer
 use Rattle.nofs_model.specs.Cells.{Cell, Tag, Pointer, Record, tag_of, is_null, pointer_at, slot_limit}
-use Rattle.nofs_model.specs.Image.{super_in, Image, cell_at, super_at, is_data_block, inode, value, value_in, Path, InRecord, Under, path_of, tag_for}
+use Rattle.nofs_model.specs.Image.{super_in, Image, cell_at, super_at, is_data_block, inode, value, value_in, Path}
+use Rattle.nofs_model.specs.Image.{InRecord, Under, path_of, tag_for}
 use Rattle.nofs_model.specs.Image.{agrees, judged, find, pointer, record_pointer, IsSlot}
 use Rattle.nofs_model.specs.declared.image.value.Value.{Value}
 use Rattle.nofs_model.specs.declared.image.value.Value.TheVariants.{Lost}
 
-module _ (s : ℕ) (touched : ℕ → Bool) (X Y : Image) (w : Touches s touched X Y) (i : ℕ) (apart : touched i ≡ false) (old : OldPointers s X i) where
+module _ (s : ℕ) (touched : ℕ → Bool) (X Y : Image) (w : Touches s touched X Y) (i : ℕ) (apart : touched i ≡ false)
+    (old : OldPointers s X i) where
   same-super : super_at Y ≡ super_at X
   unfolding super_at
   same-super = ap (λ (c : Cell). super_in c.payload) w.super
@@ -26,7 +29,8 @@ module _ (s : ℕ) (touched : ℕ → Bool) (X Y : Image) (w : Touches s touched
   same-area : (p : ℕ) → is_data_block Y p ≡ is_data_block X p
   same-area p = rw same-super refl
 
-  fresh-tag : (a : Path) (x : Pointer) → x.stamp < s → ((t : Tag) → tag_of (cell_at Y x.block).tag ≡ Some t → s ≤ t.stamp) → agrees Y i a x ≡ false
+  fresh-tag : (a : Path) (x : Pointer)
+      → x.stamp < s → ((t : Tag) → tag_of (cell_at Y x.block).tag ≡ Some t → s ≤ t.stamp) → agrees Y i a x ≡ false
   fresh-tag a x lt fresh = go (agrees Y i a x) refl
     where
       go : (b : Bool) → agrees Y i a x ≡ b → agrees Y i a x ≡ false
@@ -38,13 +42,15 @@ module _ (s : ℕ) (touched : ℕ → Bool) (X Y : Image) (w : Touches s touched
 
   -- a block that is written in place is another's
   not-mine : (a : Path) (x : Pointer) → find X i a ≡ answer.Holds x
-      → ((j : ℕ) × (path : Path) × (y : Pointer) × (touched j ≡ true) × (find X j path ≡ answer.Holds y) × (y.block ≡ x.block)) → ⊥
+      → ((j : ℕ) × (path : Path) × (y : Pointer) × (touched j ≡ true) × (find X j path ≡ answer.Holds y)
+      × (y.block ≡ x.block)) → ⊥
   not-mine a x e (j, p, y, t, ey, eb) =
       let o = one-owner X j i p a y x ey e eb in
       let t' : touched i ≡ true = subst (λ (q : ℕ). touched q ≡ true) o.0 t in
       cc (apart, t')
 
-  agrees-by-tag : (a : Path) (x : Pointer) → tag_of (cell_at Y x.block).tag ≡ tag_of (cell_at X x.block).tag → agrees Y i a x ≡ agrees X i a x
+  agrees-by-tag : (a : Path) (x : Pointer)
+      → tag_of (cell_at Y x.block).tag ≡ tag_of (cell_at X x.block).tag → agrees Y i a x ≡ agrees X i a x
   agrees-by-tag a x e = rw (same-record, same-area x.block, e) refl
 
   agrees-or-not : (a : Path) (x : Pointer) → x.stamp < s → (agrees Y i a x ≡ agrees X i a x) ⊎ (agrees Y i a x ≡ false)
@@ -57,21 +63,24 @@ module _ (s : ℕ) (touched : ℕ → Bool) (X Y : Image) (w : Touches s touched
         | inr r ↦ elim r [ inl free ↦ inr (fresh-tag a x lt free.1) | inr own ↦ inl (agrees-by-tag a x own.0) ]
       ]
 
-  judged-or-broken : (a : Path) (x : Pointer) → x.stamp < s → (judged Y i a x ≡ judged X i a x) ⊎ (judged Y i a x ≡ answer.Lost)
+  judged-or-broken : (a : Path) (x : Pointer) → x.stamp < s → (judged Y i a x ≡ judged X i a x)
+      ⊎ (judged Y i a x ≡ answer.Lost)
   judged-or-broken a x lt = go (is_null x) refl
     where
       go : (n : Bool) → is_null x ≡ n → (judged Y i a x ≡ judged X i a x) ⊎ (judged Y i a x ≡ answer.Lost)
       go true e = inl (rw e refl)
       go false e = elim (agrees-or-not a x lt) [ inl same ↦ inl (rw same refl) | inr not ↦ inr (rw (e, not) refl) ]
 
-  kept-cell : (a : Path) (y : Pointer) → y.stamp < s → find X i a ≡ answer.Holds y → find Y i a ≡ answer.Holds y → cell_at Y y.block ≡ cell_at X y.block
+  kept-cell : (a : Path) (y : Pointer) → y.stamp < s → find X i a ≡ answer.Holds y → find Y i a ≡ answer.Holds y
+      → cell_at Y y.block ≡ cell_at X y.block
   kept-cell a y lt ex ey =
       let hx = find-held X i a y ex in
       let hy = find-held Y i a y ey in
       elim (w.blocks y.block hx.agrees.area) [
         | inl same ↦ same
         | inr r ↦ elim r [
-          | inl free ↦ (let le : s ≤ y.stamp = free.1 (tag_for Y i a y.stamp) hy.agrees.tag in absurd (omega (arith, le, lt)))
+          | inl free ↦
+              (let le : s ≤ y.stamp = free.1 (tag_for Y i a y.stamp) hy.agrees.tag in absurd (omega (arith, le, lt)))
           | inr own ↦ absurd (not-mine a y ex own.1)
         ]
       ]
@@ -81,7 +90,8 @@ module _ (s : ℕ) (touched : ℕ → Bool) (X Y : Image) (w : Touches s touched
 
   pub same-or-broken : (path : Path) → IsSlot path → (find Y i path ≡ find X i path) ⊎ (find Y i path ≡ answer.Lost)
   same-or-broken (InRecord n) slot =
-      let p : record_pointer (inode Y i) n ≡ record_pointer (inode X i) n = ap (λ (r : Record). record_pointer r n) same-record in
+      let p : record_pointer (inode Y i) n ≡ record_pointer (inode X i) n =
+      ap (λ (r : Record). record_pointer r n) same-record in
       elim (judged-or-broken (InRecord n) (record_pointer (inode X i) n) (old (InRecord n) slot)) [
         | inl e ↦ inl (ap (λ (q : Pointer). judged Y i (InRecord n) q) p ∙ e)
         | inr e ↦ inr (ap (λ (q : Pointer). judged Y i (InRecord n) q) p ∙ e)
@@ -96,9 +106,11 @@ module _ (s : ℕ) (touched : ℕ → Bool) (X Y : Image) (w : Touches s touched
       under (inl same) (answer.Holds z) e =
           let y : find Y i a ≡ answer.Holds z = same ∙ e in
           let c = kept-cell a z (old-held a z slot.2 e) e y in
-          let p : pointer_at (cell_at Y z.block).payload n ≡ pointer_at (cell_at X z.block).payload n = ap (λ (q : Cell). pointer_at q.payload n) c in
+          let p : pointer_at (cell_at Y z.block).payload n ≡ pointer_at (cell_at X z.block).payload n =
+          ap (λ (q : Cell). pointer_at q.payload n) c in
           let px : pointer X i (Under a n) ≡ pointer_at (cell_at X z.block).payload n = rw (e, pointer) refl in
-          let lt : (pointer_at (cell_at X z.block).payload n).stamp < s = subst (λ (q : Pointer). q.stamp < s) px (old (Under a n) slot) in
+          let lt : (pointer_at (cell_at X z.block).payload n).stamp < s =
+          subst (λ (q : Pointer). q.stamp < s) px (old (Under a n) slot) in
           elim (judged-or-broken (Under a n) (pointer_at (cell_at X z.block).payload n) lt) [
             | inl j ↦ inl (rw (e, y, find) (ap (λ (q : Pointer). judged Y i (Under a n) q) p ∙ j))
             | inr j ↦ inr (rw (y, find) (ap (λ (q : Pointer). judged Y i (Under a n) q) p ∙ j))
@@ -111,9 +123,13 @@ module _ (s : ℕ) (touched : ℕ → Bool) (X Y : Image) (w : Touches s touched
     | inr broken ↦ inr (ap (λ (q : PathAnswer). value_in Y q) broken)
   ]
     where
-      go : (f : PathAnswer) → find X i (path_of k) ≡ f → find Y i (path_of k) ≡ find X i (path_of k) → value Y i k ≡ value X i k
-      go answer.Hole e same = ap (λ (q : PathAnswer). value_in Y q) (same ∙ e) ∙ sym (ap (λ (q : PathAnswer). value_in X q) e)
-      go answer.Lost e same = ap (λ (q : PathAnswer). value_in Y q) (same ∙ e) ∙ sym (ap (λ (q : PathAnswer). value_in X q) e)
+      go : (f : PathAnswer) → find X i (path_of k) ≡ f → find Y i (path_of k) ≡ find X i (path_of k)
+          → value Y i k ≡ value X i k
+      go answer.Hole e same = ap (λ (q : PathAnswer). value_in Y q) (same ∙ e)
+          ∙ sym (ap (λ (q : PathAnswer). value_in X q) e)
+      go answer.Lost e same = ap (λ (q : PathAnswer). value_in Y q) (same ∙ e)
+          ∙ sym (ap (λ (q : PathAnswer). value_in X q) e)
       go (answer.Holds z) e same =
           let c = kept-cell (path_of k) z (old-held (path_of k) z (path_of-slot k lt) e) e (same ∙ e) in
-          ap (λ (q : PathAnswer). value_in Y q) (same ∙ e) ∙ ap (λ (q : Cell). Value.Bytes q.payload) c ∙ sym (ap (λ (q : PathAnswer). value_in X q) e)
+          ap (λ (q : PathAnswer). value_in Y q) (same ∙ e) ∙ ap (λ (q : Cell). Value.Bytes q.payload) c
+          ∙ sym (ap (λ (q : PathAnswer). value_in X q) e)

@@ -1,6 +1,7 @@
 -- What is live and not agreed stays the base's, as far as it is still there.
 use Rattle.nofs_crashlaw.specs.Histories.Laws.{LawRest}
-use Rattle.std.proofs.Common.{◌≡◌, ℕ, ◌⊎◌, inl, inr, Bool, true, false, List, [], ◌∷◌, ◌++◌, Option, Some, None, is_some, option_to_list, refl, sym, ap, ◌∙◌}
+use Rattle.std.proofs.Common.{◌≡◌, ℕ, ◌⊎◌, inl, inr, Bool, true, false, List, [], ◌∷◌, ◌++◌, Option, Some, None}
+use Rattle.std.proofs.Common.{is_some, option_to_list, refl, sym, ap, ◌∙◌}
 use Rattle.std.proofs.Common.{subst}
 use Rattle.nofs_crashlaw.specs.Untouched.Frames.{OldPointers, Touches}
 use Rattle.nofs_crashlaw.proofs.OnLives.Images.{values-append, metas-append}
@@ -21,10 +22,13 @@ pub rest-stays : (B : Image) (H : List Entry1) (e : Entry1) (s : ℕ) (touched :
     → ((i : ℕ) → is_live (inode X i) ≡ true → OldPointers s X i)
     → ((i : ℕ) → touched i ≡ true → is_live (inode Y i) ≡ true → is_some (E i) ≡ true)
     → ((i : ℕ) → touched i ≡ false → is_some (files_along (agreed_files B) H i) ≡ true → is_some (E i) ≡ true)
-    → ((i g k : ℕ) → touched i ≡ false → is_some (files_along (agreed_files B) H i) ≡ false → (given_by (files_along (agreed_files B) H) e).slots i g k ≡ None)
-    → ((i g : ℕ) → touched i ≡ false → is_some (files_along (agreed_files B) H i) ≡ false → (given_by (files_along (agreed_files B) H) e).metas i g ≡ None)
+    → ((i g k : ℕ) → touched i ≡ false → is_some (files_along (agreed_files B) H i) ≡ false
+    → (given_by (files_along (agreed_files B) H) e).slots i g k ≡ None)
+    → ((i g : ℕ) → touched i ≡ false → is_some (files_along (agreed_files B) H i) ≡ false
+    → (given_by (files_along (agreed_files B) H) e).metas i g ≡ None)
     → SteadyRest B (H ++ e ∷ []) Y
-rest-stays B H e s touched X Y E rest before after w old owned stays quiet quiet_meta i live a = by-touch (touched i) refl
+rest-stays B H e s touched X Y E rest before after w old owned stays quiet quiet_meta i live a =
+    by-touch (touched i) refl
   where
     not-in : is_some (E i) ≡ true → ⊥
     not-in h = let m = (matched-file E Y i after h).agreed in cc (m, a)
@@ -35,10 +39,12 @@ rest-stays B H e s touched X Y E rest before after w old owned stays quiet quiet
         let live_x : is_live (inode X i) ≡ true = subst (λ (q : Record). is_live q ≡ true) r live in
         out r live_x (is_some (files_along (agreed_files B) H i)) refl (agreed (files_in X) i) refl
       where
-        out : inode Y i ≡ inode X i → is_live (inode X i) ≡ true → (b : Bool) → is_some (files_along (agreed_files B) H i) ≡ b → (c : Bool)
+        out : inode Y i ≡ inode X i
+            → is_live (inode X i) ≡ true → (b : Bool) → is_some (files_along (agreed_files B) H i) ≡ b → (c : Bool)
             → agreed (files_in X) i ≡ c → Untouched B (H ++ e ∷ []) Y i
         out r lx true eb c ec = absurd (not-in (stays i t eb))
-        out r lx false eb true ec = absurd (let m = matched-agreed (files_along (agreed_files B) H) X i before lx ec in some-none
+        out r lx false eb true ec =
+            absurd (let m = matched-agreed (files_along (agreed_files B) H) X i before lx ec in some-none
             (files_along (agreed_files B) H i) m.file m.is eb)
           where
             some-none : (o : Option FileState) (f : FileState) → o ≡ Some f → is_some o ≡ false → ⊥
@@ -60,7 +66,8 @@ rest-stays B H e s touched X Y E rest before after w old owned stays quiet quiet
               values = λ k lt. value-case k (u.values k lt) (value-or-lost s touched X Y w i t (old i lx) k lt);
             }
           where
-            value-case : (k : ℕ) → (value X i k ≡ value B i k) ⊎ (value X i k ≡ Lost) → (value Y i k ≡ value X i k) ⊎ (value Y i k ≡ Lost)
+            value-case : (k : ℕ) → (value X i k ≡ value B i k) ⊎ (value X i k ≡ Lost)
+                → (value Y i k ≡ value X i k) ⊎ (value Y i k ≡ Lost)
                 → (value Y i k ≡ value B i k) ⊎ (value Y i k ≡ Lost)
             value-case k p (inr lost) = inr lost
             value-case k (inl base) (inl same) = inl (same ∙ base)
@@ -71,4 +78,5 @@ rest-stays B H e s touched X Y E rest before after w old owned stays quiet quiet
     by-touch false t = untouched t
 
 pub law-rest : LawRest
-law-rest B H e s touched X Y E rest p = rest-stays B H e s touched X Y E rest p.before p.after p.touches p.old p.owned p.stays p.no_value p.no_meta
+law-rest B H e s touched X Y E rest p =
+    rest-stays B H e s touched X Y E rest p.before p.after p.touches p.old p.owned p.stays p.no_value p.no_meta

@@ -1,5 +1,6 @@
 -- Any step: where all that it puts on the disk is proper, every image at every moment is allowed.
-use Rattle.std.proofs.Common.{◌≡◌, ℕ, suc, ◌+◌, ◌<◌, ◌≤◌, inl, inr, Bool, true, false, cond, ltb, ltb-true, leb, zero, ◌&&◌, List, [], ◌∷◌, ◌++◌, length}
+use Rattle.std.proofs.Common.{◌≡◌, ℕ, suc, ◌+◌, ◌<◌, ◌≤◌, inl, inr, Bool, true, false, cond, ltb, ltb-true, leb, zero}
+use Rattle.std.proofs.Common.{◌&&◌, List, [], ◌∷◌, ◌++◌, length}
 use Rattle.std.proofs.Common.{IsTrue, refl, sym, ap, ◌∙◌, subst, subst₂, arith, Contains}
 use Rattle.std.proofs.lemmas.Bool.{cases_lt}
 use Rattle.nofs_disk.specs.Disk.{DiskState, IsDisk, Picks, cell_at}
@@ -43,7 +44,8 @@ all-begun (e ∷ es) n m lt by =
 pub le-test : (a b : ℕ) → a ≤ b → leb a b ≡ true
 le-test a b h = grind arith
 
-pub same-marks : (H : List Entry1) (n l m at best : ℕ) → n ≤ l → n ≤ m → AllBy H n → mark_from H m at best ≡ mark_from H l at best
+pub same-marks : (H : List Entry1) (n l m at best : ℕ) → n ≤ l → n ≤ m → AllBy H n
+    → mark_from H m at best ≡ mark_from H l at best
 same-marks [] n l m at best hl hm by = refl
 same-marks (e ∷ es) n l m at best hl hm by =
     let a : leb e.to m ≡ true = le-test e.to m (let x = by.1 in omega arith) in
@@ -58,7 +60,8 @@ pub by-append : (H : List Entry1) (e : Entry1) (m : ℕ) → AllBy H m → e.fro
 by-append [] e m by from to = (from, to, tt)
 by-append (h ∷ H) e m by from to = (by.0, by.1, by-append H e m by.2 from to)
 
-pub begun-append : (H : List Entry1) (e : Entry1) (n m : ℕ) → n < m → AllBy H n → e.from < m → begun (H ++ e ∷ []) m ≡ H ++ e ∷ []
+pub begun-append : (H : List Entry1) (e : Entry1) (n m : ℕ) → n < m → AllBy H n
+    → e.from < m → begun (H ++ e ∷ []) m ≡ H ++ e ∷ []
 begun-append [] e n m lt by low = let t : ltb e.from m ≡ true = lt-test e.from m low in rw t refl
   where
     lt-test : (a b : ℕ) → a < b → ltb a b ≡ true
@@ -73,18 +76,23 @@ begun-append (h ∷ H) e n m lt by low =
 pub mark-plain : (H : List Entry1) (e : Entry1) (m at best : ℕ) → (is_flushed e.reply && leb e.to m) ≡ false
     → mark_from (H ++ e ∷ []) m at best ≡ mark_from H m at best
 mark-plain [] e m at best plain = rw plain refl
-mark-plain (h ∷ H) e m at best plain = mark-plain H e m (suc at) (cond (is_flushed h.reply && leb h.to m) (suc at) best) plain
+mark-plain (h ∷ H) e m at best plain =
+    mark-plain H e m (suc at) (cond (is_flushed h.reply && leb h.to m) (suc at) best) plain
 
 -- what a step keeps that begins from a stage, at a moment of it before any flush is done
-pub stage-keeps : (B : Image) (H : List Entry1) (e : Entry1) (M : Image) (S start s : ℕ) (old : DiskState) → IsDisk old → IsTrue old.tells
-    → Stage B H M S start s old → (m : ℕ) → old.moment < m → e.from ≡ old.moment → (is_flushed e.reply && leb e.to m) ≡ false → (after : ℕ → List Cell)
-    → OnlyProper (during (mark_at B H (old.moment + 1) M S) (given_by (files_along (agreed_files B) H) e)) old.now old.may after
+pub stage-keeps : (B : Image) (H : List Entry1) (e : Entry1) (M : Image) (S start s : ℕ) (old : DiskState) → IsDisk old
+    → IsTrue old.tells
+    → Stage B H M S start s old → (m : ℕ)
+    → old.moment < m → e.from ≡ old.moment → (is_flushed e.reply && leb e.to m) ≡ false → (after : ℕ → List Cell)
+    → OnlyProper (during (mark_at B H (old.moment + 1) M S) (given_by (files_along (agreed_files B) H) e))
+    old.now old.may after
     → StepKeeps B H e (old.moment + 1) m M S after
 stage-keeps B H e M S start s old is_old tells st m lt from plain after proper =
     let under_way : IsUnderWay H e (old.moment + 1) m = record {
       all_begun = all-begun H old.moment (old.moment + 1) (omega arith) st.lasts.by;
       begun_now = begun-append H e old.moment m lt st.lasts.by (omega arith);
-      same_mark = mark-plain H e m 0 0 plain ∙ same-marks H old.moment (old.moment + 1) m 0 0 (omega arith) (omega arith) st.lasts.by;
+      same_mark = mark-plain H e m 0 0 plain
+          ∙ same-marks H old.moment (old.moment + 1) m 0 0 (omega arith) (omega arith) st.lasts.by;
       mark_within = (let w = mark-within H (old.moment + 1) 0 0 (omega arith) in omega (arith, w));
     } in
     step-allowed B H e (old.moment + 1) m M S old.may after old.now (record {
@@ -98,12 +106,15 @@ stage-keeps B H e M S start s old is_old tells st m lt from plain after proper =
       proper = proper;
     })
 
-module _ (B : Image) (H : List Entry1) (e : Entry1) (M : Image) (S start s : ℕ) (old new : DiskState) (is_old : IsDisk old) (tells : IsTrue old.tells)
+module _ (B : Image) (H : List Entry1) (e : Entry1) (M : Image) (S start s : ℕ) (old new : DiskState)
+    (is_old : IsDisk old) (tells : IsTrue old.tells)
     (st : Stage B H M S start s old)
     (from : e.from ≡ old.moment) (to : e.to ≡ new.moment) (plain : is_flushed e.reply ≡ false)
-    (adds : Adds (Proper (during (mark_at B H (old.moment + 1) M S) (given_by (files_along (agreed_files B) H) e)) old.now) old new) where
+    (adds : Adds (Proper (during (mark_at B H (old.moment + 1) M S) (given_by (files_along (agreed_files B) H) e))
+    old.now) old new) where
   keeps-at : (m : ℕ) → old.moment < m → (after : ℕ → List Cell)
-      → OnlyProper (during (mark_at B H (old.moment + 1) M S) (given_by (files_along (agreed_files B) H) e)) old.now old.may after
+      → OnlyProper (during (mark_at B H (old.moment + 1) M S) (given_by (files_along (agreed_files B) H) e))
+      old.now old.may after
       → StepKeeps B H e (old.moment + 1) m M S after
   keeps-at m lt = stage-keeps B H e M S start s old is_old tells st m lt from (λ j. plain j && leb e.to m)
 
@@ -117,11 +128,13 @@ module _ (B : Image) (H : List Entry1) (e : Entry1) (M : Image) (S start s : ℕ
   new-image m X low high left = (keeps-at m low (these X old.blocks) only).allowed X picks
     where
       got : (length X ≡ old.blocks) × ((b : ℕ) → b < old.blocks
-          → WasOr (Proper (during (mark_at B H (old.moment + 1) M S) (given_by (files_along (agreed_files B) H) e)) old.now) old b (cell_at X b))
+          → WasOr (Proper (during (mark_at B H (old.moment + 1) M S) (given_by (files_along (agreed_files B) H) e))
+          old.now) old b (cell_at X b))
       got = adds.left m X low high left
 
       only-at : (b : ℕ) (c : Cell) (t : Bool) → ltb b old.blocks ≡ t → Contains (cond t (cell_at X b ∷ []) []) c
-          → WasOr (Proper (during (mark_at B H (old.moment + 1) M S) (given_by (files_along (agreed_files B) H) e)) old.now) old b c
+          → WasOr (Proper (during (mark_at B H (old.moment + 1) M S) (given_by (files_along (agreed_files B) H) e))
+          old.now) old b c
       only-at b c false t has = absurd (none has)
         where
           none : Contains [] c → ⊥
@@ -129,21 +142,24 @@ module _ (B : Image) (H : List Entry1) (e : Entry1) (M : Image) (S start s : ℕ
       only-at b c true t has =
           let lt : b < old.blocks = ltb-true b old.blocks t in
           let same : c ≡ cell_at X b = one has in
-          subst (λ (q : Cell). WasOr (Proper (during (mark_at B H (old.moment + 1) M S) (given_by (files_along (agreed_files B) H) e)) old.now) old b q)
+          subst (λ (q : Cell). WasOr (Proper
+          (during (mark_at B H (old.moment + 1) M S) (given_by (files_along (agreed_files B) H) e)) old.now) old b q)
           (sym same) (got.1 b lt)
         where
           one : Contains (cell_at X b ∷ []) c → c ≡ cell_at X b
           one (suc k, low, is) = absurd (omega arith)
           one (zero, low, is) = sym is
 
-      only : OnlyProper (during (mark_at B H (old.moment + 1) M S) (given_by (files_along (agreed_files B) H) e)) old.now old.may (these X old.blocks)
+      only : OnlyProper (during (mark_at B H (old.moment + 1) M S) (given_by (files_along (agreed_files B) H) e))
+          old.now old.may (these X old.blocks)
       only b c has = only-at b c (ltb b old.blocks) refl has
 
       picks : Picks (these X old.blocks) (length M) X
       picks = record {
         len = got.0 ∙ sym st.ready.survives.size;
         each = λ b lt.
-            let t : ltb b old.blocks ≡ true = ltb-from b old.blocks (let q = st.ready.survives.size in omega (arith, lt, q)) in
+            let t : ltb b old.blocks ≡ true =
+            ltb-from b old.blocks (let q = st.ready.survives.size in omega (arith, lt, q)) in
             subst (λ (v : Bool). Contains (cond v (cell_at X b ∷ []) []) (cell_at X b)) (sym t) (0, omega arith, refl);
       }
 
@@ -162,13 +178,15 @@ module _ (B : Image) (H : List Entry1) (e : Entry1) (M : Image) (S start s : ℕ
   lasts-step = record {
     size = st.lasts.size;
     first = st.lasts.first;
-    by = by-append H e new.moment (by-more H old.moment new.moment adds.later st.lasts.by) (let q = adds.later in omega arith) (omega arith);
+    by = by-append H e new.moment (by-more H old.moment new.moment adds.later st.lasts.by)
+        (let q = adds.later in omega arith) (omega arith);
     survives = survives-step;
     images = images-step;
   }
 
   -- where the files are those after the step, the next step may begin
-  pub stage-step : (t : ℕ) → HasFiles new (files_by (files_along (agreed_files B) H) e) t → Stage B (H ++ e ∷ []) M S start t new
+  pub stage-step : (t : ℕ) → HasFiles new (files_by (files_along (agreed_files B) H) e) t
+      → Stage B (H ++ e ∷ []) M S start t new
   stage-step t has = record {
     lasts = lasts-step;
     ready = record {
@@ -182,14 +200,17 @@ module _ (B : Image) (H : List Entry1) (e : Entry1) (M : Image) (S start s : ℕ
 -- The laws
 
 pub law-lasts : (old new : DiskState) → LawLasts old new
-law-lasts old new B H e M S start s p adds = lasts-step B H e M S start s old new p.disk p.tells p.stage p.from p.to p.no_flush adds
+law-lasts old new B H e M S start s p adds =
+    lasts-step B H e M S start s old new p.disk p.tells p.stage p.from p.to p.no_flush adds
 
 pub law-stage : (old new : DiskState) → LawStage old new
-law-stage old new B H e M S start s t p adds ready = stage-step B H e M S start s old new p.disk p.tells p.stage p.from p.to p.no_flush adds t ready
+law-stage old new B H e M S start s t p adds ready =
+    stage-step B H e M S start s old new p.disk p.tells p.stage p.from p.to p.no_flush adds t ready
 
 pub law-idle-stage : (old new : DiskState) → LawIdleStage old new
 law-idle-stage old new B H e M S start s p stays files =
-    law-stage old new B H e M S start s s p (Adds-stays (Proper (during (mark_at B H (old.moment + 1) M S) (given_by (files_along (agreed_files B) H) e))
+    law-stage old new B H e M S start s s p
+    (Adds-stays (Proper (during (mark_at B H (old.moment + 1) M S) (given_by (files_along (agreed_files B) H) e))
     old.now) old new stays)
     (record {
       files = subst₂ (λ (F : Files) (X : Image). FilesMatch F X) (sym files) (sym stays.cells.now) p.stage.ready.files;
@@ -201,4 +222,5 @@ law-idle-stage old new B H e M S start s p stays files =
 
 pub law-tracked : (d : DiskState) → LawTracked d
 law-tracked old B H M S start s st i g stood = (matched-file (files_along (agreed_files B) H) old.now i st.ready.files
-    (stands-now B H (old.moment + 1) i g (all-begun H old.moment (old.moment + 1) (omega arith) st.lasts.by) stood)).agreed
+    (stands-now B H (old.moment + 1) i g
+    (all-begun H old.moment (old.moment + 1) (omega arith) st.lasts.by) stood)).agreed

@@ -1,5 +1,6 @@
 -- Until a flush has succeeded, the base is among what a crash may leave.
-use Rattle.std.proofs.Common.{◌≡◌, ◌≢◌, ℕ, true, false, cond, eqb, ◌&&◌, not, List, [], ◌∷◌, ◌++◌, take, Option, Some, None, is_some, inr, refl, sym, ap, ◌∙◌}
+use Rattle.std.proofs.Common.{◌≡◌, ◌≢◌, ℕ, true, false, cond, eqb, ◌&&◌, not, List, [], ◌∷◌, ◌++◌, take, Option, Some}
+use Rattle.std.proofs.Common.{None, is_some, inr, refl, sym, ap, ◌∙◌}
 use Rattle.std.proofs.Common.{subst, arith, Contains, eqb-true, eq-eqb}
 use Rattle.std.specs.List.{list_any}
 use Rattle.std.proofs.lemmas.List.Elements.{Contains-append_left}
@@ -10,8 +11,10 @@ use Rattle.nofs_crashlaw.proofs.OnUntouched.Matches.{matched-file, gen-of}
 use Rattle.nofs_history.specs.Meta.{Meta, meta_of, is_bytes, is_gone}
 use Rattle.nofs_history.specs.declared.machine.history.Entry1.{Entry1}
 use Rattle.nofs_history.specs.Machine.{generation_of}
-use Rattle.nofs_history.specs.History.{SameFile, FilesMatch, agreed_files, files_along, accepted_of, accepted_meta_of, last_in, is_generation, mark}
-use Rattle.nofs_history.specs.History.{before_mark, since_mark, files_at_mark, values_given, metas_given, since, since_meta, stands}
+use Rattle.nofs_history.specs.History.{SameFile, FilesMatch, agreed_files, files_along, accepted_of, accepted_meta_of}
+use Rattle.nofs_history.specs.History.{last_in, is_generation, mark}
+use Rattle.nofs_history.specs.History.{before_mark, since_mark, files_at_mark, values_given, metas_given, since}
+use Rattle.nofs_history.specs.History.{since_meta, stands}
 use Rattle.nofs_history.specs.Since.{IsSure}
 use Rattle.nofs_history.specs.Allowed.{HasVersions}
 use Rattle.nofs_model.specs.Cells.{is_live}
@@ -21,7 +24,14 @@ use Rattle.nofs_model.specs.declared.image.value.Value.TheVariants.{Lost}
 
 same-itself : (o : Option FileState) → SameFile o o
 same-itself None = tt
-same-itself (Some f) = record { generation = refl; kind = refl; size = refl; links = refl; values = λ k lt. refl; nodes = λ path is points. refl }
+same-itself (Some f) = record {
+  generation = refl;
+  kind = refl;
+  size = refl;
+  links = refl;
+  values = λ k lt. refl;
+  nodes = λ path is points. refl;
+}
 
 -- the files of an image are its files
 pub self-match : (B : Image) → FilesMatch (agreed_files B) B
@@ -37,15 +47,18 @@ module _ (B : Image) (H : List Entry1) (m : ℕ) (none : mark H m ≡ 0) where
   has-value : (i k : ℕ) → is_live (inode B i) ≡ true → Contains (since B H m i (inode B i).generation k) (value B i k)
   has-value i k live =
       let e : last_in (accepted_of B (before_mark H m) i (inode B i).generation k) ≡ value B i k ∷ [] =
-      (λ j. last_in (accepted_of B (before j) i (inode B i).generation k)) ∙ (λ j. last_in (cond (is-of i live j) (value B i k ∷ []) [] ++ [])) in
+      (λ j. last_in (accepted_of B (before j) i (inode B i).generation k))
+      ∙ (λ j. last_in (cond (is-of i live j) (value B i k ∷ []) [] ++ [])) in
       Contains-append_left (last_in (accepted_of B (before_mark H m) i (inode B i).generation k))
       (values_given (files_at_mark B H m) (since_mark H m) i (inode B i).generation k) (value B i k)
       (subst (λ (vs : List Value). Contains vs (value B i k)) (sym e) (0, omega arith, refl))
 
-  has-meta : (i : ℕ) → is_live (inode B i) ≡ true → Contains (since_meta B H m i (inode B i).generation) (meta_of (inode B i))
+  has-meta : (i : ℕ)
+      → is_live (inode B i) ≡ true → Contains (since_meta B H m i (inode B i).generation) (meta_of (inode B i))
   has-meta i live =
       let e : last_in (accepted_meta_of B (before_mark H m) i (inode B i).generation) ≡ meta_of (inode B i) ∷ [] =
-      (λ j. last_in (accepted_meta_of B (before j) i (inode B i).generation)) ∙ (λ j. last_in (cond (is-of i live j) (meta_of (inode B i) ∷ []) [] ++ [])) in
+      (λ j. last_in (accepted_meta_of B (before j) i (inode B i).generation))
+      ∙ (λ j. last_in (cond (is-of i live j) (meta_of (inode B i) ∷ []) [] ++ [])) in
       Contains-append_left (last_in (accepted_meta_of B (before_mark H m) i (inode B i).generation))
       (metas_given (files_at_mark B H m) (since_mark H m) i (inode B i).generation) (meta_of (inode B i))
       (subst (λ (vs : List Meta). Contains vs (meta_of (inode B i))) (sym e) (0, omega arith, refl))
@@ -54,14 +67,17 @@ module _ (B : Image) (H : List Entry1) (m : ℕ) (none : mark H m ≡ 0) where
   files-now = ap (λ (es : List Entry1). files_along (agreed_files B) es) before
 
   -- what stands is an agreed file of the base
-  stood : (i g : ℕ) → stands B H m i g ≡ true → (is_some (agreed_files B i) ≡ true) × (generation_of (agreed_files B) i ≡ g)
+  stood : (i g : ℕ) → stands B H m i g ≡ true → (is_some (agreed_files B i) ≡ true)
+      × (generation_of (agreed_files B) i ≡ g)
   stood i g s =
       let a = and-both (is_some (files_at_mark B H m i)) (eqb (generation_of (files_at_mark B H m) i) g
       && not (list_any is_gone (metas_given (files_at_mark B H m) (since_mark H m) i g))) s in
-      let b = and-both (eqb (generation_of (files_at_mark B H m) i) g) (not (list_any is_gone (metas_given (files_at_mark B H m) (since_mark H m) i g)))
+      let b = and-both (eqb (generation_of (files_at_mark B H m) i) g)
+      (not (list_any is_gone (metas_given (files_at_mark B H m) (since_mark H m) i g)))
       a.1 in (
         subst (λ (F : Files). is_some (F i) ≡ true) files-now a.0,
-        eqb-true (generation_of (agreed_files B) i) g (subst (λ (F : Files). eqb (generation_of F i) g ≡ true) files-now b.0),
+        eqb-true (generation_of (agreed_files B) i) g
+            (subst (λ (F : Files). eqb (generation_of F i) g ≡ true) files-now b.0),
       )
 
   in-base : (i g : ℕ) → stands B H m i g ≡ true → (is_live (inode B i) ≡ true) × ((inode B i).generation ≡ g)
@@ -73,7 +89,8 @@ module _ (B : Image) (H : List Entry1) (m : ℕ) (none : mark H m ≡ 0) where
   not-lost : (i g k : ℕ) → stands B H m i g ≡ true → IsSure B H m i g k → value B i k ≢ Lost
   not-lost i g k s sure lost =
       let b = in-base i g s in
-      let here : Contains (since B H m i g k) (value B i k) = subst (λ (q : ℕ). Contains (since B H m i q k) (value B i k)) b.1 (has-value i k b.0) in
+      let here : Contains (since B H m i g k) (value B i k) =
+      subst (λ (q : ℕ). Contains (since B H m i q k) (value B i k)) b.1 (has-value i k b.0) in
       let t = sure (value B i k) here in
       let f : is_bytes (value B i k) ≡ false = ap is_bytes lost in
       cc (t, f)
@@ -88,4 +105,5 @@ versions B H m none = record {
 }
 
 pub law-unflushed : LawUnflushed
-law-unflushed B H m none = record { len = refl; versions = versions B H m none; names = names-stay B H m B (versions B H m none) }
+law-unflushed B H m none =
+    record { len = refl; versions = versions B H m none; names = names-stay B H m B (versions B H m none) }

@@ -1,7 +1,9 @@
 -- A new entry in a hole: the directory's slots after it, and where the claimed blocks stand.
-use Rattle.std.proofs.Common.{◌≡◌, ◌≢◌, ℕ, ◌+◌, ◌-◌, ◌<◌, ◌≤◌, ◌⊎◌, inl, inr, false, true, eqb, ◌||◌, Some, refl, sym, ap, ◌∙◌, subst, arith, ne_eqb}
+use Rattle.std.proofs.Common.{◌≡◌, ◌≢◌, ℕ, ◌+◌, ◌-◌, ◌<◌, ◌≤◌, ◌⊎◌, inl, inr, false, true, eqb, ◌||◌, Some, refl, sym}
+use Rattle.std.proofs.Common.{ap, ◌∙◌, subst, arith, ne_eqb}
 use Rattle.nofs_model.specs.Cells.{Pointer, Record}
-use Rattle.nofs_model.specs.Image.{Image, is_data_block, inode, files_in, agreed, Path, InRecord, Under, leaf, path_of, find, FileState, Files}
+use Rattle.nofs_model.specs.Image.{Image, is_data_block, inode, files_in, agreed, Path, InRecord, Under, leaf, path_of}
+use Rattle.nofs_model.specs.Image.{find, FileState, Files}
 use Rattle.nofs_model.specs.Image.{node_in, NodeState, Absent, Present, Damaged, home_at, IsAbove, IsSlot}
 use Rattle.nofs_model.specs.declared.image.path.PathAnswer.{PathAnswer}
 use Rattle.nofs_model.specs.declared.image.path.PathAnswer.TheVariants as answer
@@ -30,7 +32,8 @@ use Rattle.nofs_crashlaw.proofs.OnNames.Holes.{hole-cell}
 use Rattle.nofs_crashlaw.proofs.OnHomes.Slots.{Counted, needed-hole, node-here}
 
 is-claimed : (X : Image) (x : Pointer) → is_data_block X x.block ≡ true → is_claimed x ≡ true
-is-claimed X x area = let p = data-positive X x.block area in let z = ne_eqb x.block 0 (λ e. omega (arith, e, p)) in rw z refl
+is-claimed X x area = let p = data-positive X x.block area in
+    let z = ne_eqb x.block 0 (λ e. omega (arith, e, p)) in rw z refl
 
 -- the blocks that an absent block of pointers asks for
 abbrev absent : NodeState → ℕ
@@ -50,7 +53,8 @@ module _ (s : ℕ) (F : Files) (c : Claims) (X Y : Image) (d i k : ℕ) (f : Fil
 
   -- what is needed is what is claimed
   count-is : (n : ℕ) → absent_above F d (path_of k) ≡ n → Counted c (1 + n)
-  count-is n e = subst (Counted c) (needed-hole F X d k f match is (omega (arith, range)) empty ∙ ap (λ (q : ℕ). 1 + q) e) count
+  count-is n e =
+      subst (Counted c) (needed-hole F X d k f match is (omega (arith, range)) empty ∙ ap (λ (q : ℕ). 1 + q) e) count
 
   -- a slot above the entry's, that held, or held nothing and is claimed
   abbrev Was : Path → Pointer → Type 0
@@ -64,7 +68,8 @@ module _ (s : ℕ) (F : Files) (c : Claims) (X Y : Image) (d i k : ℕ) (f : Fil
   )
 
   -- where the path p of slot k grows
-  module _ (p : Path) (at : Path → Pointer) (slot : path_of k ≡ p) (w : NameWrites s d i X Y) (meta : SameMeta X Y d) (r : Grows s X Y d p at) where
+  module _ (p : Path) (at : Path → Pointer) (slot : path_of k ≡ p) (w : NameWrites s d i X Y) (meta : SameMeta X Y d)
+      (r : Grows s X Y d p at) where
     changes : Rewrites s X Y
     changes = rewrites s (λ j. eqb j d || eqb j i) X Y (touches-of s d i X Y w)
 
@@ -72,20 +77,24 @@ module _ (s : ℕ) (F : Files) (c : Claims) (X Y : Image) (d i k : ℕ) (f : Fil
     same = record { live = own.live; kind = meta.kind; generation = meta.generation }
 
     on : (a : Path) → IsAbove a p → find Y d a ≡ answer.Holds (at a)
-    on = on-path s X Y d changes own.agreed same old p at r.placed r.not_null r.area r.tag r.record_stays r.beside r.apart
+    on = on-path s X Y d changes own.agreed same old p at r.placed r.not_null r.area r.tag r.record_stays
+        r.beside r.apart
 
     off : (a : Path) → IsSlot a → (IsAbove a p → ⊥) → find Y d a ≡ find X d a
-    off = off-path s X Y d changes own.agreed same old p at r.placed r.not_null r.area r.tag r.record_stays r.beside r.apart
+    off = off-path s X Y d changes own.agreed same old p at r.placed r.not_null r.area r.tag r.record_stays
+        r.beside r.apart
 
     -- the cell stands in the slot of p, and the leaf above it
-    grown-stands : at p ≡ x → (is_claimed c.leaf ≡ true → IsAbove (slot_above p) p × (at (slot_above p) ≡ y)) → is_claimed c.top ≡ false
+    grown-stands : at p ≡ x → (is_claimed c.leaf ≡ true → IsAbove (slot_above p) p × (at (slot_above p) ≡ y))
+        → is_claimed c.top ≡ false
         → ((a : Path) → IsAbove a p → Was a (at a)) → Stands c X Y d k
     grown-stands here up none was = record {
       moved = law-grow c X Y d p at own.agreed on off was;
       stand = λ there. record {
         agreed = there;
         range = omega (arith, range);
-        cell = λ e. subst (λ (q : Path). find Y d q ≡ answer.Holds c.cell) (sym slot) (on p (above-refl p) ∙ ap answer.Holds (here ∙ sym cell));
+        cell = λ e. subst (λ (q : Path). find Y d q ≡ answer.Holds c.cell) (sym slot)
+            (on p (above-refl p) ∙ ap answer.Holds (here ∙ sym cell));
         leaf = λ e. subst (λ (q : Path). find Y d (slot_above q) ≡ answer.Holds c.leaf) (sym slot)
             (on (slot_above p) (up e).0 ∙ ap answer.Holds ((up e).1 ∙ sym (above e)));
         top = λ e. absurd (cc (e, none));
@@ -98,7 +107,8 @@ module _ (s : ℕ) (F : Files) (c : Claims) (X Y : Image) (d i k : ℕ) (f : Fil
   direct : k < 8 → HoleInRecord s X Y d i k x → Stands c X Y d k
   direct lt h =
       let n = count-is 0 (ap (λ (p : Path). absent_above F d p) (path-direct k lt)) in
-      grown-stands (InRecord k) (λ a. x) (path-direct k lt) (record-hole-writes s X Y d i k x h) h.meta (record-hole-grows s X Y d i k x lt own.agreed h)
+      grown-stands (InRecord k) (λ a. x) (path-direct k lt) (record-hole-writes s X Y d i k x h) h.meta
+      (record-hole-grows s X Y d i k x lt own.agreed h)
       refl (λ e. absurd (no-leaf n.1 e)) n.2
       (λ a e. subst (λ (q : Path). Was q x) (sym e) (was-cell h.cell.area (InRecord k) (path-direct k lt)))
 
@@ -111,7 +121,8 @@ module _ (s : ℕ) (F : Files) (c : Claims) (X Y : Image) (d i k : ℕ) (f : Fil
   under-leaf le h =
       let n = count-is 0 (leaf-count (answer.Holds y) h.held le) in
       let same : inode Y d ≡ inode X d = h.records d (λ t. apart (sym t)) in
-      grown-stands (Under leaf (k - 8)) (leaf_places y x) (path-leaf k le range) (leaf-hole-writes s X Y d i (k - 8) x y h)
+      grown-stands (Under leaf (k - 8)) (leaf_places y x) (path-leaf k le range)
+      (leaf-hole-writes s X Y d i (k - 8) x y h)
       (record {
         kind = ap (λ (r : Record). r.kind) same;
         generation = ap (λ (r : Record). r.generation) same;
@@ -122,7 +133,8 @@ module _ (s : ℕ) (F : Files) (c : Claims) (X Y : Image) (d i k : ℕ) (f : Fil
       (leaf-hole-grows s X Y d i (k - 8) x y apart own.agreed h)
       refl (λ e. absurd (no-leaf n.1 e)) n.2
       (λ a above. elim above [
-        | inl e ↦ subst (λ (q : Path). Was q (leaf_places y x q)) (sym e) (was-cell h.cell.area (Under leaf (k - 8)) (path-leaf k le range))
+        | inl e ↦ subst (λ (q : Path). Was q (leaf_places y x q)) (sym e)
+            (was-cell h.cell.area (Under leaf (k - 8)) (path-leaf k le range))
         | inr e ↦ subst (λ (q : Path). Was q (leaf_places y x q)) (sym e) (inl h.held)
       ])
 
@@ -131,17 +143,21 @@ module _ (s : ℕ) (F : Files) (c : Claims) (X Y : Image) (d i k : ℕ) (f : Fil
   cell-claimed h = (is-claimed X x (hole-cell s X Y d i k x y h).area, inl cell)
 
   pub leaf-claimed : 8 ≤ k → HoleWithLeaf s X Y d i (k - 8) x y → IsClaimed c y
-  leaf-claimed le h = let n = count-is 1 (leaf-count answer.Hole h.empty le) in (is-claimed X y h.above.area, inr (inl (above n.1)))
+  leaf-claimed le h = let n = count-is 1 (leaf-count answer.Hole h.empty le) in
+      (is-claimed X y h.above.area, inr (inl (above n.1)))
 
   with-leaf : 8 ≤ k → HoleWithLeaf s X Y d i (k - 8) x y → Stands c X Y d k
   with-leaf le h =
       let n = count-is 1 (leaf-count answer.Hole h.empty le) in
-      grown-stands (Under leaf (k - 8)) (leaf_places y x) (path-leaf k le range) (claimed-hole-writes s X Y d i (k - 8) x y h) h.meta
+      grown-stands (Under leaf (k - 8)) (leaf_places y x) (path-leaf k le range)
+      (claimed-hole-writes s X Y d i (k - 8) x y h) h.meta
       (claimed-hole-grows s X Y d i (k - 8) x y own.agreed h)
       refl (λ e. (inr refl, refl)) n.2
       (λ a up. elim up [
-        | inl e ↦ subst (λ (q : Path). Was q (leaf_places y x q)) (sym e) (was-cell h.cell.area (Under leaf (k - 8)) (path-leaf k le range))
-        | inr e ↦ subst (λ (q : Path). Was q (leaf_places y x q)) (sym e) (inr (leaf-claimed le h, λ w held. let z = h.empty in cc (z, held)))
+        | inl e ↦ subst (λ (q : Path). Was q (leaf_places y x q)) (sym e)
+            (was-cell h.cell.area (Under leaf (k - 8)) (path-leaf k le range))
+        | inr e ↦ subst (λ (q : Path). Was q (leaf_places y x q)) (sym e)
+            (inr (leaf-claimed le h, λ w held. let z = h.empty in cc (z, held)))
       ])
 
   pub hole-stands : HoleClaimed s X Y d i k x y → Stands c X Y d k

@@ -3,7 +3,8 @@ use Rattle.std.proofs.Common.{◌≡◌, ◌≢◌, ℕ, ◌/◌, ◌<◌, List,
 use Rattle.nofs_dirent.specs.Entries.{entry_limit}
 use Rattle.nofs_model.specs.Cells.{Entry, Pointer, Record, spelled_entry}
 use Rattle.nofs_model.specs.Image.{Image, FileState, Files, entry_at}
-use Rattle.nofs_history.specs.Machine.{Given, zero_bytes, files_after, entry_given, no_meta, meta_given, nothing, link_to, without_link, drop_meta}
+use Rattle.nofs_history.specs.Machine.{Given, zero_bytes, files_after, entry_given, no_meta, meta_given, nothing}
+use Rattle.nofs_history.specs.Machine.{link_to, without_link, drop_meta}
 use Rattle.nofs_history.specs.Machine.{drop_given, rename_given}
 use Rattle.nofs_history.specs.History.{FilesMatch}
 use Rattle.nofs_history.specs.World.{World}
@@ -56,7 +57,8 @@ law-rename-homes W X Y d g e s old new f x entry c p claim =
       old = p.old;
       born = λ j nd nz. rename-born W.files d g e new j;
       stand = λ at q. cc q;
-      directory = directory-kept c s W.files X Y d 0 (e / 16) f x p.files p.is apart (omega (arith, range)) (p.old d (some-is (W.files d) f p.is))
+      directory = directory-kept c s W.files X Y d 0 (e / 16) f x p.files p.is apart (omega (arith, range))
+          (p.old d (some-is (W.files d) f p.is))
           p.held p.writes;
       inode = nothing-held c X Y 0 (ap (λ (r : Record). r.kind) (no-zero Y));
     })
@@ -65,43 +67,52 @@ law-rename-homes W X Y d g e s old new f x entry c p claim =
     range = (entry-parts (W.files d) f e entry p.is p.found).1
 
     apart : 0 ≢ d
-    apart z = let a : W.files d ≡ None = subst (λ (q : ℕ). W.files q ≡ None) z (no-file-zero W.files X p.files) in let b = p.is in cc (a, b)
+    apart z = let a : W.files d ≡ None = subst (λ (q : ℕ). W.files q ≡ None) z (no-file-zero W.files X p.files) in
+        let b = p.is in cc (a, b)
 
 -- Drop, from what is left of the inode
-module _ (W : World) (X Y : Image) (d g e s : ℕ) (name : List ℕ) (f h : FileState) (x : Pointer) (entry : Entry) (c : Claims)
+module _ (W : World) (X Y : Image) (d g e s : ℕ) (name : List ℕ) (f h : FileState) (x : Pointer)
+    (entry : Entry) (c : Claims)
     (p : DropLies W.files X Y d g e s f h x entry) (claim : IsClaim W (step.Drop d g name) c) where
   drop-range : e < entry_limit
   drop-range = (entry-parts (W.files d) f e entry p.is p.found).1
 
   -- the entry names another inode than its directory
   drop-apart : entry.inode ≢ d
-  drop-apart z = let l = paired-link W.files d e entry p.found p.paired in pair-apart W.files entry.inode l.0 l.2 (l.3 ∙ sym z)
+  drop-apart z = let l = paired-link W.files d e entry p.found p.paired in
+      pair-apart W.files entry.inode l.0 l.2 (l.3 ∙ sym z)
 
   drop-writes : NameWrites s d entry.inode X Y
   drop-writes = in-place-writes s d entry.inode (e / 16) X Y x p.held p.writes
 
-  drop-homes : FilesMatch (files_after W.files (drop_given W.files d g e)) Y → HeldMove c X Y entry.inode → HomesMove W.files (step.Drop d g name) c X Y
-  drop-homes after moved = law-name-homes W (step.Drop d g name) c (drop_given W.files d g e) s d entry.inode X Y (record {
-    claim = claim;
-    writes = drop-writes;
-    before = p.files;
-    after = after;
-    old = p.old;
-    born = λ j nd ni. drop-born W.files d g e j;
-    stand = λ at q. cc q;
-    directory = let lt = drop-range in directory-kept c s W.files X Y d entry.inode (e / 16) f x p.files p.is drop-apart (omega (arith, lt))
-        (p.old d (some-is (W.files d) f p.is)) p.held p.writes;
-    inode = moved;
-  })
+  drop-homes : FilesMatch (files_after W.files (drop_given W.files d g e)) Y → HeldMove c X Y entry.inode
+      → HomesMove W.files (step.Drop d g name) c X Y
+  drop-homes after moved =
+      law-name-homes W (step.Drop d g name) c (drop_given W.files d g e) s d entry.inode X Y (record {
+        claim = claim;
+        writes = drop-writes;
+        before = p.files;
+        after = after;
+        old = p.old;
+        born = λ j nd ni. drop-born W.files d g e j;
+        stand = λ at q. cc q;
+        directory = let lt = drop-range in
+            directory-kept c s W.files X Y d entry.inode (e / 16) f x p.files p.is drop-apart (omega (arith, lt))
+            (p.old d (some-is (W.files d) f p.is)) p.held p.writes;
+        inode = moved;
+      })
 
 pub law-drop-name-homes : LawDropNameHomes
-law-drop-name-homes W X Y d g e s name f h x entry c p stays r claim = drop-homes W X Y d g e s name f h x entry c p claim
+law-drop-name-homes W X Y d g e s name f h x entry c p stays r claim =
+    drop-homes W X Y d g e s name f h x entry c p claim
     (law-drop-name W.files X Y d g e s f h x entry p stays r).1
-    (inode-kept c s W.files X Y d entry.inode h (without_link (link_to d e g) h.links) p.files p.named (drop-apart W X Y d g e s name f h x entry c p claim)
+    (inode-kept c s W.files X Y d entry.inode h (without_link (link_to d e g) h.links) p.files p.named
+    (drop-apart W X Y d g e s name f h x entry c p claim)
     (p.old entry.inode (some-is (W.files entry.inode) h p.named))
     (drop-writes W X Y d g e s name f h x entry c p claim) r)
 
 pub law-drop-file-homes : LawDropFileHomes
-law-drop-file-homes W X Y d g e s name f h x entry c p goes free claim = drop-homes W X Y d g e s name f h x entry c p claim
+law-drop-file-homes W X Y d g e s name f h x entry c p goes free claim =
+    drop-homes W X Y d g e s name f h x entry c p claim
     (law-drop-file W.files X Y d g e s f h x entry p goes free).1
     (nothing-held c X Y entry.inode free)

@@ -1,5 +1,6 @@
 -- Where each cell that a read gives is below a bound, each live record and each tag of the data area is.
-use Rattle.std.proofs.Common.{◌≡◌, ℕ, ◌+◌, ◌-◌, ◌/◌, ◌%◌, ◌<◌, ◌≤◌, Bool, true, false, cond, leb, ltb, leb-true, ltb-true, Option, Some, IfSome, refl, sym}
+use Rattle.std.proofs.Common.{◌≡◌, ℕ, ◌+◌, ◌-◌, ◌/◌, ◌%◌, ◌<◌, ◌≤◌, Bool, true, false, cond, leb, ltb, leb-true}
+use Rattle.std.proofs.Common.{ltb-true, Option, Some, IfSome, refl, sym}
 use Rattle.std.proofs.Common.{subst, arith}
 use Rattle.nofs_model.specs.Cells.{Tag, Record, tag_of, record_at, free_record, is_live}
 use Rattle.nofs_model.specs.Image.{Image, cell_at, super_at, is_data_block, is_inode, inode, CellBelow}
@@ -14,7 +15,8 @@ pub live-stands : (X : Image) (j : ℕ) → is_live (inode X j) ≡ true → Sta
 unfolding inode
 live-stands X j live = go (is_inode X j) refl live
   where
-    go : (b : Bool) → is_inode X j ≡ b → is_live (cond b (record_at (cell_at X (1 + (j - 1) / 4)).payload ((j - 1) % 4)) free_record) ≡ true → Stands X j
+    go : (b : Bool) → is_inode X j ≡ b → is_live
+        (cond b (record_at (cell_at X (1 + (j - 1) / 4)).payload ((j - 1) % 4)) free_record) ≡ true → Stands X j
     go true e l = record { range = e; same = rw e refl }
     go false e l = cc
 
@@ -30,8 +32,10 @@ live-below X s n own fits table j live =
     let both = and-both (leb 1 j) (leb j (super_at X).inodes) st.range in
     let high : j ≤ (super_at X).inodes = leb-true j (super_at X).inodes both.1 in
     let low : 1 + (j - 1) / 4 < n = omega (arith, high, fits, table) in
-    let live' : is_live (record_at (cell_at X (1 + (j - 1) / 4)).payload ((j - 1) % 4)) ≡ true = subst (λ (r : Record). is_live r ≡ true) st.same live in
-    subst (λ (r : Record). r.generation < s) (sym st.same) ((own (1 + (j - 1) / 4) low).records j st.range refl live').generation
+    let live' : is_live (record_at (cell_at X (1 + (j - 1) / 4)).payload ((j - 1) % 4)) ≡ true =
+    subst (λ (r : Record). is_live r ≡ true) st.same live in
+    subst (λ (r : Record). r.generation < s) (sym st.same)
+    ((own (1 + (j - 1) / 4) low).records j st.range refl live').generation
 
 -- every tag of the data area is below the bound
 pub tag-below : (X : Image) (s n : ℕ) → ((b : ℕ) → b < n → CellBelow s X b (cell_at X b)) → (super_at X).blocks ≤ n

@@ -1,5 +1,6 @@
 -- What is explained stays explained as more is given.
-use Rattle.std.proofs.Common.{◌≡◌, ℕ, inl, inr, true, not, List, option_to_list, length, ◌+◌, ◌-◌, ◌/◌, ◌%◌, refl, sym, ◌∙◌, subst, arith, Contains}
+use Rattle.std.proofs.Common.{◌≡◌, ℕ, inl, inr, true, not, List, option_to_list, length, ◌+◌, ◌-◌, ◌/◌, ◌%◌, refl, sym}
+use Rattle.std.proofs.Common.{◌∙◌, subst, arith, Contains}
 use Rattle.std.proofs.lemmas.Bool.{cases_lt}
 use Rattle.std.proofs.lemmas.List.{get_or_past}
 use Rattle.std.proofs.lemmas.List.Elements.{Contains-append_left}
@@ -15,7 +16,8 @@ use Rattle.nofs_crashlaw.proofs.OnImages.Writes.{writes-proper}
 use Rattle.nofs_history.specs.Meta.{Meta, meta_of, MayRead}
 use Rattle.nofs_history.specs.Marks.{Mark}
 use Rattle.nofs_history.specs.Machine.{Given}
-use Rattle.nofs_model.specs.Cells.{Cell, Kind, Nothing, Content, Directory, Leaf, Table, Super, Tag, Pointer, Record, pointer_at, record_at}
+use Rattle.nofs_model.specs.Cells.{Cell, Kind, Nothing, Content, Directory, Leaf, Table, Super, Tag, Pointer, Record}
+use Rattle.nofs_model.specs.Cells.{pointer_at, record_at}
 use Rattle.nofs_model.specs.Image.{Image, cell_at, inode, is_inode, Path, InRecord, Under, path_of}
 use Rattle.nofs_model.specs.declared.image.value.Value.{Value}
 use Rattle.nofs_model.specs.declared.image.value.Value.TheVariants.{Hole, Bytes}
@@ -33,13 +35,17 @@ module _ (m : Mark) (given : Given) where
   holes-more : (i g : ℕ) (path : Path) → Holes m i g path → Holes (during m given) i g path
   holes-more i g path h = λ k lt above. more i g k Hole (h k lt above)
 
-  explained-more : (i g : ℕ) (path : Path) (x : Pointer) → Explained m i g path x → Explained (during m given) i g path x
+  explained-more : (i g : ℕ) (path : Path) (x : Pointer) → Explained m i g path x
+      → Explained (during m given) i g path x
   explained-more i g path x (Emptied z h) = Emptied z (holes-more i g path h)
   explained-more i g path x (Fresh le) = Fresh le
-  explained-more i g path x (Kept f) = Kept (record { live = f.live; generation = f.generation; above = f.above; same = f.same })
+  explained-more i g path x (Kept f) =
+      Kept (record { live = f.live; generation = f.generation; above = f.above; same = f.same })
 
-  written-more : (q : Kind) (t : Tag) (payload : List ℕ) → WrittenAs m q t payload → WrittenAs (during m given) q t payload
-  written-more Leaf t payload w = λ n lt. explained-more t.inode t.generation (Under (path_of t.slot) n) (pointer_at payload n) (w n lt)
+  written-more : (q : Kind) (t : Tag) (payload : List ℕ) → WrittenAs m q t payload
+      → WrittenAs (during m given) q t payload
+  written-more Leaf t payload w =
+      λ n lt. explained-more t.inode t.generation (Under (path_of t.slot) n) (pointer_at payload n) (w n lt)
   written-more Content t payload w = more t.inode t.generation t.slot (Bytes payload) w
   written-more Directory t payload w = more t.inode t.generation t.slot (Bytes payload) w
   written-more Nothing t payload w = w
@@ -62,12 +68,23 @@ module _ (m : Mark) (given : Given) where
   })
 
   kept-less : (i g : ℕ) (path : Path) → IsKept (during m given) i g path → IsKept m i g path
-  kept-less i g path k = record { stands = fewer i g k.stands; slot = k.slot; range = k.range; sure = λ v c. k.sure v (more i g k.slot v c); above = k.above }
+  kept-less i g path k = record {
+    stands = fewer i g k.stands;
+    slot = k.slot;
+    range = k.range;
+    sure = λ v c. k.sure v (more i g k.slot v c);
+    above = k.above;
+  }
 
   solid-more : (b : ℕ) (c : Cell) → Solid m b c → Solid (during m given) b c
   solid-more b c s = record {
     table = λ i g st range e. let r = s.table i g (fewer i g st) range e in
-        record { live = r.live; generation = r.generation; kind = r.kind; pointers = λ p k. r.pointers p (kept-less i g (InRecord p) k) };
+        record {
+          live = r.live;
+          generation = r.generation;
+          kind = r.kind;
+          pointers = λ p k. r.pointers p (kept-less i g (InRecord p) k);
+        };
     block = λ i g path x k e eb. let w = s.block i g path x (kept-less i g path k) e eb in
         record { tag = w.tag; pointers = λ p kp. w.pointers p (kept-less i g (Under path p) kp) };
   }
@@ -93,13 +110,16 @@ module _ (m : Mark) (given : Given) where
 solid-mark : (m : Mark) → IsMark m → (b : ℕ) → Solid m b (cell_at m.image b)
 unfolding inode
 solid-mark m h b = record {
-  table = λ i g st range e. subst (λ (q : ℕ). RecordStands m i g (record_at (cell_at m.image q).payload ((i - 1) % 4))) e (own i g st range);
+  table = λ i g st range e.
+      subst (λ (q : ℕ). RecordStands m i g (record_at (cell_at m.image q).payload ((i - 1) % 4))) e (own i g st range);
   block = λ i g path x k f eb. record { tag = refl; pointers = λ n kn. refl };
 }
   where
-    own : (i g : ℕ) → m.stands i g ≡ true → is_inode m.image i ≡ true → RecordStands m i g (record_at (cell_at m.image (1 + (i - 1) / 4)).payload ((i - 1) % 4))
+    own : (i g : ℕ) → m.stands i g ≡ true → is_inode m.image i ≡ true
+        → RecordStands m i g (record_at (cell_at m.image (1 + (i - 1) / 4)).payload ((i - 1) % 4))
     own i g st range =
-        let same : inode m.image i ≡ record_at (cell_at m.image (1 + (i - 1) / 4)).payload ((i - 1) % 4) = rw range refl in
+        let same : inode m.image i ≡ record_at (cell_at m.image (1 + (i - 1) / 4)).payload ((i - 1) % 4) =
+        rw range refl in
         subst (λ (r : Record). RecordStands m i g r) same (record {
           live = h.stood i g st;
           generation = h.stood_generation i g st;
@@ -114,7 +134,8 @@ law-flush m may h only b c has =
     (inl e, subst (λ (q : Cell). Solid m b q) (sym e) (solid-mark m h b))
 
 -- a pick of explained cells is explained at every block
-pub pick-explained : (m : Mark) (may : ℕ → List Cell) (X : Image) → IsMark m → AllExplained m may → Picks may (length m.image) X → (b : ℕ)
+pub pick-explained : (m : Mark) (may : ℕ → List Cell) (X : Image) → IsMark m → AllExplained m may
+    → Picks may (length m.image) X → (b : ℕ)
     → Fine m b (cell_at X b) × Solid m b (cell_at X b)
 pick-explained m may X h all pick b = elim (cases_lt b (length m.image)) [
   | inl lt ↦ all b (cell_at X b) (pick.each b lt)
@@ -145,4 +166,8 @@ law-images m may X h all now =
     let fine : FineImage m X = λ b. (here b).0 in
     let solid : SolidImage m X = λ b. (here b).1 in
     let super = same-super m X h fine in
-    record { reads = reads m X h fine; keeps = solid-keeps m X h super solid; pointers = solid-steady m X h super solid }
+    record {
+      reads = reads m X h fine;
+      keeps = solid-keeps m X h super solid;
+      pointers = solid-steady m X h super solid;
+    }

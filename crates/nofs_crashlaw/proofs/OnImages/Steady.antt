@@ -1,5 +1,6 @@
 -- What is sure at the mark stays in every image, as long as no write disturbs it.
-use Rattle.std.proofs.Common.{◌≡◌, ℕ, ◌+◌, ◌-◌, ◌/◌, ◌%◌, inl, inr, Bool, true, false, cond, Some, refl, sym, ap, ◌∙◌, subst}
+use Rattle.std.proofs.Common.{◌≡◌, ℕ, ◌+◌, ◌-◌, ◌/◌, ◌%◌, inl, inr, Bool, true, false, cond, Some, refl, sym, ap, ◌∙◌}
+use Rattle.std.proofs.Common.{subst}
 use Rattle.nofs_model.specs.declared.image.path.PathAnswer.{PathAnswer}
 use Rattle.nofs_crashlaw.specs.Images.Reasons.{IsKept, RecordStands, SolidImage, IsMark, KeepsSure, KeepsPointers}
 use Rattle.nofs_model.proofs.OnSlots.Find.{find-held, find-built, agrees-built}
@@ -8,12 +9,14 @@ use Rattle.nofs_model.specs.declared.image.path.PathAnswer.TheVariants as answer
 use Rattle.nofs_history.specs.Meta.{is_bytes}
 use Rattle.nofs_history.specs.Marks.{Mark}
 use Rattle.nofs_model.specs.Cells.{Cell, Pointer, tag_of, pointer_at, is_live, record_at, free_record}
-use Rattle.nofs_model.specs.Image.{super_in, Image, cell_at, super_at, is_data_block, is_inode, inode, Path, InRecord, Under, path_of, tag_for, find}
+use Rattle.nofs_model.specs.Image.{super_in, Image, cell_at, super_at, is_data_block, is_inode, inode, Path, InRecord}
+use Rattle.nofs_model.specs.Image.{Under, path_of, tag_for, find}
 use Rattle.nofs_model.specs.Image.{pointer, value, value_in, IsAbove, AboveHolds}
 use Rattle.nofs_model.specs.declared.image.value.Value.TheVariants.{Bytes}
 
 -- a slot that holds has those above it hold
-above-held : (X : Image) (i : ℕ) (a p : Path) → IsAbove a p → (x : Pointer) → find X i p ≡ answer.Holds x → (y : Pointer) × (find X i a ≡ answer.Holds y)
+above-held : (X : Image) (i : ℕ) (a p : Path) → IsAbove a p → (x : Pointer) → find X i p ≡ answer.Holds x
+    → (y : Pointer) × (find X i a ≡ answer.Holds y)
 above-held X i a (InRecord n) e x h = (x, subst (λ (w : Path). find X i w ≡ answer.Holds x) (sym e) h)
 above-held X i a (Under b n) (inl e) x h = (x, subst (λ (w : Path). find X i w ≡ answer.Holds x) (sym e) h)
 above-held X i a (Under b n) (inr r) x h =
@@ -21,7 +24,13 @@ above-held X i a (Under b n) (inr r) x h =
     above-held X i a b r hx.above.0 hx.above.1
 
 pub kept-up : (m : Mark) (i g : ℕ) (a : Path) (n : ℕ) → IsKept m i g (Under a n) → IsKept m i g a
-kept-up m i g a n k = record { stands = k.stands; slot = k.slot; range = k.range; sure = k.sure; above = above-up a n (path_of k.slot) k.above }
+kept-up m i g a n k = record {
+  stands = k.stands;
+  slot = k.slot;
+  range = k.range;
+  sure = k.sure;
+  above = above-up a n (path_of k.slot) k.above;
+}
 
 module _ (m : Mark) (h : IsMark m) where
   held-of : (f : PathAnswer) → is_bytes (value_in m.image f) ≡ true → (x : Pointer) × (f ≡ answer.Holds x)
@@ -32,7 +41,8 @@ module _ (m : Mark) (h : IsMark m) where
   -- a kept slot holds at the mark
   pub kept-holds : (i g : ℕ) (path : Path) → IsKept m i g path → (y : Pointer) × (find m.image i path ≡ answer.Holds y)
   kept-holds i g path k =
-      let b : is_bytes (value m.image i k.slot) ≡ true = k.sure (value m.image i k.slot) (h.stood_values i g k.slot k.stands k.range) in
+      let b : is_bytes (value m.image i k.slot) ≡ true =
+      k.sure (value m.image i k.slot) (h.stood_values i g k.slot k.stands k.range) in
       let held = held-of (find m.image i (path_of k.slot)) b in
       above-held m.image i path (path_of k.slot) k.above held.0 held.1
 
@@ -40,7 +50,8 @@ module _ (m : Mark) (h : IsMark m) where
   unfolding inode
   in-range i l = go (is_inode m.image i) l
     where
-      go : (b : Bool) → is_live (cond b (record_at (cell_at m.image (1 + (i - 1) / 4)).payload ((i - 1) % 4)) free_record) ≡ true → b ≡ true
+      go : (b : Bool) → is_live
+          (cond b (record_at (cell_at m.image (1 + (i - 1) / 4)).payload ((i - 1) % 4)) free_record) ≡ true → b ≡ true
       go true e = refl
       go false e = cc
 
@@ -57,20 +68,26 @@ module _ (m : Mark) (h : IsMark m) where
         rw rx ((solid (1 + (i - 1) / 4)).table i g s r refl)
 
     -- a slot whose pointer is the mark's holds as at the mark
-    holds-again : (i g : ℕ) (path : Path) (x : Pointer) → IsKept m i g path → find m.image i path ≡ answer.Holds x → AboveHolds X i path
+    holds-again : (i g : ℕ) (path : Path) (x : Pointer) → IsKept m i g path → find m.image i path ≡ answer.Holds x
+        → AboveHolds X i path
         → pointer X i path ≡ pointer m.image i path → find X i path ≡ answer.Holds x
     holds-again i g path x k e above same =
         let hm = find-held m.image i path x e in
         let r = stands-record i g k.stands in
-        let gens : (inode m.image i).generation ≡ (inode X i).generation = h.stood_generation i g k.stands ∙ sym r.generation in
+        let gens : (inode m.image i).generation ≡ (inode X i).generation = h.stood_generation i g k.stands
+        ∙ sym r.generation in
         let tags : tag_for X i path x.stamp ≡ tag_for m.image i path x.stamp = rw (r.kind, gens) in
-        let tag : tag_of (cell_at X x.block).tag ≡ Some (tag_for X i path x.stamp) = ((solid x.block).block i g path x k e refl).tag ∙ hm.agrees.tag
+        let tag : tag_of (cell_at X x.block).tag ≡ Some (tag_for X i path x.stamp) =
+        ((solid x.block).block i g path x k e refl).tag ∙ hm.agrees.tag
         ∙ ap Some (sym tags) in
         let area : is_data_block X x.block ≡ true = rw same-numbers hm.agrees.area in
-        find-built X i path x above (same ∙ hm.same) (agrees-built X i path x (record { live = r.live; area = area; tag = tag })) hm.not_null
+        find-built X i path x above (same ∙ hm.same)
+        (agrees-built X i path x (record { live = r.live; area = area; tag = tag })) hm.not_null
 
-    pub steady-held : (i g : ℕ) (path : Path) (x : Pointer) → IsKept m i g path → find m.image i path ≡ answer.Holds x → find X i path ≡ answer.Holds x
-    steady-held i g (InRecord n) x k e = holds-again i g (InRecord n) x k e tt ((stands-record i g k.stands).pointers n k)
+    pub steady-held : (i g : ℕ) (path : Path) (x : Pointer) → IsKept m i g path → find m.image i path ≡ answer.Holds x
+        → find X i path ≡ answer.Holds x
+    steady-held i g (InRecord n) x k e =
+        holds-again i g (InRecord n) x k e tt ((stands-record i g k.stands).pointers n k)
     steady-held i g (Under a n) x k e =
         let hm = find-held m.image i (Under a n) x e in
         let y = hm.above.0 in
@@ -89,14 +106,16 @@ module _ (m : Mark) (h : IsMark m) where
     keeps = record {
       records = λ i g s. ((stands-record i g s).live, (stands-record i g s).generation);
       values = λ i g k s r sure lost.
-          let k' : IsKept m i g (path_of k) = record { stands = s; slot = k; range = r; sure = sure; above = above-refl (path_of k) } in
+          let k' : IsKept m i g (path_of k) =
+          record { stands = s; slot = k; range = r; sure = sure; above = above-refl (path_of k) } in
           let held = kept-holds i g (path_of k) k' in
           let ex : find X i (path_of k) ≡ answer.Holds held.0 = steady-held i g (path_of k) held.0 k' held.1 in
           let v : value X i k ≡ Bytes (cell_at X held.0.block).payload = ap (λ (f : PathAnswer). value_in X f) ex in
           absurd (cc (v, lost));
     }
 
-pub solid-steady : (m : Mark) (X : Image) → IsMark m → cell_at X 0 ≡ cell_at m.image 0 → SolidImage m X → KeepsPointers m X
+pub solid-steady : (m : Mark) (X : Image) → IsMark m → cell_at X 0 ≡ cell_at m.image 0 → SolidImage m X
+    → KeepsPointers m X
 solid-steady m X h super solid = steady m h X super solid
 
 pub solid-keeps : (m : Mark) (X : Image) → IsMark m → cell_at X 0 ≡ cell_at m.image 0 → SolidImage m X → KeepsSure m X

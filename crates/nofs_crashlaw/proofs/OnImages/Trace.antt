@@ -1,5 +1,6 @@
 -- Whatever image a crash leaves, each slot that holds was held so at the mark, or its block was written since.
-use Rattle.std.proofs.Common.{◌≡◌, ℕ, ◌+◌, ◌-◌, ◌/◌, ◌%◌, ◌<◌, inl, inr, Bool, true, false, cond, eqb, List, Option, Some, None, refl, sym, ap, ◌∙◌, subst}
+use Rattle.std.proofs.Common.{◌≡◌, ℕ, ◌+◌, ◌-◌, ◌/◌, ◌%◌, ◌<◌, inl, inr, Bool, true, false, cond, eqb, List, Option}
+use Rattle.std.proofs.Common.{Some, None, refl, sym, ap, ◌∙◌, subst}
 use Rattle.std.proofs.Common.{subst₂, arith, Contains, eqb-true}
 use Rattle.nofs_model.specs.Kinds.{Directory as Folder}
 use Rattle.nofs_model.specs.declared.image.path.PathAnswer.{PathAnswer}
@@ -14,10 +15,13 @@ use Rattle.nofs_model.proofs.OnSlots.Paths.{above-refl, above-up, below-null}
 use Rattle.nofs_model.specs.declared.image.path.PathAnswer.TheVariants as answer
 use Rattle.nofs_history.specs.Meta.{MayRead}
 use Rattle.nofs_history.specs.Marks.{Mark}
-use Rattle.nofs_model.specs.Cells.{Cell, Kind, Content, Directory, Leaf, Tag, Pointer, FileKind, File, Record, tag_of, is_null, pointer_at, is_live}
+use Rattle.nofs_model.specs.Cells.{Cell, Kind, Content, Directory, Leaf, Tag, Pointer, FileKind, File, Record, tag_of}
+use Rattle.nofs_model.specs.Cells.{is_null, pointer_at, is_live}
 use Rattle.nofs_model.specs.Cells.{slot_limit, record_at, free_record}
-use Rattle.nofs_model.specs.Image.{super_in, Image, cell_at, super_at, is_data_block, is_inode, inode, Path, InRecord, Under, path_of, slot_of}
-use Rattle.nofs_model.specs.Image.{is_pointer_slot, kind_in, tag_for, record_pointer, find, pointer, value, value_in, AboveHolds, IsSlot}
+use Rattle.nofs_model.specs.Image.{super_in, Image, cell_at, super_at, is_data_block, is_inode, inode, Path, InRecord}
+use Rattle.nofs_model.specs.Image.{Under, path_of, slot_of}
+use Rattle.nofs_model.specs.Image.{is_pointer_slot, kind_in, tag_for, record_pointer, find, pointer, value, value_in}
+use Rattle.nofs_model.specs.Image.{AboveHolds, IsSlot}
 use Rattle.nofs_model.specs.declared.image.value.Value.{Value}
 use Rattle.nofs_model.specs.declared.image.value.Value.TheVariants.{Hole, Bytes}
 
@@ -49,7 +53,8 @@ module _ (m : Mark) (X : Image) (h : IsMark m) (fine : FineImage m X) where
   unfolding inode
   explained-record i l = go (is_inode X i) refl l
     where
-      go : (b : Bool) → is_inode X i ≡ b → is_live (cond b (record_at (cell_at X (1 + (i - 1) / 4)).payload ((i - 1) % 4)) free_record) ≡ true
+      go : (b : Bool) → is_inode X i ≡ b
+          → is_live (cond b (record_at (cell_at X (1 + (i - 1) / 4)).payload ((i - 1) % 4)) free_record) ≡ true
           → RecordExplained m i (cond b (record_at (cell_at X (1 + (i - 1) / 4)).payload ((i - 1) % 4)) free_record)
       go false e live = cc
       go true e live =
@@ -58,17 +63,21 @@ module _ (m : Mark) (X : Image) (h : IsMark m) (fine : FineImage m X) where
             | inl same ↦
                 let eq : inode m.image i ≡ record_at (cell_at X (1 + (i - 1) / 4)).payload ((i - 1) % 4) =
                 rw e2 (ap (λ (c : Cell). record_at c.payload ((i - 1) % 4)) (sym same)) in
-                subst (λ (r : Record). RecordExplained m i r) eq (mark-record i (subst (λ (r : Record). is_live r ≡ true) (sym eq) live))
+                subst (λ (r : Record). RecordExplained m i r) eq
+                (mark-record i (subst (λ (r : Record). is_live r ≡ true) (sym eq) live))
             | inr w ↦ w.table i e2 refl live
           ]
 
   -- where a block that holds comes from
   data Traced (i : ℕ) (path : Path) (x : Pointer) : Type 0 where
-    AtMark : is_live (inode m.image i) ≡ true → (inode m.image i).generation ≡ (inode X i).generation → find m.image i path ≡ answer.Holds x
+    AtMark : is_live (inode m.image i) ≡ true → (inode m.image i).generation ≡ (inode X i).generation
+        → find m.image i path ≡ answer.Holds x
         → cell_at X x.block ≡ cell_at m.image x.block → Traced i path x
-    Since : WrittenAs m (kind_in (inode X i) path) (tag_for X i path x.stamp) (cell_at X x.block).payload → Traced i path x
+    Since : WrittenAs m (kind_in (inode X i) path) (tag_for X i path x.stamp) (cell_at X x.block).payload
+        → Traced i path x
 
-  since-case : (i : ℕ) (path : Path) (x : Pointer) → Agrees X i path x → Written m x.block (cell_at X x.block) → Traced i path x
+  since-case : (i : ℕ) (path : Path) (x : Pointer) → Agrees X i path x → Written m x.block (cell_at X x.block)
+      → Traced i path x
   since-case i path x a w =
       let area : is_data_block m.image x.block ≡ true = sym (same-area x.block) ∙ a.area in
       let (t, et, wa) = w.block area in
@@ -78,20 +87,24 @@ module _ (m : Mark) (X : Image) (h : IsMark m) (fine : FineImage m X) where
   mark-case : (i : ℕ) (path : Path) (x : Pointer) → HoldsAt X i path x → cell_at X x.block ≡ cell_at m.image x.block
       → FromMark m i (inode X i).generation path x → Traced i path x
   mark-case i path x hx same k =
-      let kinds : (inode m.image i).kind ≡ (inode X i).kind = (explained-record i hx.agrees.live).kind k.live k.generation in
+      let kinds : (inode m.image i).kind ≡ (inode X i).kind =
+      (explained-record i hx.agrees.live).kind k.live k.generation in
       let tags : tag_for X i path x.stamp ≡ tag_for m.image i path x.stamp = rw (kinds, k.generation) in
       let area : is_data_block m.image x.block ≡ true = sym (same-area x.block) ∙ hx.agrees.area in
       let tag : tag_of (cell_at m.image x.block).tag ≡ Some (tag_for m.image i path x.stamp) =
       subst (λ (c : Cell). tag_of c.tag ≡ Some (tag_for m.image i path x.stamp)) same (hx.agrees.tag ∙ ap Some tags) in
       AtMark k.live k.generation
-      (find-built m.image i path x k.above k.same (agrees-built m.image i path x (record { live = k.live; area = area; tag = tag })) hx.not_null)
+      (find-built m.image i path x k.above k.same
+      (agrees-built m.image i path x (record { live = k.live; area = area; tag = tag })) hx.not_null)
       same
 
-  traced : (i : ℕ) (path : Path) (x : Pointer) → HoldsAt X i path x → Explained m i (inode X i).generation path x → Traced i path x
+  traced : (i : ℕ) (path : Path) (x : Pointer) → HoldsAt X i path x → Explained m i (inode X i).generation path x
+      → Traced i path x
   traced i path x hx (Emptied z holes) = absurd (cc (z, hx.not_null))
   traced i path x hx (Fresh le) = elim (fine x.block) [
     | inl same ↦
-        let lt : x.stamp < m.stamps = h.below x.block (tag_for X i path x.stamp) (sym (same-area x.block) ∙ hx.agrees.area)
+        let lt : x.stamp < m.stamps =
+        h.below x.block (tag_for X i path x.stamp) (sym (same-area x.block) ∙ hx.agrees.area)
         (subst (λ (c : Cell). tag_of c.tag ≡ Some (tag_for X i path x.stamp)) same hx.agrees.tag) in
         absurd (omega (arith, lt, le))
     | inr w ↦ since-case i path x hx.agrees w
@@ -107,11 +120,13 @@ module _ (m : Mark) (X : Image) (h : IsMark m) (fine : FineImage m X) where
   explained i (InRecord n) s live above = (explained-record i live).pointers n s
   explained i (Under a n) s live (y, ea) =
       let ha = find-held X i a y ea in
-      let ex : Explained m i (inode X i).generation a y = subst (λ (w : Pointer). Explained m i (inode X i).generation a w) ha.same
+      let ex : Explained m i (inode X i).generation a y =
+      subst (λ (w : Pointer). Explained m i (inode X i).generation a w) ha.same
       (explained i a s.2 live ha.above) in
       step i a n s live y ea (traced i a y ha ex)
     where
-      step : (i : ℕ) (a : Path) (n : ℕ) → IsSlot (Under a n) → is_live (inode X i) ≡ true → (y : Pointer) → find X i a ≡ answer.Holds y → Traced i a y
+      step : (i : ℕ) (a : Path) (n : ℕ) → IsSlot (Under a n)
+          → is_live (inode X i) ≡ true → (y : Pointer) → find X i a ≡ answer.Holds y → Traced i a y
           → Explained m i (inode X i).generation (Under a n) (pointer X i (Under a n))
       step i a n s live y ea (AtMark ml g eM same) = Kept (record {
         live = ml;
@@ -127,11 +142,14 @@ module _ (m : Mark) (X : Image) (h : IsMark m) (fine : FineImage m X) where
           let ep : path_of (slot_of a) ≡ a = path_of-slot_of a s.2 in
           let same : pointer X i (Under a n) ≡ pointer_at (cell_at X y.block).payload n = rw (ea, pointer) in
           subst (λ (q : Pointer). Explained m i (inode X i).generation (Under a n) q) (sym same)
-          (subst (λ (q : Path). Explained m i (inode X i).generation (Under q n) (pointer_at (cell_at X y.block).payload n)) ep (wl n s.1))
+          (subst (λ (q : Path). Explained m i (inode X i).generation (Under q n)
+          (pointer_at (cell_at X y.block).payload n)) ep (wl n s.1))
 
   -- what is empty may be a hole
-  null-place : (i : ℕ) (path : Path) (x : Pointer) → is_live (inode X i) ≡ true → Explained m i (inode X i).generation path x → is_null x ≡ true
-      → (FromMark m i (inode X i).generation path x → find m.image i path ≡ answer.Hole) → Holes m i (inode X i).generation path
+  null-place : (i : ℕ) (path : Path) (x : Pointer)
+      → is_live (inode X i) ≡ true → Explained m i (inode X i).generation path x → is_null x ≡ true
+      → (FromMark m i (inode X i).generation path x → find m.image i path ≡ answer.Hole)
+      → Holes m i (inode X i).generation path
   null-place i path x live (Emptied z holes) n at_mark = holes
   null-place i path x live (Fresh le) n at_mark =
       let z : x.stamp ≡ 0 = null-stamp x n in
@@ -141,23 +159,27 @@ module _ (m : Mark) (X : Image) (h : IsMark m) (fine : FineImage m X) where
       let empty : find m.image i (path_of k) ≡ answer.Hole = below-null m.image i path (path_of k) above (at_mark f) in
       let hole : value m.image i k ≡ Hole = ap (λ (q : PathAnswer). value_in m.image q) empty in
       let may = h.values i k f.live lt in
-      let may' : MayRead (m.since i (inode X i).generation k) Hole = subst₂ (λ (q : ℕ) (v : Value). MayRead (m.since i q k) v) g hole may in
+      let may' : MayRead (m.since i (inode X i).generation k) Hole =
+      subst₂ (λ (q : ℕ) (v : Value). MayRead (m.since i q k) v) g hole may in
       elim may' [ inl e ↦ absurd (cc e) | inr c ↦ c ]
 
-  null-record : (i n : ℕ) → n < 10 → find X i (InRecord n) ≡ answer.Hole → is_live (inode X i) ≡ true → Holes m i (inode X i).generation (InRecord n)
+  null-record : (i n : ℕ) → n < 10 → find X i (InRecord n) ≡ answer.Hole → is_live (inode X i) ≡ true
+      → Holes m i (inode X i).generation (InRecord n)
   null-record i n s e live =
       let z = judged-null X i (InRecord n) (record_pointer (inode X i) n) e in
       null-place i (InRecord n) (record_pointer (inode X i) n) live ((explained-record i live).pointers n s) z
       (λ f. rw f.same (judged-built-null m.image i (InRecord n) (record_pointer (inode X i) n) z))
 
-  pub holes : (i : ℕ) (path : Path) → IsSlot path → is_live (inode X i) ≡ true → find X i path ≡ answer.Hole → Holes m i (inode X i).generation path
+  pub holes : (i : ℕ) (path : Path) → IsSlot path
+      → is_live (inode X i) ≡ true → find X i path ≡ answer.Hole → Holes m i (inode X i).generation path
   holes i (InRecord n) s live e = null-record i n s e live
   holes i (Under a n) s live e = elim (find-null X i a n e) [
     | inl ea ↦ (λ k lt above. holes i a s.2 live ea k lt (above-up a n (path_of k) above))
     | inr w ↦ null-under i a n s live w.0 w.1 w.2
   ]
     where
-      null-under : (i : ℕ) (a : Path) (n : ℕ) → IsSlot (Under a n) → is_live (inode X i) ≡ true → (y : Pointer) → find X i a ≡ answer.Holds y
+      null-under : (i : ℕ) (a : Path) (n : ℕ) → IsSlot (Under a n)
+          → is_live (inode X i) ≡ true → (y : Pointer) → find X i a ≡ answer.Holds y
           → is_null (pointer_at (cell_at X y.block).payload n) ≡ true → Holes m i (inode X i).generation (Under a n)
       null-under i a n s live y ea z =
           let same : pointer X i (Under a n) ≡ pointer_at (cell_at X y.block).payload n = rw (ea, pointer) in
@@ -166,7 +188,8 @@ module _ (m : Mark) (X : Image) (h : IsMark m) (fine : FineImage m X) where
           (λ f. null-kept m.image i a n f.above (subst (λ (q : Pointer). is_null q ≡ true) (sym f.same) zp))
 
   content-written : (o : Option FileKind) (t : Tag) (payload : List ℕ)
-      → WrittenAs m (elim o [ None ↦ Content | Some kind ↦ elim kind [ File ↦ Content | Folder ↦ Directory ] ]) t payload
+      → WrittenAs m
+      (elim o [ None ↦ Content | Some kind ↦ elim kind [ File ↦ Content | Folder ↦ Directory ] ]) t payload
       → Contains (m.since t.inode t.generation t.slot) (Bytes payload)
   content-written None t payload w = w
   content-written (Some File) t payload w = w
@@ -180,13 +203,19 @@ module _ (m : Mark) (X : Image) (h : IsMark m) (fine : FineImage m X) where
       subst₂ (λ (q : ℕ) (v : Value). MayRead (m.since i q k) v) g eqv (h.values i k ml lt)
   held-value i k x live lt (Since w) =
       let c : is_pointer_slot (path_of k) ≡ false = path_of-content k lt in
-      let kinds : kind_in (inode X i) (path_of k) ≡ elim (inode X i).kind [ None ↦ Content | Some kind ↦ elim kind [ File ↦ Content | Folder ↦ Directory ] ]
+      let kinds : kind_in (inode X i) (path_of k) ≡ elim (inode X i).kind [
+        | None ↦ Content
+        | Some kind ↦ elim kind [ File ↦ Content | Folder ↦ Directory ]
+      ]
       = rw c in
-      let w' = subst (λ (q : Kind). WrittenAs m q (tag_for X i (path_of k) x.stamp) (cell_at X x.block).payload) kinds w in
+      let w' = subst
+      (λ (q : Kind). WrittenAs m q (tag_for X i (path_of k) x.stamp) (cell_at X x.block).payload) kinds w in
       let has = content-written (inode X i).kind (tag_for X i (path_of k) x.stamp) (cell_at X x.block).payload w' in
-      inr (subst (λ (q : ℕ). Contains (m.since i (inode X i).generation q) (Bytes (cell_at X x.block).payload)) (slot_of-path_of k lt) has)
+      inr (subst (λ (q : ℕ). Contains (m.since i (inode X i).generation q) (Bytes (cell_at X x.block).payload))
+      (slot_of-path_of k lt) has)
 
-  reads-value : (i k : ℕ) → is_live (inode X i) ≡ true → k < slot_limit → MayRead (m.since i (inode X i).generation k) (value X i k)
+  reads-value : (i k : ℕ)
+      → is_live (inode X i) ≡ true → k < slot_limit → MayRead (m.since i (inode X i).generation k) (value X i k)
   reads-value i k live lt = go (find X i (path_of k)) refl
     where
       go : (f : PathAnswer) → find X i (path_of k) ≡ f → MayRead (m.since i (inode X i).generation k) (value_in X f)
@@ -195,7 +224,8 @@ module _ (m : Mark) (X : Image) (h : IsMark m) (fine : FineImage m X) where
       go (answer.Holds x) e =
           let hx = find-held X i (path_of k) x e in
           let ex : Explained m i (inode X i).generation (path_of k) x =
-          subst (λ (w : Pointer). Explained m i (inode X i).generation (path_of k) w) hx.same (explained i (path_of k) (path_of-slot k lt) live hx.above) in
+          subst (λ (w : Pointer). Explained m i (inode X i).generation (path_of k) w) hx.same
+          (explained i (path_of k) (path_of-slot k lt) live hx.above) in
           held-value i k x live lt (traced i (path_of k) x hx ex)
 
   pub reads-all : ReadsSince m X

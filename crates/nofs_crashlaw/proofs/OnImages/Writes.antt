@@ -1,5 +1,6 @@
 -- A write of a step leaves every block explained, and disturbs nothing that is sure.
-use Rattle.std.proofs.Common.{◌≡◌, ℕ, ◌+◌, ◌-◌, ◌/◌, ◌%◌, ◌<◌, ◌≤◌, inl, inr, true, ltb, leb, Option, Some, is_some, sym, ap, ◌∙◌, subst, subst₂, arith}
+use Rattle.std.proofs.Common.{◌≡◌, ℕ, ◌+◌, ◌-◌, ◌/◌, ◌%◌, ◌<◌, ◌≤◌, inl, inr, true, ltb, leb, Option, Some, is_some}
+use Rattle.std.proofs.Common.{sym, ap, ◌∙◌, subst, subst₂, arith}
 use Rattle.std.proofs.Common.{leb-true}
 use Rattle.nofs_crashlaw.specs.Images.Reasons.{Holes, Explained, Emptied, Fresh, WrittenAs, RecordExplained, Fine}
 use Rattle.nofs_crashlaw.specs.Images.Reasons.{FineImage, IsKept, RecordStands, Solid}
@@ -16,7 +17,8 @@ use Rattle.nofs_model.specs.declared.image.path.PathAnswer.TheVariants as answer
 use Rattle.nofs_history.specs.Meta.{is_bytes}
 use Rattle.nofs_history.specs.Marks.{Mark}
 use Rattle.nofs_model.specs.Cells.{Cell, Kind, Leaf, Pointer, FileKind, Record, tag_of, pointer_at, is_live, record_at}
-use Rattle.nofs_model.specs.Image.{Image, cell_at, super_at, is_data_block, is_inode, inode, Path, InRecord, Under, path_of, slot_of, kind_in}
+use Rattle.nofs_model.specs.Image.{Image, cell_at, super_at, is_data_block, is_inode, inode, Path, InRecord, Under}
+use Rattle.nofs_model.specs.Image.{path_of, slot_of, kind_in}
 use Rattle.nofs_model.specs.Image.{tag_for, record_pointer, find, pointer, files_in, agreed, IsSlot}
 use Rattle.nofs_model.specs.declared.image.value.Value.TheVariants.{Hole}
 
@@ -30,7 +32,8 @@ no-hole m i g path k holes = let e : is_bytes Hole ≡ true = k.sure Hole (holes
 is_some-some : (o : Option FileKind) (p : Option FileKind) → o ≡ p → is_some p ≡ true → is_some o ≡ true
 is_some-some o p e h = rw e h
 
-module _ (m : Mark) (X : Image) (h : IsMark m) (fine : FineImage m X) (solid : SolidImage m X) (tracked : (i g : ℕ) → m.stands i g ≡ true
+module _ (m : Mark) (X : Image) (h : IsMark m) (fine : FineImage m X) (solid : SolidImage m X)
+    (tracked : (i g : ℕ) → m.stands i g ≡ true
     → agreed (files_in X) i ≡ true) where
   super : cell_at X 0 ≡ cell_at m.image 0
   super = same-super m X h fine
@@ -48,7 +51,8 @@ module _ (m : Mark) (X : Image) (h : IsMark m) (fine : FineImage m X) (solid : S
       let q = h.quarters in
       omega (arith, first, low, high, e, q)
 
-  pointer-explained : (i g : ℕ) (path : Path) (x : Pointer) → IsSlot path → PointerProper m X i g path x → Explained m i g path x
+  pointer-explained : (i g : ℕ) (path : Path) (x : Pointer) → IsSlot path → PointerProper m X i g path x
+      → Explained m i g path x
   pointer-explained i g path x s (Same live gen above same) =
       subst₂ (λ (q : ℕ) (w : Pointer). Explained m i q path w) gen same (explained m X h fine i path s live above)
   pointer-explained i g path x s (Cut z holes) = Emptied z holes
@@ -61,7 +65,8 @@ module _ (m : Mark) (X : Image) (h : IsMark m) (fine : FineImage m X) (solid : S
       let x : find X i path ≡ answer.Holds held.0 = still i g path k ∙ held.1 in
       (find-held X i path held.0 x).same ∙ sym (find-held m.image i path held.0 held.1).same
 
-  kept-pointer : (i g : ℕ) (path : Path) (x : Pointer) → IsKept m i g path → PointerProper m X i g path x → x ≡ pointer m.image i path
+  kept-pointer : (i g : ℕ) (path : Path) (x : Pointer) → IsKept m i g path → PointerProper m X i g path x
+      → x ≡ pointer m.image i path
   kept-pointer i g path x k (Same live gen above same) = sym same ∙ same-pointer i g path k
   kept-pointer i g path x k (Cut z holes) = absurd (no-hole m i g path k holes)
   kept-pointer i g path x k (New le none) =
@@ -69,10 +74,12 @@ module _ (m : Mark) (X : Image) (h : IsMark m) (fine : FineImage m X) (solid : S
       absurd (none held.0 (still i g path k ∙ held.1))
 
   -- what a kept slot names isn't free
-  place-tag : (i g : ℕ) (path : Path) (x : Pointer) (b : ℕ) (c : Cell) → InPlaceOrFree X b c → IsKept m i g path → find m.image i path ≡ answer.Holds x
+  place-tag : (i g : ℕ) (path : Path) (x : Pointer) (b : ℕ) (c : Cell) → InPlaceOrFree X b c → IsKept m i g path
+      → find m.image i path ≡ answer.Holds x
       → x.block ≡ b → tag_of c.tag ≡ tag_of (cell_at m.image b).tag
   place-tag i g path x b c (inl same) k e eb = same ∙ ((solid b).block i g path x k e eb).tag
-  place-tag i g path x b c (inr free) k e eb = absurd (free i path x (kept-slot m i g path k) (tracked i g k.stands) (still i g path k ∙ e) eb)
+  place-tag i g path x b c (inr free) k e eb =
+      absurd (free i path x (kept-slot m i g path k) (tracked i g k.stands) (still i g path k ∙ e) eb)
 
   content-fine : (b : ℕ) (c : Cell) → ContentProper m X b c → Fine m b c
   content-fine b c w = inr (record {
@@ -83,7 +90,8 @@ module _ (m : Mark) (X : Image) (h : IsMark m) (fine : FineImage m X) (solid : S
     where
       positive : 0 < b
       positive = let first = leb-true (1 + (super_at m.image).inodes / 4) b
-          (and-both (leb (1 + (super_at m.image).inodes / 4) b) (ltb b (super_at m.image).blocks) w.area).0 in omega (arith, first)
+          (and-both (leb (1 + (super_at m.image).inodes / 4) b) (ltb b (super_at m.image).blocks) w.area).0 in
+          omega (arith, first)
 
       given : (q : Kind) → IsContentKind q → WrittenAs m q w.tag c.payload
       given q (inl e) = rw e w.given
@@ -98,14 +106,16 @@ module _ (m : Mark) (X : Image) (h : IsMark m) (fine : FineImage m X) (solid : S
     };
   }
     where
-      no-pointers : (i g : ℕ) (path : Path) (x : Pointer) → IsKept m i g path → find m.image i path ≡ answer.Holds x → x.block ≡ b → (n : ℕ)
+      no-pointers : (i g : ℕ) (path : Path) (x : Pointer) → IsKept m i g path → find m.image i path ≡ answer.Holds x
+          → x.block ≡ b → (n : ℕ)
           → IsKept m i g (Under path n) → ⊥
       no-pointers i g path x k e eb n kn =
           let s = kept-slot m i g (Under path n) kn in
           let hm = find-held m.image i path x e in
           let t0 : tag_of (cell_at m.image b).tag ≡ Some (tag_for m.image i path x.stamp) =
           subst (λ (q : ℕ). tag_of (cell_at m.image q).tag ≡ Some (tag_for m.image i path x.stamp)) eb hm.agrees.tag in
-          let t1 : Some w.tag ≡ Some (tag_for m.image i path x.stamp) = sym w.spelled ∙ place-tag i g path x b c w.place k e eb ∙ t0 in
+          let t1 : Some w.tag ≡ Some (tag_for m.image i path x.stamp) = sym w.spelled
+          ∙ place-tag i g path x b c w.place k e eb ∙ t0 in
           let k1 : w.tag.kind ≡ kind_in (inode m.image i) path = cc t1 in
           let k2 : kind_in (inode m.image i) path ≡ Leaf = rw s.0 in
           elim w.kind [ inl a ↦ cc (a, k1, k2) | inr a ↦ cc (a, k1, k2) ]
@@ -117,14 +127,16 @@ module _ (m : Mark) (X : Image) (h : IsMark m) (fine : FineImage m X) (solid : S
       w.tag,
       w.spelled,
       rw w.kind (λ n lt. rw (at-path)
-          (pointer-explained w.tag.inode w.tag.generation (Under w.path n) (pointer_at c.payload n) (w.points, lt, w.is_slot) (w.pointers n lt))),
+          (pointer-explained w.tag.inode w.tag.generation (Under w.path n) (pointer_at c.payload n)
+          (w.points, lt, w.is_slot) (w.pointers n lt))),
     );
     table = λ i range e live. absurd (not-table b i w.area range e);
   })
     where
       positive : 0 < b
       positive = let first = leb-true (1 + (super_at m.image).inodes / 4) b
-          (and-both (leb (1 + (super_at m.image).inodes / 4) b) (ltb b (super_at m.image).blocks) w.area).0 in omega (arith, first)
+          (and-both (leb (1 + (super_at m.image).inodes / 4) b) (ltb b (super_at m.image).blocks) w.area).0 in
+          omega (arith, first)
 
       at-path : path_of w.tag.slot ≡ w.path
       at-path = ap path_of w.slot ∙ path_of-slot_of w.path w.is_slot
@@ -138,32 +150,38 @@ module _ (m : Mark) (X : Image) (h : IsMark m) (fine : FineImage m X) (solid : S
     };
   }
     where
-      each : (i g : ℕ) (path : Path) (x : Pointer) → IsKept m i g path → find m.image i path ≡ answer.Holds x → x.block ≡ b → (n : ℕ)
+      each : (i g : ℕ) (path : Path) (x : Pointer) → IsKept m i g path → find m.image i path ≡ answer.Holds x
+          → x.block ≡ b → (n : ℕ)
           → IsKept m i g (Under path n) → pointer_at c.payload n ≡ pointer_at (cell_at m.image b).payload n
       each i g path x k e eb n kn =
           let s = kept-slot m i g (Under path n) kn in
           let hm = find-held m.image i path x e in
           let t0 : tag_of (cell_at m.image b).tag ≡ Some (tag_for m.image i path x.stamp) =
           subst (λ (q : ℕ). tag_of (cell_at m.image q).tag ≡ Some (tag_for m.image i path x.stamp)) eb hm.agrees.tag in
-          let t1 : Some w.tag ≡ Some (tag_for m.image i path x.stamp) = sym w.spelled ∙ place-tag i g path x b c w.place k e eb ∙ t0 in
+          let t1 : Some w.tag ≡ Some (tag_for m.image i path x.stamp) = sym w.spelled
+          ∙ place-tag i g path x b c w.place k e eb ∙ t0 in
           let ei : w.tag.inode ≡ i = cc t1 in
           let eg0 : w.tag.generation ≡ (inode m.image i).generation = cc t1 in
           let eg : w.tag.generation ≡ g = eg0 ∙ h.stood_generation i g k.stands in
           let es0 : w.tag.slot ≡ slot_of path = cc t1 in
           let es : slot_of w.path ≡ slot_of path = sym w.slot ∙ es0 in
           let ep : w.path ≡ path = sym (path_of-slot_of w.path w.is_slot) ∙ ap path_of es ∙ path_of-slot_of path s.2 in
-          let p0 : PointerProper m X w.tag.inode w.tag.generation (Under w.path n) (pointer_at c.payload n) = w.pointers n s.1 in
+          let p0 : PointerProper m X w.tag.inode w.tag.generation (Under w.path n) (pointer_at c.payload n) =
+          w.pointers n s.1 in
           let p1 : PointerProper m X i g (Under path n) (pointer_at c.payload n) =
           subst₂ (λ (q : ℕ) (r : ℕ). PointerProper m X q r (Under path n) (pointer_at c.payload n)) ei eg
-          (subst (λ (q : Path). PointerProper m X w.tag.inode w.tag.generation (Under q n) (pointer_at c.payload n)) ep p0) in
-          let same : pointer m.image i (Under path n) ≡ pointer_at (cell_at m.image x.block).payload n = rw (e, pointer) in
+          (subst (λ (q : Path). PointerProper m X w.tag.inode w.tag.generation (Under q n)
+          (pointer_at c.payload n)) ep p0) in
+          let same : pointer m.image i (Under path n) ≡ pointer_at (cell_at m.image x.block).payload n =
+          rw (e, pointer) in
           let same' : pointer m.image i (Under path n) ≡ pointer_at (cell_at m.image b).payload n =
           subst (λ (q : ℕ). pointer m.image i (Under path n) ≡ pointer_at (cell_at m.image q).payload n) eb same in
           kept-pointer i g (Under path n) (pointer_at c.payload n) kn p1 ∙ same'
 
   record-explained : (i : ℕ) (r : Record) → RecordProper m X i r → is_live r ≡ true → RecordExplained m i r
   record-explained i r (Unchanged e) live =
-      subst (λ (q : Record). RecordExplained m i q) (sym e) (explained-record m X h fine i (subst (λ (q : Record). is_live q ≡ true) e live))
+      subst (λ (q : Record). RecordExplained m i q) (sym e)
+      (explained-record m X h fine i (subst (λ (q : Record). is_live q ≡ true) e live))
   record-explained i r (Changed liveX gen kind meta pointers) live =
       let rx = explained-record m X h fine i liveX in
       record {
@@ -182,7 +200,8 @@ module _ (m : Mark) (X : Image) (h : IsMark m) (fine : FineImage m X) (solid : S
       old lm gm = let y = h.young i lm in omega (arith, y, gm, young)
 
   record-stands : (i g : ℕ) (r : Record) → m.stands i g ≡ true → RecordProper m X i r → RecordStands m i g r
-  record-stands i g r s (Unchanged e) = subst (λ (q : Record). RecordStands m i g q) (sym e) (stands-record m h X super solid i g s)
+  record-stands i g r s (Unchanged e) =
+      subst (λ (q : Record). RecordStands m i g q) (sym e) (stands-record m h X super solid i g s)
   record-stands i g r s (Changed liveX gen kind meta pointers) =
       let rs = stands-record m h X super solid i g s in
       let eg : r.generation ≡ g = gen ∙ rs.generation in
@@ -191,7 +210,8 @@ module _ (m : Mark) (X : Image) (h : IsMark m) (fine : FineImage m X) (solid : S
         generation = eg;
         kind = kind ∙ rs.kind;
         pointers = λ n kn. kept-pointer i g (InRecord n) (record_pointer r n) kn
-            (subst (λ (q : ℕ). PointerProper m X i q (InRecord n) (record_pointer r n)) eg (pointers n (kept-slot m i g (InRecord n) kn)));
+            (subst (λ (q : ℕ). PointerProper m X i q (InRecord n) (record_pointer r n)) eg
+            (pointers n (kept-slot m i g (InRecord n) kn)));
       }
   record-stands i g r s (Freed dead gone) = absurd (cc (s, gone g))
   record-stands i g r s (Made young none meta nulls holes) = absurd (cc (s, none g))
@@ -212,7 +232,8 @@ module _ (m : Mark) (X : Image) (h : IsMark m) (fine : FineImage m X) (solid : S
       off-table : (i : ℕ) (path : Path) (x : Pointer) → find m.image i path ≡ answer.Holds x → x.block ≡ b → ⊥
       off-table i path x e eb =
           let hm = find-held m.image i path x e in
-          let a : is_data_block m.image b ≡ true = subst (λ (q : ℕ). is_data_block m.image q ≡ true) eb hm.agrees.area in
+          let a : is_data_block m.image b ≡ true =
+          subst (λ (q : ℕ). is_data_block m.image q ≡ true) eb hm.agrees.area in
           cc (a, w.area)
 
   proper : (b : ℕ) (c : Cell) → Proper m X b c → Fine m b c × Solid m b c
@@ -220,6 +241,7 @@ module _ (m : Mark) (X : Image) (h : IsMark m) (fine : FineImage m X) (solid : S
   proper b c (OfPointers w) = (pointers-fine b c w, pointers-solid b c w)
   proper b c (OfTable w) = (table-fine b c w, table-solid b c w)
 
-pub writes-proper : (m : Mark) (X : Image) → IsMark m → FineImage m X → SolidImage m X → ((i g : ℕ) → m.stands i g ≡ true → agreed (files_in X) i ≡ true)
+pub writes-proper : (m : Mark) (X : Image) → IsMark m → FineImage m X → SolidImage m X
+    → ((i g : ℕ) → m.stands i g ≡ true → agreed (files_in X) i ≡ true)
     → (b : ℕ) (c : Cell) → Proper m X b c → Fine m b c × Solid m b c
 writes-proper m X h fine solid tracked b c w = proper m X h fine solid tracked b c w

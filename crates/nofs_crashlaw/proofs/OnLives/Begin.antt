@@ -1,7 +1,9 @@
 -- What a mount finds, and which entry gave a value.
 use Rattle.nofs_history.specs.Claims.{next_stamp}
-use Rattle.std.proofs.Common.{◌≡◌, ◌≢◌, ℕ, ◌+◌, ◌*◌, ◌^◌, ◌<◌, ◌≤◌, inl, inr, Bool, true, false, eqb, leb, ◌&&◌, List, [], ◌∷◌, length, option_to_list}
-use Rattle.std.proofs.Common.{Option, Some, None, IfSome, Contains, refl, sym, ap, subst, subst₂, arith, eqb-true, eq-eqb}
+use Rattle.std.proofs.Common.{◌≡◌, ◌≢◌, ℕ, ◌+◌, ◌*◌, ◌^◌, ◌<◌, ◌≤◌, inl, inr, Bool, true, false, eqb, leb, ◌&&◌, List}
+use Rattle.std.proofs.Common.{[], ◌∷◌, length, option_to_list}
+use Rattle.std.proofs.Common.{Option, Some, None, IfSome, Contains, refl, sym, ap, subst, subst₂, arith, eqb-true}
+use Rattle.std.proofs.Common.{eq-eqb}
 use Rattle.std.proofs.lemmas.List.Elements.{Contains-append_cases}
 use Rattle.nofs_crashlaw.specs.Lives.{OnlySuper, GivenBy, LawGiven, LawBegin, LawUpgraded}
 use Rattle.nofs_model.proofs.OnSlots.Find.{and-both}
@@ -20,43 +22,55 @@ nothing-in v (k, lt, e) = omega (arith, lt)
 
 pub law-given : LawGiven
 law-given F [] i g k v h = absurd (nothing-in v h)
-law-given F (e ∷ es) i g k v h = elim (Contains-append_cases (option_to_list ((given_by F e).slots i g k)) (values_given (files_by F e) es i g k) v h) [
-  | inl here ↦ record { before = []; entry = e; after = es; parts = refl; gives = one ((given_by F e).slots i g k) here }
-  | inr there ↦ more (law-given (files_by F e) es i g k v there)
-]
+law-given F (e ∷ es) i g k v h = elim
+    (Contains-append_cases (option_to_list ((given_by F e).slots i g k)) (values_given (files_by F e) es i g k) v h) [
+      | inl here ↦
+          record { before = []; entry = e; after = es; parts = refl; gives = one ((given_by F e).slots i g k) here }
+      | inr there ↦ more (law-given (files_by F e) es i g k v there)
+    ]
   where
     one : (o : Option Value) → Contains (option_to_list o) v → o ≡ Some v
     one None c = absurd (nothing-in v c)
     one (Some w) c = ap Some (sole-is w v c)
 
     more : GivenBy (files_by F e) es i g k v → GivenBy F (e ∷ es) i g k v
-    more b = record { before = e ∷ b.before; entry = b.entry; after = b.after; parts = ap (λ (r : List Entry1). e ∷ r) b.parts; gives = b.gives }
+    more b = record {
+      before = e ∷ b.before;
+      entry = b.entry;
+      after = b.after;
+      parts = ap (λ (r : List Entry1). e ∷ r) b.parts;
+      gives = b.gives;
+    }
 
 -- the tag of a superblock
 abbrev super_tag : Tag
 super_tag = record { kind = Super; inode = 0; generation = 0; slot = 0; stamp = 0 }
 
 -- block 0 names no generation and no stamp
-first-below : (bound : ℕ) (Y : Image) → 0 < bound → tag_of (cell_at Y 0).tag ≡ Some super_tag → CellBelow bound Y 0 (cell_at Y 0)
+first-below : (bound : ℕ) (Y : Image) → 0 < bound → tag_of (cell_at Y 0).tag ≡ Some super_tag
+    → CellBelow bound Y 0 (cell_at Y 0)
 first-below bound Y pos e = record {
   tag = record {
     own = subst (λ (o : Option Tag). IfSome o (λ t. (t.generation < bound) × (t.stamp < bound))) (sym e) (pos, pos);
     entries = subst (λ (o : Option Tag). IfSome o (λ t. t.kind ≡ Directory → (j : ℕ) → j < 16
         → IfSome (entry_in (cell_at Y 0).payload j) (λ e. e.generation < bound))) (sym e) (λ d. absurd (cc d));
-    pointers = subst (λ (o : Option Tag). IfSome o (λ t. t.kind ≡ Leaf → (j : ℕ) → j < 64 → (pointer_at (cell_at Y 0).payload j).stamp < bound)) (sym e)
+    pointers = subst (λ (o : Option Tag). IfSome o
+        (λ t. t.kind ≡ Leaf → (j : ℕ) → j < 64 → (pointer_at (cell_at Y 0).payload j).stamp < bound)) (sym e)
         (λ d. absurd (cc d));
   };
   records = λ i range eb live. absurd (omega (arith, eb));
 }
 
-other-below : (bound : ℕ) (X Y : Image) (b : ℕ) → (super_at Y).inodes ≡ (super_at X).inodes → CellBelow bound X b (cell_at X b)
+other-below : (bound : ℕ) (X Y : Image) (b : ℕ)
+    → (super_at Y).inodes ≡ (super_at X).inodes → CellBelow bound X b (cell_at X b)
     → CellBelow bound Y b (cell_at X b)
 other-below bound X Y b e h = record {
   tag = h.tag;
   records = λ i range eb live. h.records i (subst (λ (n : ℕ). (leb 1 i && leb i n) ≡ true) e range) eb live;
 }
 
-only-below : (bound : ℕ) (X Y : Image) → 0 < bound → OnlySuper X Y → tag_of (cell_at Y 0).tag ≡ Some super_tag → IsBelow bound X → IsBelow bound Y
+only-below : (bound : ℕ) (X Y : Image) → 0 < bound → OnlySuper X Y → tag_of (cell_at Y 0).tag ≡ Some super_tag
+    → IsBelow bound X → IsBelow bound Y
 only-below bound X Y pos r super h b lt = go (eqb b 0) refl
   where
     ltx : b < (super_at X).blocks
@@ -70,7 +84,8 @@ only-below bound X Y pos r super h b lt = go (eqb b 0) refl
         let ne : b ≢ 0 = λ z. let t : eqb b 0 ≡ true = eq-eqb b 0 z in cc (t, e) in
         subst (λ (c : Cell). CellBelow bound Y b c) (sym (r.others b ne)) (other-below bound X Y b r.inodes (h b ltx))
 
-only-mountable : (X Y : Image) → is_mountable X ≡ true → OnlySuper X Y → is_super (cell_at Y 0).payload ≡ true → is_mountable Y ≡ true
+only-mountable : (X Y : Image) → is_mountable X ≡ true → OnlySuper X Y
+    → is_super (cell_at Y 0).payload ≡ true → is_mountable Y ≡ true
 only-mountable X Y m r spelled =
     let geometry : is_geometry (length X) (super_at X).blocks (super_at X).inodes ≡ true =
     (and-both (is_super (cell_at X 0).payload) (is_geometry (length X) (super_at X).blocks (super_at X).inodes) m).1 in
@@ -80,7 +95,10 @@ only-mountable X Y m r spelled =
     (λ j. spelled j && same j)
 
 raise-bound : (a b : ℕ) (X : Image) (c : ℕ) (d : Cell) → a ≤ b → CellBelow a X c d → CellBelow b X c d
-raise-bound a b X c d le h = record { tag = tag-below a b d le h.tag; records = λ i range eb live. record-below a b _ le (h.records i range eb live) }
+raise-bound a b X c d le h = record {
+  tag = tag-below a b d le h.tag;
+  records = λ i range eb live. record-below a b _ le (h.records i range eb live);
+}
 
 blocks-of : (Y : Image) (first : ℕ) → (world_of Y first).blocks ≡ (super_at Y).blocks
 unfolding world_of
@@ -95,14 +113,16 @@ law-begin X Y first sound r first_cell mount = (
   record {
     mountable = only-mountable X Y sound.mountable r.only first_cell.payload;
     mount = mount;
-    below = λ b lt. raise-bound ((super_at Y).mount * 2 ^ 40) (((super_at Y).mount + 1) * 2 ^ 40) Y b (cell_at Y b) (omega arith) (below b lt);
+    below = λ b lt. raise-bound ((super_at Y).mount * 2 ^ 40) (((super_at Y).mount + 1) * 2 ^ 40) Y b (cell_at Y b)
+        (omega arith) (below b lt);
   },
   λ b lt c has.
       let lt' : b < (super_at Y).blocks = subst (λ (n : ℕ). b < n) (blocks-of Y first) lt in
       let n = number-of Y first in
       let e = sole-is (cell_at Y b) c has in
       subst (λ (d : Cell). CellBelow (next_stamp (world_of Y first)) Y b d) e
-      (raise-bound ((super_at Y).mount * 2 ^ 40) (next_stamp (world_of Y first)) Y b (cell_at Y b) (omega (arith, n)) (below b lt')),
+      (raise-bound ((super_at Y).mount * 2 ^ 40) (next_stamp (world_of Y first)) Y b (cell_at Y b)
+      (omega (arith, n)) (below b lt')),
 )
   where
     below : IsBelow ((super_at Y).mount * 2 ^ 40) Y

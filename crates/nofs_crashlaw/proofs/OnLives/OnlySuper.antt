@@ -1,20 +1,25 @@
 -- What block 0 alone does not change: records, values, files, owners.
-use Rattle.std.proofs.Common.{◌≡◌, ◌≢◌, ℕ, zero, suc, ◌+◌, ◌-◌, ◌/◌, ◌%◌, ◌<◌, Bool, true, false, cond, eqb, leb, ltb, ◌&&◌, ◌||◌, Option, Some, None}
+use Rattle.std.proofs.Common.{◌≡◌, ◌≢◌, ℕ, zero, suc, ◌+◌, ◌-◌, ◌/◌, ◌%◌, ◌<◌, Bool, true, false, cond, eqb, leb, ltb}
+use Rattle.std.proofs.Common.{◌&&◌, ◌||◌, Option, Some, None}
 use Rattle.std.proofs.Common.{is_some, refl, sym, ap, ◌∙◌, arith, leb-true, le-leb}
 use Rattle.nofs_model.specs.declared.image.path.PathAnswer.{PathAnswer}
 use Rattle.nofs_crashlaw.specs.Lives.{IsNew, OnlySuper, SaysTheSame, LawOnlySuper}
 use Rattle.nofs_model.proofs.OnSlots.Find.{and-both, find-held, judged-built-null}
 use Rattle.nofs_model.proofs.OnSlots.Paths.{path_of-slot}
 use Rattle.nofs_model.specs.declared.image.path.PathAnswer.TheVariants as answer
-use Rattle.nofs_model.specs.Cells.{FileKind, Cell, Tag, Pointer, Record, tag_of, is_null, pointer_at, record_at, free_record, is_live, slot_limit}
-use Rattle.nofs_model.specs.Image.{Image, cell_at, super_at, is_data_block, is_inode, inode, Path, InRecord, Under, path_of, slot_of, is_slot}
-use Rattle.nofs_model.specs.Image.{kind_in, is_tag, agrees, record_pointer, judged, find, value, value_in, node_in, file_from, files_in, agreed, Home}
+use Rattle.nofs_model.specs.Cells.{FileKind, Cell, Tag, Pointer, Record, tag_of, is_null, pointer_at, record_at}
+use Rattle.nofs_model.specs.Cells.{free_record, is_live, slot_limit}
+use Rattle.nofs_model.specs.Image.{Image, cell_at, super_at, is_data_block, is_inode, inode, Path, InRecord, Under}
+use Rattle.nofs_model.specs.Image.{path_of, slot_of, is_slot}
+use Rattle.nofs_model.specs.Image.{kind_in, is_tag, agrees, record_pointer, judged, find, value, value_in, node_in}
+use Rattle.nofs_model.specs.Image.{file_from, files_in, agreed, Home}
 use Rattle.nofs_model.specs.Image.{home_at, owner, owner_by, owner_found, is_special, is_used_block, IsSlot}
 use Rattle.nofs_model.specs.declared.image.value.Value.TheVariants.{Hole, Bytes}
 
 area-positive : (X : Image) (b : ℕ) → is_data_block X b ≡ true → b ≢ 0
 area-positive X b area e =
-    let first = leb-true (1 + (super_at X).inodes / 4) b (and-both (leb (1 + (super_at X).inodes / 4) b) (ltb b (super_at X).blocks) area).0 in
+    let first = leb-true (1 + (super_at X).inodes / 4) b
+    (and-both (leb (1 + (super_at X).inodes / 4) b) (ltb b (super_at X).blocks) area).0 in
     omega (arith, first, e)
 
 -- the parts that agreement goes by
@@ -29,26 +34,34 @@ module _ (X Y : Image) (r : OnlySuper X Y) where
   pub same-inode : (i : ℕ) → inode Y i ≡ inode X i
   unfolding inode
   same-inode i =
-      ap (λ (t : Bool). cond t (record_at (cell_at Y (1 + (i - 1) / 4)).payload ((i - 1) % 4)) free_record) (same-range i)
-      ∙ ap (λ (c : Cell). cond (is_inode X i) (record_at c.payload ((i - 1) % 4)) free_record) (r.others (1 + (i - 1) / 4) (λ e. omega (arith, e)))
+      ap (λ (t : Bool). cond t (record_at (cell_at Y (1 + (i - 1) / 4)).payload ((i - 1) % 4)) free_record)
+      (same-range i)
+      ∙ ap (λ (c : Cell). cond (is_inode X i) (record_at c.payload ((i - 1) % 4)) free_record)
+      (r.others (1 + (i - 1) / 4) (λ e. omega (arith, e)))
 
   same-area : (b : ℕ) → is_data_block Y b ≡ is_data_block X b
   same-area b = λ j. leb (1 + r.inodes j / 4) b && ltb b (r.blocks j)
 
   same-agrees : (i : ℕ) (path : Path) (x : Pointer) → agrees Y i path x ≡ agrees X i path x
-  same-agrees i path x = (λ j. agrees_by i path x (same-inode i j) (same-area x.block j) (tag_of (cell_at Y x.block).tag)) ∙ go (is_data_block X x.block) refl
+  same-agrees i path x =
+      (λ j. agrees_by i path x (same-inode i j) (same-area x.block j) (tag_of (cell_at Y x.block).tag))
+      ∙ go (is_data_block X x.block) refl
     where
       go : (t : Bool) → is_data_block X x.block ≡ t
-          → agrees_by i path x (inode X i) (is_data_block X x.block) (tag_of (cell_at Y x.block).tag) ≡ agrees_by i path x (inode X i)
+          → agrees_by i path x (inode X i) (is_data_block X x.block) (tag_of (cell_at Y x.block).tag)
+          ≡ agrees_by i path x (inode X i)
           (is_data_block X x.block) (tag_of (cell_at X x.block).tag)
-      go true e = ap (λ (c : Cell). agrees_by i path x (inode X i) (is_data_block X x.block) (tag_of c.tag)) (r.others x.block (area-positive X x.block e))
+      go true e = ap (λ (c : Cell). agrees_by i path x (inode X i) (is_data_block X x.block) (tag_of c.tag))
+          (r.others x.block (area-positive X x.block e))
       go false e = rw e refl
 
   same-judged : (i : ℕ) (path : Path) (x : Pointer) → judged Y i path x ≡ judged X i path x
-  same-judged i path x = ap (λ (t : Bool). cond (is_null x) answer.Hole (cond t (answer.Holds x) answer.Lost)) (same-agrees i path x)
+  same-judged i path x =
+      ap (λ (t : Bool). cond (is_null x) answer.Hole (cond t (answer.Holds x) answer.Lost)) (same-agrees i path x)
 
   -- the cell of a slot that holds
-  same-cell : (i : ℕ) (path : Path) (x : Pointer) → find X i path ≡ answer.Holds x → cell_at Y x.block ≡ cell_at X x.block
+  same-cell : (i : ℕ) (path : Path) (x : Pointer) → find X i path ≡ answer.Holds x
+      → cell_at Y x.block ≡ cell_at X x.block
   same-cell i path x e = r.others x.block (area-positive X x.block (find-held X i path x e).agrees.area)
 
   pub same-find : (i : ℕ) (path : Path) → find Y i path ≡ find X i path
@@ -67,7 +80,8 @@ module _ (X Y : Image) (r : OnlySuper X Y) where
   pub same-value : (i k : ℕ) → value Y i k ≡ value X i k
   same-value i k = ap (λ (f : PathAnswer). value_in Y f) (same-find i (path_of k)) ∙ go (find X i (path_of k)) refl
     where
-      go : (f : PathAnswer) → find X i (path_of k) ≡ f → value_in Y (find X i (path_of k)) ≡ value_in X (find X i (path_of k))
+      go : (f : PathAnswer)
+          → find X i (path_of k) ≡ f → value_in Y (find X i (path_of k)) ≡ value_in X (find X i (path_of k))
       go answer.Hole e = rw e refl
       go answer.Lost e = rw e refl
       go (answer.Holds z) e = rw e (ap (λ (c : Cell). Bytes c.payload) (same-cell i (path_of k) z e))
@@ -92,16 +106,19 @@ module _ (X Y : Image) (r : OnlySuper X Y) where
   found-owner : (p : ℕ) (t : Tag) (f : PathAnswer) → owner_found Y p t f ≡ owner_found X p t f
   found-owner p t answer.Hole = refl
   found-owner p t answer.Lost = refl
-  found-owner p t (answer.Holds x) = ap (λ (b : Bool). cond (eqb x.block p && b) (Some (home_at t.inode t.slot)) None) (same-agreed t.inode)
+  found-owner p t (answer.Holds x) =
+      ap (λ (b : Bool). cond (eqb x.block p && b) (Some (home_at t.inode t.slot)) None) (same-agreed t.inode)
 
   by-owner : (p : ℕ) (o : Option Tag) → owner_by Y p o ≡ owner_by X p o
   by-owner p None = refl
   by-owner p (Some t) = ap (λ (o : Option Home). cond (is_slot t.slot) o None)
-      (found-owner p t (find Y t.inode (path_of t.slot)) ∙ ap (λ (f : PathAnswer). owner_found X p t f) (same-find t.inode (path_of t.slot)))
+      (found-owner p t (find Y t.inode (path_of t.slot))
+      ∙ ap (λ (f : PathAnswer). owner_found X p t f) (same-find t.inode (path_of t.slot)))
 
   pub same-owner : (p : ℕ) → p ≢ 0 → owner Y p ≡ owner X p
   unfolding owner
-  same-owner p ne = by-owner p (tag_of (cell_at Y p).tag) ∙ ap (λ (c : Cell). owner_by X p (tag_of c.tag)) (r.others p ne)
+  same-owner p ne = by-owner p (tag_of (cell_at Y p).tag)
+      ∙ ap (λ (c : Cell). owner_by X p (tag_of c.tag)) (r.others p ne)
 
   same-used : (p : ℕ) → is_used_block Y p ≡ is_used_block X p
   same-used zero =

@@ -16,11 +16,15 @@ use Rattle.nofs_model.specs.Image.{Image, cell_at, super_at}
 weaken : (a b : ℕ) (W : World) (Y : Image) (after : ℕ → List Cell) → a ≤ b → AllBelow a W Y after → AllBelow b W Y after
 weaken a b W Y after le h p lt c has = move-cell a b Y Y p c le refl (h p lt c has)
 
-module _ (W V : World) (e : Entry1) (X Y : Image) (before after : ℕ → List Cell) (low : W.serial ≤ 2 ^ 40) (quarters : (super_at X).inodes % 4 ≡ 0)
+module _ (W V : World) (e : Entry1) (X Y : Image) (before after : ℕ → List Cell) (low : W.serial ≤ 2 ^ 40)
+    (quarters : (super_at X).inodes % 4 ≡ 0)
     (first : cell_at Y 0 ≡ cell_at X 0)
     (fresh : IsFresh W X before) (only : OnlyNumbered W e.claims X before after) where
   idle : e.claims ≡ no_claims → V.serial ≡ W.serial → (V.serial ≤ 2 ^ 40) × AllBelow ((W.mount + 1) * 2 ^ 40) W Y after
-  idle c s = (omega (arith, s, low), by-none W e.claims X Y before after quarters first fresh only c ((W.mount + 1) * 2 ^ 40) (omega (arith, low)))
+  idle c s = (
+    omega (arith, s, low),
+    by-none W e.claims X Y before after quarters first fresh only c ((W.mount + 1) * 2 ^ 40) (omega (arith, low)),
+  )
 
   fits : first_of (rows W V e.step) ≡ None → next_stamp W + needed W e.step ≤ (W.mount + 1) * 2 ^ 40
   fits r = elim (within W V e.step r) [ inl le ↦ omega (arith, le) | inr z ↦ omega (arith, z, low) ]
@@ -37,4 +41,5 @@ module _ (W V : World) (e : Entry1) (X Y : Image) (before after : ℕ → List C
   by-next (ByWrite s rows m r c k st l) = let ks = k.serial in (omega (arith, ks, low), claimed rows c)
 
 pub law-mount-stamps : LawMountStamps
-law-mount-stamps W V e X Y before after next low quarters first fresh only = by-next W V e X Y before after low quarters first fresh only next
+law-mount-stamps W V e X Y before after next low quarters first fresh only =
+    by-next W V e X Y before after low quarters first fresh only next

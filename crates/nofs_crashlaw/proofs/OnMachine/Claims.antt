@@ -1,5 +1,6 @@
 -- As many blocks as a step needs can be claimed, where no row refuses it.
-use Rattle.std.proofs.Common.{◌≡◌, ◌≢◌, ℕ, zero, suc, ◌+◌, ◌≤◌, Bool, true, false, eqb, ltb, List, [], ◌∷◌, length, Option, Some, None}
+use Rattle.std.proofs.Common.{◌≡◌, ◌≢◌, ℕ, zero, suc, ◌+◌, ◌≤◌, Bool, true, false, eqb, ltb, List, [], ◌∷◌, length}
+use Rattle.std.proofs.Common.{Option, Some, None}
 use Rattle.std.proofs.Common.{refl, subst, arith, Contains, ne_eqb, ltb-false}
 use Rattle.std.proofs.lemmas.Bool.{eqb-false}
 use Rattle.nofs_model.specs.Cells.{Pointer, null}
@@ -7,7 +8,8 @@ use Rattle.nofs_history.specs.Search.{first_of}
 use Rattle.nofs_history.specs.World.{World, is_free_inode, is_free_block, free_inodes, free_blocks, inodes_needed}
 use Rattle.nofs_history.specs.World.{blocks_needed}
 use Rattle.nofs_history.specs.Refusals.{row, full, rows}
-use Rattle.nofs_history.specs.Claims.{claimed_blocks, Apart, Claimed, Unclaimed, IsBlockClaim, ClaimedInode, NoInode, IsInodeClaim}
+use Rattle.nofs_history.specs.Claims.{claimed_blocks, Apart, Claimed, Unclaimed, IsBlockClaim, ClaimedInode, NoInode}
+use Rattle.nofs_history.specs.Claims.{IsInodeClaim}
 use Rattle.nofs_history.specs.Claims.{next_stamp}
 use Rattle.nofs_history.specs.declared.machine.history.Claims.{Claims}
 use Rattle.nofs_history.specs.declared.machine.steps.Step.{Step}
@@ -29,7 +31,8 @@ module _ (W : World) (first : ℕ) where
   free p = is_free_block W p
 
   not-zero : (p : ℕ) → free p ≡ true → eqb p 0 ≡ false
-  not-zero p f = ne_eqb p 0 (λ z. let u = used-zero W in let t : free 0 ≡ true = subst (λ (q : ℕ). free q ≡ true) z f in cc (u, t))
+  not-zero p f =
+      ne_eqb p 0 (λ z. let u = used-zero W in let t : free 0 ≡ true = subst (λ (q : ℕ). free q ≡ true) z f in cc (u, t))
 
   pub record Blocks (i g n : ℕ) : Type 0 where
     pub cell : Pointer
@@ -78,7 +81,8 @@ module _ (W : World) (first : ℕ) where
     has_leaf = Claimed f.1.1.1.0 (let a = f.0 in let b = f.1.1.0 in omega (arith, a, b)) refl;
     has_top = Unclaimed refl;
     apart = rw (not-zero x f.1.0, not-zero y f.1.1.1.0) (
-      (λ q c. sole (λ (r : Pointer). x ≢ r.block) (record { block = y; stamp = first + 1 }) q (λ e. let b = f.1.1.0 in omega (arith, b, e)) c),
+      (λ q c. sole (λ (r : Pointer). x ≢ r.block) (record { block = y; stamp = first + 1 }) q
+          (λ e. let b = f.1.1.0 in omega (arith, b, e)) c),
       ((λ q c. absurd (none q c)), tt),
     );
   }
@@ -88,12 +92,16 @@ module _ (W : World) (first : ℕ) where
     top = record { block = z; stamp = first + 2 };
     has_cell = Claimed f.1.0 f.0 refl;
     has_leaf = Claimed f.1.1.1.0 (let a = f.0 in let b = f.1.1.0 in omega (arith, a, b)) refl;
-    has_top = Claimed f.1.1.1.1.1.0 (let a = f.0 in let b = f.1.1.0 in let c = f.1.1.1.1.0 in omega (arith, a, b, c)) refl;
+    has_top = Claimed f.1.1.1.1.1.0
+        (let a = f.0 in let b = f.1.1.0 in let c = f.1.1.1.1.0 in omega (arith, a, b, c)) refl;
     apart = rw (not-zero x f.1.0, not-zero y f.1.1.1.0, not-zero z f.1.1.1.1.1.0) (
-      (λ q c. both (λ (r : Pointer). x ≢ r.block) (record { block = y; stamp = first + 1 }) (record { block = z; stamp = first + 2 }) q
-          (λ e. let b = f.1.1.0 in omega (arith, b, e)) (λ e. let b = f.1.1.0 in let d = f.1.1.1.1.0 in omega (arith, b, d, e)) c),
+      (λ q c. both (λ (r : Pointer). x ≢ r.block) (record { block = y; stamp = first + 1 })
+          (record { block = z; stamp = first + 2 }) q
+          (λ e. let b = f.1.1.0 in omega (arith, b, e))
+          (λ e. let b = f.1.1.0 in let d = f.1.1.1.1.0 in omega (arith, b, d, e)) c),
       (
-        (λ q c. sole (λ (r : Pointer). y ≢ r.block) (record { block = z; stamp = first + 2 }) q (λ e. let d = f.1.1.1.1.0 in omega (arith, d, e)) c),
+        (λ q c. sole (λ (r : Pointer). y ≢ r.block) (record { block = z; stamp = first + 2 }) q
+            (λ e. let d = f.1.1.1.1.0 in omega (arith, d, e)) c),
         ((λ q c. absurd (none q c)), tt),
       ),
     );
@@ -145,7 +153,8 @@ module _ (W : World) (s : Step) (none : first_of (rows W W s) ≡ None) where
   pub record Inode : Type 0 where
     pub i : ℕ
     pub g : ℕ
-    pub has : (cell leaf top : Pointer) → IsInodeClaim W (next_stamp W) (claims i g cell leaf top) (ltb 0 (inodes_needed s))
+    pub has : (cell leaf top : Pointer)
+        → IsInodeClaim W (next_stamp W) (claims i g cell leaf top) (ltb 0 (inodes_needed s))
 
   some-inode : (xs : List ℕ) → length xs ≡ 1 → Falls (λ m. is_free_inode W (suc m)) W.inodes xs
       → (i : ℕ) × ((is_free_inode W i ≡ true) × ((1 ≤ i) × (i ≤ W.inodes)))
@@ -156,16 +165,19 @@ module _ (W : World) (s : Step) (none : first_of (rows W W s) ≡ None) where
   pub blocks : (i g : ℕ) → Blocks W first i g n
   blocks i g =
       let some : n ≤ free_blocks W = enough W s none in
-      choose W first i g n (pick (λ p. is_free_block W p) W.blocks n) (few W.files s) (pick-length (λ p. is_free_block W p) W.blocks n some)
+      choose W first i g n (pick (λ p. is_free_block W p) W.blocks n) (few W.files s)
+      (pick-length (λ p. is_free_block W p) W.blocks n some)
       (pick-falls (λ p. is_free_block W p) W.blocks n)
 
 pub inode-for : (W : World) (s : Step) (none : first_of (rows W W s) ≡ None) → Inode W s none
 inode-for W (step.Make d g name kind) none =
-    let t : eqb (free_inodes W) 0 ≡ false = passed _ _ (none-all (rows W W (step.Make d g name kind)) none).1.1.1.1.1.0 in
+    let t : eqb (free_inodes W) 0 ≡ false =
+    passed _ _ (none-all (rows W W (step.Make d g name kind)) none).1.1.1.1.1.0 in
     let ne : free_inodes W ≢ 0 = eqb-false (free_inodes W) 0 t in
     let some : 1 ≤ free_inodes W = omega (arith, ne) in
     let test : ℕ → Bool = λ m. is_free_inode W (suc m) in
-    let x = some-inode W (step.Make d g name kind) none (pick test W.inodes 1) (pick-length test W.inodes 1 some) (pick-falls test W.inodes 1) in
+    let x = some-inode W (step.Make d g name kind) none (pick test W.inodes 1) (pick-length test W.inodes 1 some)
+    (pick-falls test W.inodes 1) in
     record { i = x.0; g = next_stamp W; has = λ cell leaf top. ClaimedInode x.1.0 x.1.1.0 x.1.1.1 refl }
 inode-for W _ none = record { i = 0; g = 0; has = λ cell leaf top. NoInode refl refl }
 
@@ -191,7 +203,8 @@ none-later W U V s e = all-first (rows W V s) (go s (none-all (rows W U s) e))
         (a, (b, (c, (d1, (e, (row-none (eqb (free_inodes W) 0) _ _ f, (spare (step.Make d g name kind) h, r)))))))
     go (step.Link d g name i of) (a, (b, (c, (d1, (e, (f, (h, (k, (l, r))))))))) =
         (a, (b, (c, (d1, (e, (f, (h, (k, (spare (step.Link d g name i of) l, r)))))))))
-    go (step.Put i g k at bytes) (a, (b, (c, (d, (e, (f, (h, r))))))) = (a, (b, (c, (d, (e, (f, (spare (step.Put i g k at bytes) h, r)))))))
+    go (step.Put i g k at bytes) (a, (b, (c, (d, (e, (f, (h, r))))))) =
+        (a, (b, (c, (d, (e, (f, (spare (step.Put i g k at bytes) h, r)))))))
     go (step.Look d g name) a = a
     go (step.Drop d g name) a = a
     go (step.Rename d g old new) a = a

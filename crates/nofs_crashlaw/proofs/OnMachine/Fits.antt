@@ -1,6 +1,8 @@
 -- What the machine answers fits the step.
-use Rattle.std.proofs.Common.{◌≡◌, ℕ, zero, suc, ◌+◌, ◌-◌, ◌*◌, ◌/◌, ◌<◌, ◌≤◌, ◌⊎◌, inl, inr, Bool, true, false, cond, ltb, leb, ◌&&◌, not, List, []}
-use Rattle.std.proofs.Common.{length, Option, Some, None, unwrap_or, refl, sym, subst, arith, All, IsTrue, length-append}
+use Rattle.std.proofs.Common.{◌≡◌, ℕ, zero, suc, ◌+◌, ◌-◌, ◌*◌, ◌/◌, ◌<◌, ◌≤◌, ◌⊎◌, inl, inr, Bool, true, false, cond}
+use Rattle.std.proofs.Common.{ltb, leb, ◌&&◌, not, List, []}
+use Rattle.std.proofs.Common.{length, Option, Some, None, unwrap_or, refl, sym, subst, arith, All, IsTrue}
+use Rattle.std.proofs.Common.{length-append}
 use Rattle.std.proofs.lemmas.List.Elements.{All-nil, All-cons, All-append}
 use Rattle.nofs_disk.specs.Number.{number_at}
 use Rattle.nofs_dirent.specs.Entries.{entry_of, entry_fields, has_zeros_after, entry_limit}
@@ -14,7 +16,8 @@ use Rattle.nofs_history.specs.Machine.{link_to, generation_of, value_of, is_lost
 use Rattle.nofs_history.specs.Steps.{InRange, Fits}
 use Rattle.nofs_history.specs.World.{World, next_inode}
 use Rattle.nofs_history.specs.Refusals.{row, rows}
-use Rattle.nofs_history.specs.Answers.{line_of, lines_from, lines_in_slot, listed_reply, got_reply, found_file, found_entry, found_reply}
+use Rattle.nofs_history.specs.Answers.{line_of, lines_from, lines_in_slot, listed_reply, got_reply, found_file}
+use Rattle.nofs_history.specs.Answers.{found_entry, found_reply}
 use Rattle.nofs_history.specs.Answers.{dropped_entry, dropped_reply, stat_file, reply_of}
 use Rattle.nofs_history.specs.Next.{Next, AfterFault, ByRow, Done, ByRead, ByWrite}
 use Rattle.nofs_history.specs.declared.machine.history.Entry1.{Entry1}
@@ -45,7 +48,8 @@ unfolding least_from
 least-below test at zero k e = absurd (cc e)
 least-below test at (suc n) k e = go (test at) (least-below test (suc at) n k) e
   where
-    go : (b : Bool) → (least_from test (suc at) n ≡ Some k → k < suc at + n) → cond b (Some at) (least_from test (suc at) n) ≡ Some k → k < at + suc n
+    go : (b : Bool) → (least_from test (suc at) n ≡ Some k → k < suc at + n)
+        → cond b (Some at) (least_from test (suc at) n) ≡ Some k → k < at + suc n
     go true ih e = let same : at ≡ k = cc e in omega (arith, same)
     go false ih e = let lt = ih e in omega (arith, lt)
 
@@ -60,7 +64,8 @@ next-most W = go (least_from (λ i. not (W.known_inodes i)) 1 W.inodes) refl
 
 module _ (V : World) (blocks : V.blocks ≤ 1048576) (inodes : V.inodes ≤ 65536) where
   ranged : (why : Refusal) → IsNamed V why → InRange why
-  ranged (refusal.Full needed free unverified next) n = let c = count-most (λ p. not (V.known_blocks p)) V.blocks in omega (arith, c, blocks, n)
+  ranged (refusal.Full needed free unverified next) n = let c = count-most (λ p. not (V.known_blocks p)) V.blocks in
+      omega (arith, c, blocks, n)
   ranged (refusal.InodesFull unverified next) n =
       let c = count-most (λ i. not (V.known_inodes (suc i))) V.inodes in
       let m = next-most V in
@@ -76,19 +81,23 @@ unfolding least_from
 at-least test at zero k e = absurd (cc e)
 at-least test at (suc n) k e = go (test at) (at-least test (suc at) n k) e
   where
-    go : (b : Bool) → (least_from test (suc at) n ≡ Some k → suc at ≤ k) → cond b (Some at) (least_from test (suc at) n) ≡ Some k → at ≤ k
+    go : (b : Bool) → (least_from test (suc at) n ≡ Some k → suc at ≤ k)
+        → cond b (Some at) (least_from test (suc at) n) ≡ Some k → at ≤ k
     go true ih e = let same : at ≡ k = cc e in omega (arith, same)
     go false ih e = let le = ih e in omega (arith, le)
 
 -- an entry that bytes spell has a good name
 spelled-name : (bytes : List ℕ) (entry : Entry) → entry_of bytes ≡ Some entry → is_name entry.name ≡ true
 unfolding entry_of
-spelled-name bytes entry e = go (has_zeros_after bytes (number_at 4 4 bytes)) (leb 1 (entry_fields bytes).inode) (leb 1 (entry_fields bytes).generation)
+spelled-name bytes entry e = go (has_zeros_after bytes (number_at 4 4 bytes)) (leb 1 (entry_fields bytes).inode)
+    (leb 1 (entry_fields bytes).generation)
     (is_name (entry_fields bytes).name) refl e
   where
-    go : (a b c d : Bool) → is_name (entry_fields bytes).name ≡ d → cond (a && (b && (c && d))) (Some (entry_fields bytes)) None ≡ Some entry
+    go : (a b c d : Bool) → is_name (entry_fields bytes).name ≡ d
+        → cond (a && (b && (c && d))) (Some (entry_fields bytes)) None ≡ Some entry
         → is_name entry.name ≡ true
-    go true true true true is e = let same : entry_fields bytes ≡ entry = cc e in subst (λ (x : Entry). is_name x.name ≡ true) same is
+    go true true true true is e = let same : entry_fields bytes ≡ entry = cc e in
+        subst (λ (x : Entry). is_name x.name ≡ true) same is
     go true true true false is e = absurd (cc e)
     go true true false d is e = absurd (cc e)
     go true false c d is e = absurd (cc e)
@@ -110,7 +119,8 @@ file-name (Some f) e entry h = go (is_folder f.kind && ltb e entry_limit) h
 abbrev Named : NameLine → Type 0
 Named line = IsTrue (is_name line.name)
 
-line-named : (F : Files) (d e : ℕ) (o : Option Entry) → entry_at F d e ≡ o → All Named (line_of F d e o) × (length (line_of F d e o) ≤ 1)
+line-named : (F : Files) (d e : ℕ) (o : Option Entry) → entry_at F d e ≡ o → All Named (line_of F d e o)
+    × (length (line_of F d e o) ≤ 1)
 line-named F d e None h = (All-nil Named, omega arith)
 line-named F d e (Some entry) h = (All-cons Named _ [] (file-name (F d) e entry h) (All-nil Named), omega arith)
 
@@ -121,10 +131,13 @@ lines-named F d e (suc n) =
     let rest = lines-named F d (suc e) n in
     let l = one.1 in
     let m = rest.1 in
-    let both = length-append (line_of F d e (entry_at F d e)) (lines_from F d (suc e) n) in
-    (All-append Named (line_of F d e (entry_at F d e)) (lines_from F d (suc e) n) one.0 rest.0, omega (arith, l, m, both))
+    let both = length-append (line_of F d e (entry_at F d e)) (lines_from F d (suc e) n) in (
+      All-append Named (line_of F d e (entry_at F d e)) (lines_from F d (suc e) n) one.0 rest.0,
+      omega (arith, l, m, both),
+    )
 
-listed-fits : (F : Files) (d g k : ℕ) (o : Option ℕ) → ((l : ℕ) → o ≡ Some l → l < 72) → Fits (step.List d g k) (listed_reply F d o)
+listed-fits : (F : Files) (d g k : ℕ) (o : Option ℕ) → ((l : ℕ) → o ≡ Some l → l < 72)
+    → Fits (step.List d g k) (listed_reply F d o)
 unfolding lines_in_slot
 listed-fits F d g k None range = tt
 listed-fits F d g k (Some l) range = go (is_lost (value_of F d l))
@@ -173,7 +186,8 @@ module _ (W : World) (sized : IsSizedWorld W) where
   answer-fits (step.Rename d g old new) c = tt
   answer-fits (step.List d g k) c =
       let test : ℕ → Bool = λ l. not (is_hole (value_of W.files d l)) in
-      listed-fits W.files d g k (least_from test k (72 - k)) (λ l e. let lt = least-below test k (72 - k) l e in let le = at-least test k (72 - k) l e in
+      listed-fits W.files d g k (least_from test k (72 - k))
+      (λ l e. let lt = least-below test k (72 - k) l e in let le = at-least test k (72 - k) l e in
       omega (arith, lt, le))
   answer-fits (step.Get i g k) c = got-fits i g k (value_of W.files i k) refl
   answer-fits (step.Put i g k at bytes) c = tt
@@ -186,7 +200,8 @@ module _ (W : World) (sized : IsSizedWorld W) where
   refused-fits : (s : Step) (why : Refusal) → InRange why → Fits s (reply.Refused why)
   refused-fits s why r = r
 
-  by-row : (V : World) (s : Step) (r : Reply) (why : Refusal) → V.blocks ≡ W.blocks → V.inodes ≡ W.inodes → first_of (rows W V s) ≡ Some why
+  by-row : (V : World) (s : Step) (r : Reply) (why : Refusal)
+      → V.blocks ≡ W.blocks → V.inodes ≡ W.inodes → first_of (rows W V s) ≡ Some why
       → (r ≡ reply.Refused why) ⊎ (r ≡ reply.Refused refusal.ReadFault) → Fits s r
   by-row V s r why eb ei comes (inr e) = subst (λ (q : Reply). Fits s q) (sym e) (refused-fits s refusal.ReadFault tt)
   by-row V s r why eb ei comes (inl e) =
@@ -198,12 +213,16 @@ module _ (W : World) (sized : IsSizedWorld W) where
       subst (λ (q : Reply). Fits s q) (sym e) (refused-fits s why in_range)
 
   next-fits : (e : Entry1) (V : World) → Next W e V → Fits e.step e.reply
-  next-fits e V (AfterFault s r c v) = subst (λ (q : Reply). Fits e.step q) (sym r) (refused-fits e.step refusal.Stopped tt)
+  next-fits e V (AfterFault s r c v) =
+      subst (λ (q : Reply). Fits e.step q) (sym r) (refused-fits e.step refusal.Stopped tt)
   next-fits e V (ByRow why s row (inl r) c k t l) = by-row V e.step e.reply why k.blocks k.inodes row (inl r)
   next-fits e V (ByRow why s row (inr r) c k t l) = by-row V e.step e.reply why k.blocks k.inodes row (inr r.0)
-  next-fits e V (Done s row r c fs hs se vs l) = subst (λ (q : Reply). Fits e.step q) (sym r) (answer-fits e.step e.claims)
-  next-fits e V (ByRead s row r c k t l) = subst (λ (q : Reply). Fits e.step q) (sym r) (refused-fits e.step refusal.ReadFault tt)
-  next-fits e V (ByWrite s row m r c k t l) = subst (λ (q : Reply). Fits e.step q) (sym r) (refused-fits e.step refusal.WriteFault tt)
+  next-fits e V (Done s row r c fs hs se vs l) =
+      subst (λ (q : Reply). Fits e.step q) (sym r) (answer-fits e.step e.claims)
+  next-fits e V (ByRead s row r c k t l) =
+      subst (λ (q : Reply). Fits e.step q) (sym r) (refused-fits e.step refusal.ReadFault tt)
+  next-fits e V (ByWrite s row m r c k t l) =
+      subst (λ (q : Reply). Fits e.step q) (sym r) (refused-fits e.step refusal.WriteFault tt)
 
 pub law-fits : LawFits
 law-fits W e V sized next = next-fits W sized e V next

@@ -53,11 +53,13 @@ module _ (W : World) (e f : Entry1) (V U : World) (step : e.step ≡ f.step) (cl
   Same = (e.reply ≡ f.reply) × (V ≡ U)
 
   -- a reply that a failed read gives is a fault
-  no-fault : (r : Reply) (why : Refusal) → is_fault r ≡ false → is_fault (reply.Refused why) ≡ true → r ≡ reply.Refused why → ⊥
+  no-fault : (r : Reply) (why : Refusal)
+      → is_fault r ≡ false → is_fault (reply.Refused why) ≡ true → r ≡ reply.Refused why → ⊥
   no-fault r why sound fault is = clash (is_fault r) (ap is_fault is ∙ fault) sound
 
   by-row : (r : Reply) (why : Refusal) → is_fault r ≡ false
-      → (r ≡ reply.Refused why) ⊎ ((r ≡ reply.Refused refusal.ReadFault) × (reads_nothing why ≡ false)) → r ≡ reply.Refused why
+      → (r ≡ reply.Refused why) ⊎ ((r ≡ reply.Refused refusal.ReadFault) × (reads_nothing why ≡ false))
+      → r ≡ reply.Refused why
   by-row r why sound (inl is) = is
   by-row r why sound (inr read) = absurd (no-fault r refusal.ReadFault sound refl read.0)
 
@@ -95,7 +97,8 @@ module _ (W : World) (e f : Entry1) (V U : World) (step : e.step ≡ f.step) (cl
   settled (ByRow why s row r c k t l) (AfterFault s' r' c' v') = absurd (clash W.stopped s' s)
   settled (ByRow why s row r c k t l) (ByRow why' s' row' r' c' k' t' l') =
       let world : V ≡ U = kept k k' t t' in
-      let same : why ≡ why' = one-answer (first_of (rows W V e.step)) why why' row ((λ j. first_of (rows W (world j) (step j))) ∙ row') in
+      let same : why ≡ why' =
+      one-answer (first_of (rows W V e.step)) why why' row ((λ j. first_of (rows W (world j) (step j))) ∙ row') in
       (by-row e.reply why sound_e r ∙ ap reply.Refused same ∙ sym (by-row f.reply why' sound_f r'), world)
   settled (ByRow why s row r c k t l) (Done s' row' r' c' fs' hs' se' vs' l') = absurd (mixed why row row')
   settled (ByRow why s row r c k t l) (ByRead s' row' r' c' k' t' l') = absurd (mixed why row row')
@@ -103,7 +106,8 @@ module _ (W : World) (e f : Entry1) (V U : World) (step : e.step ≡ f.step) (cl
   settled (Done s row r c fs hs se vs l) (AfterFault s' r' c' v') = absurd (clash W.stopped s' s)
   settled (Done s row r c fs hs se vs l) (ByRow why' s' row' r' c' k' t' l') = absurd (mixed-too why' row' row)
   settled (Done s row r c fs hs se vs l) (Done s' row' r' c' fs' hs' se' vs' l') =
-      let files : V.files ≡ U.files = fs ∙ ((λ j. files_after W.files (gives W.files (step j) (claims j))) ∙ sym fs') in (
+      let files : V.files ≡ U.files =
+      fs ∙ ((λ j. files_after W.files (gives W.files (step j) (claims j))) ∙ sym fs') in (
         r ∙ ((λ j. reply_of W (step j) (claims j)) ∙ sym r'),
         same-world V U (record {
           keeps = record {
@@ -120,10 +124,13 @@ module _ (W : World) (e f : Entry1) (V U : World) (step : e.step ≡ f.step) (cl
           known_blocks = blocks;
         }),
       )
-  settled (Done s row r c fs hs se vs l) (ByRead s' row' r' c' k' t' l') = absurd (no-fault f.reply refusal.ReadFault sound_f refl r')
-  settled (Done s row r c fs hs se vs l) (ByWrite s' row' m' r' c' k' t' l') = absurd (no-fault f.reply refusal.WriteFault sound_f refl r')
+  settled (Done s row r c fs hs se vs l) (ByRead s' row' r' c' k' t' l') =
+      absurd (no-fault f.reply refusal.ReadFault sound_f refl r')
+  settled (Done s row r c fs hs se vs l) (ByWrite s' row' m' r' c' k' t' l') =
+      absurd (no-fault f.reply refusal.WriteFault sound_f refl r')
   settled (ByRead s row r c k t l) n = absurd (no-fault e.reply refusal.ReadFault sound_e refl r)
   settled (ByWrite s row m r c k t l) n = absurd (no-fault e.reply refusal.WriteFault sound_e refl r)
 
 pub law-function : LawFunction
-law-function W e f V U a b step claims sound_e sound_f inodes blocks = settled W e f V U step claims sound_e sound_f inodes blocks a b
+law-function W e f V U a b step claims sound_e sound_f inodes blocks =
+    settled W e f V U step claims sound_e sound_f inodes blocks a b

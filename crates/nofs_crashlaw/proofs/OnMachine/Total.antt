@@ -1,4 +1,5 @@
--- Each step can be answered in each world, also where no call of the device fails: the world after it learns what changes, and what was seen.
+-- Each step can be answered in each world, also where no call of the device fails: the world after it learns what
+-- changes, and what was seen.
 use Rattle.std.proofs.Common.{◌≡◌, ◌≢◌, ℕ, ◌+◌, ◌⊎◌, inl, inr, Bool, true, false, ◌||◌, List, Option, Some, None}
 use Rattle.std.proofs.Common.{refl, subst}
 use Rattle.nofs_model.specs.Image.{Files}
@@ -84,7 +85,8 @@ seen-named (step.SeeBlock p) i e = cc e
 abbrev pub moved : World → Step → Claims → World
 moved W s c =
     let files : Files = files_after W.files (gives W.files s c) in
-    record W { files = files; homes = homes_after W s c files; serial = W.serial + inodes_needed s + blocks_needed W.files s }
+    record W
+    { files = files; homes = homes_after W s c files; serial = W.serial + inodes_needed s + blocks_needed W.files s }
 
 -- the world after a step that is done
 abbrev pub later : World → Step → Claims → World
@@ -111,11 +113,17 @@ module _ (W : World) (s : Step) (c : Claims) where
     block_seen = λ t p e. right-or (W.known_blocks p) (differ (uses_block V p) (uses_block W p)) (sees_block s p) e;
     inodes_why = λ i k. elim (either (W.known_inodes i) (differ (uses_inode V i) (uses_inode W i)) (sees_inode s i) k) [
       | inl was ↦ inl was
-      | inr r ↦ elim r [ inl d ↦ inr (inr (inl (differ-ne (uses_inode V i) (uses_inode W i) d))) | inr seen ↦ inr (inr (inr (seen-named s i seen))) ]
+      | inr r ↦ elim r [
+        | inl d ↦ inr (inr (inl (differ-ne (uses_inode V i) (uses_inode W i) d)))
+        | inr seen ↦ inr (inr (inr (seen-named s i seen)))
+      ]
     ];
     blocks_why = λ p k. elim (either (W.known_blocks p) (differ (uses_block V p) (uses_block W p)) (sees_block s p) k) [
       | inl was ↦ inl was
-      | inr r ↦ elim r [ inl d ↦ inr (inr (inl (differ-ne (uses_block V p) (uses_block W p) d))) | inr seen ↦ inr (inr (inr (refl, seen))) ]
+      | inr r ↦ elim r [
+        | inl d ↦ inr (inr (inl (differ-ne (uses_block V p) (uses_block W p) d)))
+        | inr seen ↦ inr (inr (inr (refl, seen)))
+      ]
     ];
   }
 
@@ -148,7 +156,9 @@ refused W s why go comes = (
   W,
   refl,
   subst FaultFree comes (first-free (rows W W s) (rows-free W W s)),
-  ByRow why go comes (inl refl) refl (record { version = refl; blocks = refl; inodes = refl; mount = refl; serial = refl; files = refl; homes = refl }) go
+  ByRow why go comes (inl refl) refl
+      (record { version = refl; blocks = refl; inodes = refl; mount = refl; serial = refl; files = refl; homes = refl })
+      go
       (nothing-learned W s),
 )
 
@@ -158,12 +168,19 @@ done W s go comes =
     let i : Inode W s comes = inode-for W s comes in
     let b : Blocks W (next_stamp W + inodes_needed s) i.i i.g (blocks_needed W.files s) = blocks W s comes i.i i.g in
     let c : Claims = claims i.i i.g b.cell b.leaf b.top in
-    let claim : IsClaim W s c = record { inode = i.has b.cell b.leaf b.top; cell = b.has_cell; leaf = b.has_leaf; top = b.has_top; apart = b.apart } in (
+    let claim : IsClaim W s c = record {
+      inode = i.has b.cell b.leaf b.top;
+      cell = b.has_cell;
+      leaf = b.has_leaf;
+      top = b.has_top;
+      apart = b.apart;
+    } in (
       entry s c (reply_of W s c),
       later W s c,
       refl,
       answer-free W s c,
-      Done go (none-later W W (later W s c) s comes) refl claim refl refl refl (refl, refl, refl, refl, go) (learns W s c),
+      Done go (none-later W W (later W s c) s comes) refl claim refl refl refl
+          (refl, refl, refl, refl, go) (learns W s c),
     )
 
 stopped : (W : World) (s : Step) → W.stopped ≡ true → Answered W s

@@ -1,5 +1,6 @@
 -- As many free blocks can be chosen as are counted.
-use Rattle.std.proofs.Common.{◌≡◌, ℕ, zero, suc, ◌+◌, ◌<◌, ◌≤◌, Bool, true, false, cond, List, [], ◌∷◌, length, refl, arith}
+use Rattle.std.proofs.Common.{◌≡◌, ℕ, zero, suc, ◌+◌, ◌<◌, ◌≤◌, Bool, true, false, cond, List, [], ◌∷◌, length, refl}
+use Rattle.std.proofs.Common.{arith}
 use Rattle.nofs_history.specs.Search.{count_below}
 
 -- m of the numbers below n that pass, the greatest first
@@ -35,7 +36,8 @@ pick-length test (suc n) zero le = refl
 pick-length test (suc n) (suc m) le = go (test n) le (pick-length test n m) (pick-length test n (suc m))
   where
     go : (b : Bool) → suc m ≤ cond b (1 + count_below test n) (count_below test n)
-        → (m ≤ count_below test n → length (pick test n m) ≡ m) → (suc m ≤ count_below test n → length (pick test n (suc m)) ≡ suc m)
+        → (m ≤ count_below test n → length (pick test n m) ≡ m)
+        → (suc m ≤ count_below test n → length (pick test n (suc m)) ≡ suc m)
         → length (cond b (n ∷ pick test n m) (pick test n (suc m))) ≡ suc m
     go true le with_n without = let ih = with_n (omega (arith, le)) in omega (arith, ih)
     go false le with_n without = without le

@@ -1,14 +1,18 @@
 -- What a claim's parts say together: how many blocks it has, that each is free, and its stamps.
-use Rattle.std.proofs.Common.{◌≡◌, ◌≢◌, ℕ, zero, suc, ◌+◌, ◌-◌, ◌*◌, ◌/◌, ◌%◌, ◌^◌, ◌<◌, ◌≤◌, Bool, true, false, cond, eqb, ltb, ◌&&◌, not, List, [], ◌∷◌}
-use Rattle.std.proofs.Common.{◌++◌, length, Option, Some, None, refl, sym, ap, ◌∙◌, subst, arith, Contains, inl, inr, get_or, eqb-true}
+use Rattle.std.proofs.Common.{◌≡◌, ◌≢◌, ℕ, zero, suc, ◌+◌, ◌-◌, ◌*◌, ◌/◌, ◌%◌, ◌^◌, ◌<◌, ◌≤◌, Bool, true, false, cond}
+use Rattle.std.proofs.Common.{eqb, ltb, ◌&&◌, not, List, [], ◌∷◌}
+use Rattle.std.proofs.Common.{◌++◌, length, Option, Some, None, refl, sym, ap, ◌∙◌, subst, arith, Contains, inl, inr}
+use Rattle.std.proofs.Common.{get_or, eqb-true}
 use Rattle.std.proofs.lemmas.Bool.{le-leb}
 use Rattle.std.proofs.lemmas.List.Elements.{Contains-append_cases}
 use Rattle.nofs_model.specs.Cells.{Pointer, null, slot_limit}
 use Rattle.nofs_model.specs.Image.{Path, InRecord, Under, path_of, NodeState, Absent, Present, Damaged, Files}
 use Rattle.nofs_history.specs.Meta.{is_bytes}
 use Rattle.nofs_history.specs.Machine.{value_of, node_of, place_for}
-use Rattle.nofs_history.specs.World.{World, is_free_block, is_free_inode, absent_above, blocks_for, blocks_at, blocks_needed, inodes_needed}
-use Rattle.nofs_history.specs.Claims.{is_claimed, claimed_blocks, Claimed, Unclaimed, IsBlockClaim, ClaimedInode, NoInode, IsInodeClaim, next_stamp}
+use Rattle.nofs_history.specs.World.{World, is_free_block, is_free_inode, absent_above, blocks_for, blocks_at}
+use Rattle.nofs_history.specs.World.{blocks_needed, inodes_needed}
+use Rattle.nofs_history.specs.Claims.{is_claimed, claimed_blocks, Claimed, Unclaimed, IsBlockClaim, ClaimedInode}
+use Rattle.nofs_history.specs.Claims.{NoInode, IsInodeClaim, next_stamp}
 use Rattle.nofs_history.specs.Claims.{IsClaim}
 use Rattle.nofs_history.specs.declared.machine.history.Claims.{Claims}
 use Rattle.nofs_history.specs.declared.machine.steps.Step.{Step}
@@ -86,7 +90,8 @@ part W s x true (Claimed free range stamp) = go (eqb x.block 0) refl
   where
     go : (b : Bool) → eqb x.block 0 ≡ b → not b ≡ true
     go false e = refl
-    go true e = let z = subst (λ (p : ℕ). is_free_block W p ≡ true) (eqb-true x.block 0 e) free in let u = used-zero W in absurd (cc (z, u))
+    go true e = let z = subst (λ (p : ℕ). is_free_block W p ≡ true) (eqb-true x.block 0 e) free in
+        let u = used-zero W in absurd (cc (z, u))
 part W s x false (Unclaimed e) = not-null x e
 
 module _ (W : World) (s : Step) (c : Claims) (claim : IsClaim W s c) where
@@ -119,22 +124,26 @@ module _ (W : World) (s : Step) (c : Claims) (claim : IsClaim W s c) where
 
   -- each with the next stamp
   pub claim-stamps : CountsUp (next_stamp W + inodes_needed s) (claimed_blocks c)
-  claim-stamps = subst (λ (xs : List Pointer). CountsUp first xs) (sym listed) (go n (few W.files s) claim.cell claim.leaf claim.top)
+  claim-stamps = subst (λ (xs : List Pointer). CountsUp first xs) (sym listed)
+      (go n (few W.files s) claim.cell claim.leaf claim.top)
     where
       stamped : (t : ℕ) (x : Pointer) → IsBlockClaim W t x true → x.stamp ≡ t
       stamped t x (Claimed free range stamp) = stamp
 
-      go : (m : ℕ) → m ≤ 3 → IsBlockClaim W first c.cell (ltb 0 m) → IsBlockClaim W (first + 1) c.leaf (ltb 1 m) → IsBlockClaim W (first + 2) c.top (ltb 2 m)
+      go : (m : ℕ) → m ≤ 3 → IsBlockClaim W first c.cell (ltb 0 m) → IsBlockClaim W (first + 1) c.leaf (ltb 1 m)
+          → IsBlockClaim W (first + 2) c.top (ltb 2 m)
           → CountsUp first (blocks (ltb 0 m) (ltb 1 m) (ltb 2 m))
       go zero le x y z = tt
       go (suc zero) le x y z = (stamped first c.cell x, tt)
-      go (suc (suc zero)) le x y z = let b = stamped (first + 1) c.leaf y in (stamped first c.cell x, (omega (arith, b), tt))
+      go (suc (suc zero)) le x y z = let b = stamped (first + 1) c.leaf y in
+          (stamped first c.cell x, (omega (arith, b), tt))
       go (suc (suc (suc zero))) le x y z = let b = stamped (first + 1) c.leaf y in let t =
           stamped (first + 2) c.top z in (stamped first c.cell x, (omega (arith, b), (omega (arith, t), tt)))
       go (suc (suc (suc (suc m)))) le x y z = absurd (omega (arith, le))
 
   -- and each known and free
-  pub claim-free : (x : Pointer) → Contains (claimed_blocks c) x → (is_free_block W x.block ≡ true) × (x.block < W.blocks)
+  pub claim-free : (x : Pointer) → Contains (claimed_blocks c) x
+      → (is_free_block W x.block ≡ true) × (x.block < W.blocks)
   claim-free x h = from (subst (λ (xs : List Pointer). Contains xs x) listed h)
     where
       Free : Pointer → Type 0
@@ -150,21 +159,25 @@ module _ (W : World) (s : Step) (c : Claims) (claim : IsClaim W s c) where
       none : Contains [] x → Free x
       none (k, lt, e) = absurd (omega (arith, lt))
 
-      part-free : (t : ℕ) (y : Pointer) (wanted : Bool) → IsBlockClaim W t y wanted → Contains (cond wanted (y ∷ []) []) x → Free x
+      part-free : (t : ℕ) (y : Pointer) (wanted : Bool) → IsBlockClaim W t y wanted
+          → Contains (cond wanted (y ∷ []) []) x → Free x
       part-free t y true (Claimed free range stamp) h = sole y (free, range) h
       part-free t y false p h = none h
 
       from : Contains (blocks (ltb 0 n) (ltb 1 n) (ltb 2 n)) x → Free x
-      from h = elim (Contains-append_cases (cond (ltb 0 n) (c.cell ∷ []) [] ++ cond (ltb 1 n) (c.leaf ∷ []) []) (cond (ltb 2 n) (c.top ∷ []) []) x h) [
-        | inr t ↦ part-free (first + 2) c.top (ltb 2 n) claim.top t
-        | inl r ↦ elim (Contains-append_cases (cond (ltb 0 n) (c.cell ∷ []) []) (cond (ltb 1 n) (c.leaf ∷ []) []) x r) [
-          | inl a ↦ part-free first c.cell (ltb 0 n) claim.cell a
-          | inr b ↦ part-free (first + 1) c.leaf (ltb 1 n) claim.leaf b
-        ]
-      ]
+      from h = elim (Contains-append_cases (cond (ltb 0 n) (c.cell ∷ []) [] ++ cond (ltb 1 n) (c.leaf ∷ []) [])
+          (cond (ltb 2 n) (c.top ∷ []) []) x h) [
+            | inr t ↦ part-free (first + 2) c.top (ltb 2 n) claim.top t
+            | inl r ↦
+                elim (Contains-append_cases (cond (ltb 0 n) (c.cell ∷ []) []) (cond (ltb 1 n) (c.leaf ∷ []) []) x r) [
+                  | inl a ↦ part-free first c.cell (ltb 0 n) claim.cell a
+                  | inr b ↦ part-free (first + 1) c.leaf (ltb 1 n) claim.leaf b
+                ]
+          ]
 
   -- an inode is claimed where one is needed: known and free, with the next generation
-  pub claim-inode : c.inode ≢ 0 → (is_free_inode W c.inode ≡ true) × (c.inode ≤ W.inodes) × (c.generation ≡ W.mount * 2 ^ 40 + W.serial) × (inodes_needed s ≡ 1)
+  pub claim-inode : c.inode ≢ 0 → (is_free_inode W c.inode ≡ true) × (c.inode ≤ W.inodes)
+      × (c.generation ≡ W.mount * 2 ^ 40 + W.serial) × (inodes_needed s ≡ 1)
   claim-inode ne = go s (ltb 0 (inodes_needed s)) refl claim.inode
     where
       one : (s : Step) → ltb 0 (inodes_needed s) ≡ true → inodes_needed s ≡ 1
@@ -172,6 +185,7 @@ module _ (W : World) (s : Step) (c : Claims) (claim : IsClaim W s c) where
       one _ e = cc e
 
       go : (s : Step) (wanted : Bool) → ltb 0 (inodes_needed s) ≡ wanted → IsInodeClaim W (next_stamp W) c wanted
-          → (is_free_inode W c.inode ≡ true) × (c.inode ≤ W.inodes) × (c.generation ≡ W.mount * 2 ^ 40 + W.serial) × (inodes_needed s ≡ 1)
+          → (is_free_inode W c.inode ≡ true) × (c.inode ≤ W.inodes) × (c.generation ≡ W.mount * 2 ^ 40 + W.serial)
+          × (inodes_needed s ≡ 1)
       go s true e (ClaimedInode free some range is) = (free, range, is, one s e)
       go s false e (NoInode none zero_too) = absurd (ne none)

@@ -1,6 +1,7 @@
 -- Maps stay good, and what is claimed was free.
 use Rattle.nofs_crashlaw.proofs.OnMaps.ClaimParts.{claim-free, claim-inode}
-use Rattle.std.proofs.Common.{◌≡◌, ◌≢◌, ℕ, ◌+◌, ◌/◌, ◌<◌, Bool, true, false, leb, ltb, ◌&&◌, ◌||◌, not, Option, Some, None, is_some, Contains, refl, sym, ap}
+use Rattle.std.proofs.Common.{◌≡◌, ◌≢◌, ℕ, ◌+◌, ◌/◌, ◌<◌, Bool, true, false, leb, ltb, ◌&&◌, ◌||◌, not, Option, Some}
+use Rattle.std.proofs.Common.{None, is_some, Contains, refl, sym, ap}
 use Rattle.std.proofs.Common.{◌∙◌, subst, arith, lt-ltb}
 use Rattle.std.proofs.lemmas.Bool.Decides.{nat_tests}
 use Rattle.nofs_crashlaw.specs.Maps.Homes.{SameNumbers, LawGoodDone, LawGoodKept, LawClaims}
@@ -17,7 +18,8 @@ use Rattle.nofs_model.specs.Cells.{Pointer, SuperBlock}
 use Rattle.nofs_model.specs.Image.{Image, cell_at, super_at, owner, Home, Files, is_special, is_used_block}
 
 -- the numbers of a world go on, and so does block 0
-pub numbers-on : (W V : World) (X Y : Image) → SameNumbers W V → cell_at Y 0 ≡ cell_at X 0 → MatchesSuper W X → MatchesSuper V Y
+pub numbers-on : (W V : World) (X Y : Image) → SameNumbers W V → cell_at Y 0 ≡ cell_at X 0 → MatchesSuper W X
+    → MatchesSuper V Y
 numbers-on W V X Y same first n =
     let e = sym (supers X Y first) in
     record {
@@ -32,11 +34,13 @@ kept-numbers W V k = record { version = k.version; blocks = k.blocks; inodes = k
 
 pub law-good-done : LawGoodDone
 law-good-done W V step c vi fi vb fb X Y good same eh first move match =
-    law-good V Y (numbers-on W V X Y same first good.numbers) match (law-homes W V step c X Y good.homes good.files move same.blocks eh match)
+    law-good V Y (numbers-on W V X Y same first good.numbers) match
+    (law-homes W V step c X Y good.homes good.files move same.blocks eh match)
 
 pub law-good-kept : LawGoodKept
 law-good-kept W V vi fi vb fb X good k =
-    law-good V X (numbers-on W V X X (kept-numbers W V k) refl good.numbers) (subst (λ (F : Files). FilesMatch F X) (sym k.files) good.files)
+    law-good V X (numbers-on W V X X (kept-numbers W V k) refl good.numbers)
+    (subst (λ (F : Files). FilesMatch F X) (sym k.files) good.files)
     (λ p lt. ap (λ (h : ℕ → Option Home). h p) k.homes ∙ good.homes p (subst (λ (n : ℕ). p < n) k.blocks lt))
 
 not-true : (b : Bool) → not b ≡ true → b ≡ false
@@ -69,7 +73,8 @@ law-claims W step c vi fi vb fb X good claim = record {
       ∙ not-true (uses_inode W c.inode) (plain ne).1;
 }
   where
-    free : (x : Pointer) → Contains (claimed_blocks c) x → (W.known_blocks x.block ≡ true) × (not (uses_block W x.block) ≡ true)
+    free : (x : Pointer) → Contains (claimed_blocks c) x
+        → (W.known_blocks x.block ≡ true) × (not (uses_block W x.block) ≡ true)
     free x h = and-both (W.known_blocks x.block) (not (uses_block W x.block)) (claim-free W step c claim x h).0
 
     plain : c.inode ≢ 0 → (W.known_inodes c.inode ≡ true) × (not (uses_inode W c.inode) ≡ true)
@@ -78,8 +83,10 @@ law-claims W step c vi fi vb fb X good claim = record {
     used : (x : Pointer) → Contains (claimed_blocks c) x → is_used_block X x.block ≡ false
     used x h =
         sym (ap (λ (n : ℕ). leb x.block (n / 4) || is_some (W.homes x.block)) good.numbers.inodes
-        ∙ ap (λ (o : Option Home). leb x.block ((super_at X).inodes / 4) || is_some o) (good.homes x.block (claim-free W step c claim x h).1))
+        ∙ ap (λ (o : Option Home). leb x.block ((super_at X).inodes / 4) || is_some o)
+        (good.homes x.block (claim-free W step c claim x h).1))
         ∙ not-true (uses_block W x.block) (free x h).1
 
-    apart : (x : Pointer) → Contains (claimed_blocks c) x → (leb x.block ((super_at X).inodes / 4) ≡ false) × (is_some (owner X x.block) ≡ false)
+    apart : (x : Pointer) → Contains (claimed_blocks c) x
+        → (leb x.block ((super_at X).inodes / 4) ≡ false) × (is_some (owner X x.block) ≡ false)
     apart x h = or-none (leb x.block ((super_at X).inodes / 4)) (is_some (owner X x.block)) (used x h)

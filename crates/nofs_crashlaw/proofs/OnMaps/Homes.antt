@@ -1,5 +1,6 @@
 -- The homes of the machine after a step are the owners of the image after it.
-use Rattle.std.proofs.Common.{◌≡◌, ℕ, ◌+◌, ◌-◌, ◌^◌, ◌/◌, ◌<◌, ◌≤◌, ◌⊎◌, inl, inr, Bool, true, false, cond, leb, ltb, ◌||◌, not, Option, Some, None, is_some}
+use Rattle.std.proofs.Common.{◌≡◌, ℕ, ◌+◌, ◌-◌, ◌^◌, ◌/◌, ◌<◌, ◌≤◌, ◌⊎◌, inl, inr, Bool, true, false, cond, leb, ltb}
+use Rattle.std.proofs.Common.{◌||◌, not, Option, Some, None, is_some}
 use Rattle.std.proofs.Common.{refl, sym, ap, ◌∙◌, subst, arith, lt-ltb, le-ltb}
 use Rattle.std.proofs.lemmas.Bool.{cases_lt}
 use Rattle.std.proofs.lemmas.Bool.Decides.{nat_tests}
@@ -20,8 +21,10 @@ use Rattle.nofs_history.specs.History.{FilesMatch, SameFile}
 use Rattle.nofs_history.specs.World.{World}
 use Rattle.nofs_history.specs.Claims.{claimed_home, is_present, has_block, homes_after}
 use Rattle.nofs_model.specs.Cells.{FileKind, Pointer, slot_limit}
-use Rattle.nofs_model.specs.Image.{Image, cell_at, super_at, inode, file_from, files_in, agreed, value_in, Path, path_of, slot_of, is_pointer_slot}
-use Rattle.nofs_model.specs.Image.{find, NodeState, Absent, Present, node_in, FileState, Files, Home, home_at, owner, is_special, IsSlot}
+use Rattle.nofs_model.specs.Image.{Image, cell_at, super_at, inode, file_from, files_in, agreed, value_in, Path}
+use Rattle.nofs_model.specs.Image.{path_of, slot_of, is_pointer_slot}
+use Rattle.nofs_model.specs.Image.{find, NodeState, Absent, Present, node_in, FileState, Files, Home, home_at, owner}
+use Rattle.nofs_model.specs.Image.{is_special, IsSlot}
 use Rattle.nofs_model.specs.declared.image.value.Value.{Value}
 use Rattle.nofs_model.specs.declared.image.value.Value.TheVariants.{Bytes, Hole}
 
@@ -45,7 +48,8 @@ owner-houses X p i k e =
 pub houses-owner : (X : Image) (home : Home) (p : ℕ) → Houses X home p → owner X p ≡ Some home
 houses-owner X home p h =
     let o = owner-of X home.inode h.path h.pointer h.is_slot h.agreed h.holds in
-    let o' : owner X p ≡ Some (home_at home.inode (slot_of h.path)) = subst (λ (b : ℕ). owner X b ≡ Some (home_at home.inode (slot_of h.path))) h.block o in
+    let o' : owner X p ≡ Some (home_at home.inode (slot_of h.path)) =
+    subst (λ (b : ℕ). owner X b ≡ Some (home_at home.inode (slot_of h.path))) h.block o in
     o' ∙ ap (λ (k : ℕ). Some (home_at home.inode k)) (sym h.slot)
 
 -- What the machine says of a slot
@@ -62,7 +66,8 @@ present-held answer.Lost e = cc
 
 -- the test by the file
 abbrev block_in : Option FileState → ℕ → Bool → Bool
-block_in o k t = cond t (is_bytes (elim o [ None ↦ Hole | Some f ↦ f.values k ])) (is_present (elim o [ None ↦ Absent | Some f ↦ f.nodes (path_of k) ]))
+block_in o k t = cond t (is_bytes (elim o [ None ↦ Hole | Some f ↦ f.values k ]))
+    (is_present (elim o [ None ↦ Absent | Some f ↦ f.nodes (path_of k) ]))
 
 no-file : (k : ℕ) (t : Bool) → block_in None k t ≡ false
 no-file k true = refl
@@ -73,8 +78,10 @@ module _ (E : Files) (Y : Image) (match : FilesMatch E Y) (i k : ℕ) where
   some-of None t e = let z = no-file k t in cc (z, e)
   some-of (Some f) t e = refl
 
-  same-here : agreed (files_in Y) i ≡ true → (f : FileState) → E i ≡ Some f → (kind : FileKind) × SameFile (Some f) (file_from Y i (Some kind))
-  same-here a f is = go (inode Y i).kind refl (subst (λ (o : Option FileState). SameFile o (files_in Y i)) is (same-of E Y i match a))
+  same-here : agreed (files_in Y) i ≡ true → (f : FileState) → E i ≡ Some f
+      → (kind : FileKind) × SameFile (Some f) (file_from Y i (Some kind))
+  same-here a f is =
+      go (inode Y i).kind refl (subst (λ (o : Option FileState). SameFile o (files_in Y i)) is (same-of E Y i match a))
     where
       go : (o : Option FileKind) → (inode Y i).kind ≡ o → SameFile (Some f) (file_from Y i o)
           → (kind : FileKind) × SameFile (Some f) (file_from Y i (Some kind))
@@ -86,37 +93,49 @@ module _ (E : Files) (Y : Image) (match : FilesMatch E Y) (i k : ℕ) where
       → (agreed (files_in Y) i ≡ true) × ((y : Pointer) × (find Y i (path_of k) ≡ answer.Holds y))
   has-holds slot h =
       let m = matched-file E Y i match (some-of (E i) (ltb k slot_limit) h) in
-      let s = same-here m.agreed m.file m.is in
-      (m.agreed, go (cases_lt k slot_limit) m.file (subst (λ (o : Option FileState). block_in o k (ltb k slot_limit) ≡ true) m.is h) s.0 s.1)
+      let s = same-here m.agreed m.file m.is in (
+        m.agreed,
+        go (cases_lt k slot_limit) m.file
+            (subst (λ (o : Option FileState). block_in o k (ltb k slot_limit) ≡ true) m.is h) s.0 s.1,
+      )
     where
-      go : (k < slot_limit) ⊎ (slot_limit ≤ k) → (f : FileState) → block_in (Some f) k (ltb k slot_limit) ≡ true → (kind : FileKind)
+      go : (k < slot_limit) ⊎ (slot_limit ≤ k)
+          → (f : FileState) → block_in (Some f) k (ltb k slot_limit) ≡ true → (kind : FileKind)
           → SameFile (Some f) (file_from Y i (Some kind)) → (y : Pointer) × (find Y i (path_of k) ≡ answer.Holds y)
       go (inl lt) f e kind s = bytes-held Y (find Y i (path_of k))
-          (subst (λ (v : Value). is_bytes v ≡ true) (s.values k lt) (subst (λ (b : Bool). block_in (Some f) k b ≡ true) (lt-ltb k slot_limit lt) e))
+          (subst (λ (v : Value). is_bytes v ≡ true) (s.values k lt)
+          (subst (λ (b : Bool). block_in (Some f) k b ≡ true) (lt-ltb k slot_limit lt) e))
       go (inr le) f e kind s = present-held (find Y i (path_of k))
           (subst (λ (v : NodeState). is_present v ≡ true) (s.nodes (path_of k) slot (far-pointers k le slot))
           (subst (λ (b : Bool). block_in (Some f) k b ≡ true) (le-ltb k slot_limit le) e))
 
   -- and the other way
-  pub holds-has : (y : Pointer) → IsSlot (path_of k) → agreed (files_in Y) i ≡ true → find Y i (path_of k) ≡ answer.Holds y → has_block E (home_at i k) ≡ true
+  pub holds-has : (y : Pointer) → IsSlot (path_of k)
+      → agreed (files_in Y) i ≡ true → find Y i (path_of k) ≡ answer.Holds y → has_block E (home_at i k) ≡ true
   holds-has y slot a e =
       let m = matched-agreed E Y i match (find-held Y i (path_of k) y e).agrees.live a in
       let s = same-here a m.file m.is in
-      subst (λ (o : Option FileState). block_in o k (ltb k slot_limit) ≡ true) (sym m.is) (go (cases_lt k slot_limit) m.file s.0 s.1)
+      subst (λ (o : Option FileState). block_in o k (ltb k slot_limit) ≡ true) (sym m.is)
+      (go (cases_lt k slot_limit) m.file s.0 s.1)
     where
-      go : (k < slot_limit) ⊎ (slot_limit ≤ k) → (f : FileState) → (kind : FileKind) → SameFile (Some f) (file_from Y i (Some kind))
+      go : (k < slot_limit) ⊎ (slot_limit ≤ k)
+          → (f : FileState) → (kind : FileKind) → SameFile (Some f) (file_from Y i (Some kind))
           → block_in (Some f) k (ltb k slot_limit) ≡ true
       go (inl lt) f kind s =
-          let v : f.values k ≡ Bytes (cell_at Y y.block).payload = s.values k lt ∙ ap (λ (q : PathAnswer). value_in Y q) e in
-          subst (λ (b : Bool). block_in (Some f) k b ≡ true) (sym (lt-ltb k slot_limit lt)) (subst (λ (w : Value). is_bytes w ≡ true) (sym v) refl)
+          let v : f.values k ≡ Bytes (cell_at Y y.block).payload = s.values k lt
+          ∙ ap (λ (q : PathAnswer). value_in Y q) e in
+          subst (λ (b : Bool). block_in (Some f) k b ≡ true) (sym (lt-ltb k slot_limit lt))
+          (subst (λ (w : Value). is_bytes w ≡ true) (sym v) refl)
       go (inr le) f kind s =
           let v : f.nodes (path_of k) ≡ Present = s.nodes (path_of k) slot (far-pointers k le slot) ∙ ap node_in e in
-          subst (λ (b : Bool). block_in (Some f) k b ≡ true) (sym (le-ltb k slot_limit le)) (subst (λ (w : NodeState). is_present w ≡ true) (sym v) refl)
+          subst (λ (b : Bool). block_in (Some f) k b ≡ true) (sym (le-ltb k slot_limit le))
+          (subst (λ (w : NodeState). is_present w ≡ true) (sym v) refl)
 
 -- One step
 
 abbrev next_home : Option Home → Option Home → (Home → Bool) → Option Home
-next_home o q test = elim o [ None ↦ elim q [ None ↦ None | Some home ↦ cond (test home) (Some home) None ] | Some home ↦ Some home ]
+next_home o q test =
+    elim o [ None ↦ elim q [ None ↦ None | Some home ↦ cond (test home) (Some home) None ] | Some home ↦ Some home ]
 
 same-block : (x y : Pointer) → answer.Holds x ≡ answer.Holds y → x.block ≡ y.block
 same-block x y e = let s : x ≡ y = cc e in ap (λ (p : Pointer). p.block) s
@@ -124,15 +143,25 @@ same-block x y e = let s : x ≡ y = cc e in ap (λ (p : Pointer). p.block) s
 some-none : {A : Type 0} → (o : Option A) (x : A) → o ≡ None → o ≡ Some x → ⊥
 some-none o x n s = cc (n, s)
 
-module _ (F E : Files) (step : Step) (c : Claims) (X Y : Image) (move : HomesMove F step c X Y) (match : FilesMatch E Y) (p : ℕ)
+module _ (F E : Files) (step : Step) (c : Claims) (X Y : Image) (move : HomesMove F step c X Y)
+    (match : FilesMatch E Y) (p : ℕ)
     (free : claimed_home F step c p ≡ None) where
   pub back : (home : Home) → owner Y p ≡ Some home → owner X p ≡ Some home
   back home e =
       let h = owner-houses Y p home.inode home.slot e in
       elim (move.held home.inode h.path h.pointer h.is_slot h.agreed h.holds) [
         | inl m ↦ houses-owner X home p
-            (record { path = h.path; pointer = h.pointer; is_slot = h.is_slot; slot = h.slot; agreed = m.0; holds = m.1; block = h.block })
-        | inr m ↦ absurd (none (claimed_home F step c p) free (subst (λ (b : ℕ). is_some (claimed_home F step c b) ≡ true) h.block m.0))
+            (record {
+              path = h.path;
+              pointer = h.pointer;
+              is_slot = h.is_slot;
+              slot = h.slot;
+              agreed = m.0;
+              holds = m.1;
+              block = h.block;
+            })
+        | inr m ↦ absurd (none (claimed_home F step c p) free
+            (subst (λ (b : ℕ). is_some (claimed_home F step c b) ≡ true) h.block m.0))
       ]
     where
       none : (o : Option Home) → o ≡ None → is_some o ≡ true → ⊥
@@ -147,7 +176,8 @@ module _ (F E : Files) (step : Step) (c : Claims) (X Y : Image) (move : HomesMov
       let h = owner-houses X p home.inode home.slot e in
       let ep = slot-path home h in
       let r = has-holds E Y match home.inode home.slot (subst IsSlot (sym ep) h.is_slot) has in
-      let held : find Y home.inode h.path ≡ answer.Holds r.1.0 = subst (λ (q : Path). find Y home.inode q ≡ answer.Holds r.1.0) ep r.1.1 in
+      let held : find Y home.inode h.path ≡ answer.Holds r.1.0 =
+      subst (λ (q : Path). find Y home.inode q ≡ answer.Holds r.1.0) ep r.1.1 in
       elim (move.held home.inode h.path r.1.0 h.is_slot r.0 held) [
         | inl m ↦ houses-owner Y home p (record {
           path = h.path;
@@ -191,13 +221,17 @@ module _ (F E : Files) (step : Step) (c : Claims) (X Y : Image) (move : HomesMov
           go None er = sym er
           go (Some other) er = let z = one other er in absurd (cc (z, et))
 
-step-homes : (W : World) (E : Files) (step : Step) (c : Claims) (X Y : Image) → HomesMove W.files step c X Y → FilesMatch E Y → (p : ℕ)
+step-homes : (W : World) (E : Files) (step : Step) (c : Claims) (X Y : Image) → HomesMove W.files step c X Y
+    → FilesMatch E Y → (p : ℕ)
     → W.homes p ≡ owner X p → homes_after W step c E p ≡ owner Y p
 step-homes W E step c X Y move match p eh = go (claimed_home W.files step c p) refl
   where
-    go : (o : Option Home) → claimed_home W.files step c p ≡ o → next_home (claimed_home W.files step c p) (W.homes p) (has_block E) ≡ owner Y p
-    go None e = ap (λ (o : Option Home). next_home o (W.homes p) (has_block E)) e ∙ kept W.files E step c X Y move match p e (W.homes p) eh
-    go (Some home) e = ap (λ (o : Option Home). next_home o (W.homes p) (has_block E)) e ∙ sym (houses-owner Y home p (move.claimed p home e))
+    go : (o : Option Home) → claimed_home W.files step c p ≡ o
+        → next_home (claimed_home W.files step c p) (W.homes p) (has_block E) ≡ owner Y p
+    go None e = ap (λ (o : Option Home). next_home o (W.homes p) (has_block E)) e
+        ∙ kept W.files E step c X Y move match p e (W.homes p) eh
+    go (Some home) e = ap (λ (o : Option Home). next_home o (W.homes p) (has_block E)) e
+        ∙ sym (houses-owner Y home p (move.claimed p home e))
 
 pub law-homes : LawHomes
 law-homes W V step c X Y homes before move blocks eh match p lt =
@@ -213,7 +247,8 @@ uses-inode F Y match i = go (is_some (F i)) refl (agreed (files_in Y) i) refl
     go true ea b eb = let m = (matched-file F Y i match ea).agreed in ea ∙ sym m
     go false ea false eb = ea ∙ sym eb
     go false ea true eb =
-        let m = matched-agreed F Y i match (live-some Y i (agreed-some (files_in Y) i (agreed-holds (files_in Y) i eb))) eb in
+        let m = matched-agreed F Y i match
+        (live-some Y i (agreed-some (files_in Y) i (agreed-holds (files_in Y) i eb))) eb in
         let s = some-is (F i) m.file m.is in
         absurd (cc (ea, s))
 

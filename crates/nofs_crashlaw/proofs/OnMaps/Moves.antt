@@ -1,6 +1,7 @@
 -- What the frame lemmas say of the homes.
 use Rattle.nofs_crashlaw.proofs.OnMaps.ClaimParts.{claim-count}
-use Rattle.std.proofs.Common.{◌≡◌, ℕ, ◌/◌, ◌⊎◌, inl, inr, Bool, true, false, cond, eqb, ◌&&◌, [], ◌∷◌, ◌++◌, length, Option, Some, None, is_some, option_map}
+use Rattle.std.proofs.Common.{◌≡◌, ℕ, ◌/◌, ◌⊎◌, inl, inr, Bool, true, false, cond, eqb, ◌&&◌, [], ◌∷◌, ◌++◌, length}
+use Rattle.std.proofs.Common.{Option, Some, None, is_some, option_map}
 use Rattle.std.proofs.Common.{refl, sym, ap, ◌∙◌, subst, arith, eqb-true, eq-eqb}
 use Rattle.nofs_crashlaw.specs.Maps.Homes.{Houses}
 use Rattle.nofs_crashlaw.specs.Maps.Moves.{IsClaimed, ClaimsStand, LawHomesMove, LawGrow, LawShrink, LawBare}
@@ -17,7 +18,8 @@ use Rattle.nofs_history.specs.World.{blocks_needed, blocks_at}
 use Rattle.nofs_history.specs.Claims.{is_claimed, claimed_blocks, cell_slot, slot_above, claimed_home}
 use Rattle.nofs_history.specs.declared.machine.steps.Step.TheVariants as step
 use Rattle.nofs_model.specs.Cells.{Pointer, Record, is_live}
-use Rattle.nofs_model.specs.Image.{Image, inode, files_in, agreed, Path, InRecord, Under, path_of, slot_of, find, Files, Home, home_at, IsSlot}
+use Rattle.nofs_model.specs.Image.{Image, inode, files_in, agreed, Path, InRecord, Under, path_of, slot_of, find, Files}
+use Rattle.nofs_model.specs.Image.{Home, home_at, IsSlot}
 
 above-is-slot : (a : Path) → IsSlot a → IsSlot (slot_above a)
 above-is-slot (InRecord n) s = s
@@ -42,29 +44,36 @@ three-some false false false x y z h = elim h [ inl e ↦ cc e | inr r ↦ elim 
 
 abbrev pub home_by : Option Home → Claims → ℕ → Option Home
 home_by None c p = None
-home_by (Some at) c p = three (is_claimed c.cell && eqb p c.cell.block) (is_claimed c.leaf && eqb p c.leaf.block) (is_claimed c.top && eqb p c.top.block)
-    at (home_at at.inode (slot_of (slot_above (path_of at.slot)))) (home_at at.inode (slot_of (slot_above (slot_above (path_of at.slot)))))
+home_by (Some at) c p = three (is_claimed c.cell && eqb p c.cell.block) (is_claimed c.leaf && eqb p c.leaf.block)
+    (is_claimed c.top && eqb p c.top.block)
+    at (home_at at.inode (slot_of (slot_above (path_of at.slot))))
+    (home_at at.inode (slot_of (slot_above (slot_above (path_of at.slot)))))
 
 pub home-is : (F : Files) (step : Step) (c : Claims) (p : ℕ) → claimed_home F step c p ≡ home_by (cell_slot F step) c p
 home-is F step c p = go (cell_slot F step)
   where
     go : (o : Option Home) → elim o [
       | None ↦ None
-      | Some at ↦ three (is_claimed c.cell && eqb p c.cell.block) (is_claimed c.leaf && eqb p c.leaf.block) (is_claimed c.top && eqb p c.top.block)
-          at (home_at at.inode (slot_of (slot_above (path_of at.slot)))) (home_at at.inode (slot_of (slot_above (slot_above (path_of at.slot)))))
+      | Some at ↦ three (is_claimed c.cell && eqb p c.cell.block) (is_claimed c.leaf && eqb p c.leaf.block)
+          (is_claimed c.top && eqb p c.top.block)
+          at (home_at at.inode (slot_of (slot_above (path_of at.slot))))
+          (home_at at.inode (slot_of (slot_above (slot_above (path_of at.slot)))))
     ] ≡ home_by o c p
     go None = refl
     go (Some at) = refl
 
 -- a claimed block stands in its slot
-stands-there : (c : Claims) (Y : Image) (p : ℕ) (home : Home) (o : Option Home) → ((at : Home) → o ≡ Some at → ClaimsStand c Y at)
+stands-there : (c : Claims) (Y : Image) (p : ℕ) (home : Home) (o : Option Home)
+    → ((at : Home) → o ≡ Some at → ClaimsStand c Y at)
     → home_by o c p ≡ Some home → Houses Y home p
 stands-there c Y p home None h e = cc e
 stands-there c Y p home (Some at) h e =
     let st = h at refl in
     let slot : IsSlot (path_of at.slot) = path_of-slot at.slot st.range in
-    elim (three-cases (is_claimed c.cell && eqb p c.cell.block) (is_claimed c.leaf && eqb p c.leaf.block) (is_claimed c.top && eqb p c.top.block)
-    at (home_at at.inode (slot_of (slot_above (path_of at.slot)))) (home_at at.inode (slot_of (slot_above (slot_above (path_of at.slot))))) home e) [
+    elim (three-cases (is_claimed c.cell && eqb p c.cell.block) (is_claimed c.leaf && eqb p c.leaf.block)
+    (is_claimed c.top && eqb p c.top.block)
+    at (home_at at.inode (slot_of (slot_above (path_of at.slot))))
+    (home_at at.inode (slot_of (slot_above (slot_above (path_of at.slot))))) home e) [
       | inl r ↦ (let t = and-both (is_claimed c.cell) (eqb p c.cell.block) r.0 in
           subst (λ (q : Home). Houses Y q p) r.1 (record {
             path = path_of at.slot;
@@ -133,19 +142,25 @@ counted c y h n = go (is_claimed c.cell) refl (is_claimed c.leaf) refl (is_claim
     go false ea true eb d ed n = omega (arith, n)
     go false ea false eb true ed n = omega (arith, n)
     go false ea false eb false ed n = elim h.1 [
-      | inl e ↦ (let t : is_claimed c.cell ≡ true = subst (λ (q : Pointer). is_claimed q ≡ true) (sym e) h.0 in cc (t, ea))
+      | inl e ↦
+          (let t : is_claimed c.cell ≡ true = subst (λ (q : Pointer). is_claimed q ≡ true) (sym e) h.0 in cc (t, ea))
       | inr r ↦ elim r [
-        | inl e ↦ (let t : is_claimed c.leaf ≡ true = subst (λ (q : Pointer). is_claimed q ≡ true) (sym e) h.0 in cc (t, eb))
-        | inr e ↦ (let t : is_claimed c.top ≡ true = subst (λ (q : Pointer). is_claimed q ≡ true) (sym e) h.0 in cc (t, ed))
+        | inl e ↦
+            (let t : is_claimed c.leaf ≡ true = subst (λ (q : Pointer). is_claimed q ≡ true) (sym e) h.0 in cc (t, eb))
+        | inr e ↦
+            (let t : is_claimed c.top ≡ true = subst (λ (q : Pointer). is_claimed q ≡ true) (sym e) h.0 in cc (t, ed))
       ]
     ]
 
 -- it has a home
-has-home : (c : Claims) (y : Pointer) (o : Option Home) → IsClaimed c y → is_some o ≡ true → is_some (home_by o c y.block) ≡ true
+has-home : (c : Claims) (y : Pointer) (o : Option Home) → IsClaimed c y
+    → is_some o ≡ true → is_some (home_by o c y.block) ≡ true
 has-home c y None h e = cc e
-has-home c y (Some at) h e = three-some (is_claimed c.cell && eqb y.block c.cell.block) (is_claimed c.leaf && eqb y.block c.leaf.block)
+has-home c y (Some at) h e =
+    three-some (is_claimed c.cell && eqb y.block c.cell.block) (is_claimed c.leaf && eqb y.block c.leaf.block)
     (is_claimed c.top && eqb y.block c.top.block)
-    at (home_at at.inode (slot_of (slot_above (path_of at.slot)))) (home_at at.inode (slot_of (slot_above (slot_above (path_of at.slot))))) by
+    at (home_at at.inode (slot_of (slot_above (path_of at.slot))))
+    (home_at at.inode (slot_of (slot_above (slot_above (path_of at.slot))))) by
   where
     one : (x : Pointer) → x ≡ y → (is_claimed x && eqb y.block x.block) ≡ true
     one x e =
@@ -153,8 +168,12 @@ has-home c y (Some at) h e = three-some (is_claimed c.cell && eqb y.block c.cell
         rw t (eq-eqb y.block x.block (ap (λ (q : Pointer). q.block) (sym e)))
 
     by : ((is_claimed c.cell && eqb y.block c.cell.block) ≡ true) ⊎
-        (((is_claimed c.leaf && eqb y.block c.leaf.block) ≡ true) ⊎ ((is_claimed c.top && eqb y.block c.top.block) ≡ true))
-    by = elim h.1 [ inl e ↦ inl (one c.cell e) | inr r ↦ elim r [ inl e ↦ inr (inl (one c.leaf e)) | inr e ↦ inr (inr (one c.top e)) ] ]
+        (((is_claimed c.leaf && eqb y.block c.leaf.block) ≡ true)
+        ⊎ ((is_claimed c.top && eqb y.block c.top.block) ≡ true))
+    by = elim h.1 [
+      | inl e ↦ inl (one c.cell e)
+      | inr r ↦ elim r [ inl e ↦ inr (inl (one c.leaf e)) | inr e ↦ inr (inr (one c.top e)) ]
+    ]
 
 pub law-move : LawHomesMove
 law-move W step c s touched X Y claim touch old stand stays moves = record {
@@ -169,7 +188,8 @@ law-move W step c s touched X Y claim touch old stand stays moves = record {
         go true e = e
         go false e = absurd (counted c y h ((claim-count W step c claim) ∙ no-slot W.files step e))
 
-    by-touch : (j : ℕ) (a : Path) (y : Pointer) → IsSlot a → agreed (files_in Y) j ≡ true → find Y j a ≡ answer.Holds y → (t : Bool) → touched j ≡ t
+    by-touch : (j : ℕ) (a : Path) (y : Pointer) → IsSlot a → agreed (files_in Y) j ≡ true → find Y j a ≡ answer.Holds y
+        → (t : Bool) → touched j ≡ t
         → ((agreed (files_in X) j ≡ true) × (find X j a ≡ answer.Holds y)) ⊎
         ((is_some (claimed_home W.files step c y.block) ≡ true) × ((x : Pointer) → find X j a ≡ answer.Holds x → ⊥))
     by-touch j a y slot ay ey true t = elim (moves j t a y slot ay ey) [
@@ -182,7 +202,8 @@ law-move W step c s touched X Y claim touch old stand stays moves = record {
     ]
     by-touch j a y slot ay ey false t =
         let ax = stays j t ay in
-        let live : is_live (inode X j) ≡ true = subst (λ (r : Record). is_live r ≡ true) (touch.records j t) (find-held Y j a y ey).agrees.live in
+        let live : is_live (inode X j) ≡ true =
+        subst (λ (r : Record). is_live r ≡ true) (touch.records j t) (find-held Y j a y ey).agrees.live in
         inl (ax, sym (same-find s touched X Y touch j t ax (old j ax) live a slot) ∙ ey)
 
 pub law-grow : LawGrow

@@ -29,7 +29,8 @@ some-none : (o : Option Home) (h : Home) → o ≡ None → o ≡ Some h → ⊥
 some-none o h n s = cc (n, s)
 
 -- a step that claims nothing and changes no file changes no owner
-idle-owner : (F : Files) (step : Step) (X Y : Image) → HomesMove F step no_claims X Y → FilesMatch F X → FilesMatch F Y → (p : ℕ) → owner X p ≡ owner Y p
+idle-owner : (F : Files) (step : Step) (X Y : Image) → HomesMove F step no_claims X Y → FilesMatch F X → FilesMatch F Y
+    → (p : ℕ) → owner X p ≡ owner Y p
 idle-owner F step X Y move mx my p = go (owner X p) refl (owner Y p) refl
   where
     has : (h : Home) → owner X p ≡ Some h → has_block F h ≡ true
@@ -41,11 +42,13 @@ idle-owner F step X Y move mx my p = go (owner X p) refl (owner Y p) refl
 
     go : (a : Option Home) → owner X p ≡ a → (b : Option Home) → owner Y p ≡ b → owner X p ≡ owner Y p
     go None ea None eb = ea ∙ sym eb
-    go None ea (Some h) eb = absurd (some-none (owner X p) h ea (back F F step no_claims X Y move my p (no-home F step p) h eb))
+    go None ea (Some h) eb =
+        absurd (some-none (owner X p) h ea (back F F step no_claims X Y move my p (no-home F step p) h eb))
     go (Some h) ea b eb = ea ∙ sym (forth F F step no_claims X Y move my p (no-home F step p) h ea (has h ea))
 
 module _ (W V : World) (e : Entry1) (vi fi vb fb : ℕ → Bool) (X Y : Image) (good : IsGood W vi fi vb fb X)
-    (first : cell_at Y 0 ≡ cell_at X 0) (move : HomesMove W.files e.step e.claims X Y) (match : FilesMatch V.files Y) where
+    (first : cell_at Y 0 ≡ cell_at X 0) (move : HomesMove W.files e.step e.claims X Y)
+    (match : FilesMatch V.files Y) where
   by-idle : e.claims ≡ no_claims → SameNumbers W V → V.files ≡ W.files → V.homes ≡ W.homes → GoodMaps V Y
   by-idle none same ef eh = law-good V Y (numbers-on W V X Y same first good.numbers) match homes
     where
@@ -70,9 +73,12 @@ module _ (W V : World) (e : Entry1) (vi fi vb fb : ℕ → Bool) (X Y : Image) (
   by-next (ByRow why s rows r c k st l) f = by-keep c k
   by-next (ByRead s rows r c k st l) f = by-keep c k
   by-next (Done s rows r claim fs hs serial vs l) f = law-good V Y
-      (numbers-on W V X Y (record { version = vs.0; blocks = vs.1; inodes = vs.2; mount = vs.3 }) first good.numbers) match
+      (numbers-on W V X Y
+      (record { version = vs.0; blocks = vs.1; inodes = vs.2; mount = vs.3 }) first good.numbers) match
       (law-homes W V e.step e.claims X Y good.homes good.files move vs.1 hs match)
-  by-next (ByWrite s rows m r claim k st l) f = absurd (let z : is_write_fault e.reply ≡ true = ap is_write_fault r in cc (f, z))
+  by-next (ByWrite s rows m r claim k st l) f =
+      absurd (let z : is_write_fault e.reply ≡ true = ap is_write_fault r in cc (f, z))
 
 pub law-good-next : LawGoodNext
-law-good-next W V e vi fi vb fb X Y next fault good first move match = by-next W V e vi fi vb fb X Y good first move match next fault
+law-good-next W V e vi fi vb fb X Y next fault good first move match =
+    by-next W V e vi fi vb fb X Y good first move match next fault

@@ -1,5 +1,7 @@
--- A step that changes one entry of one directory, and the links of one inode: what is agreed after it is what the machine has.
-use Rattle.std.proofs.Common.{◌≡◌, ◌≢◌, ℕ, ◌⊎◌, inl, inr, Bool, true, false, eqb, ltb, ◌&&◌, ◌||◌, not, List, Option, Some, None, is_some, refl, sym, ap, ◌∙◌}
+-- A step that changes one entry of one directory, and the links of one inode: what is agreed after it is what the
+-- machine has.
+use Rattle.std.proofs.Common.{◌≡◌, ◌≢◌, ℕ, ◌⊎◌, inl, inr, Bool, true, false, eqb, ltb, ◌&&◌, ◌||◌, not, List, Option}
+use Rattle.std.proofs.Common.{Some, None, is_some, refl, sym, ap, ◌∙◌}
 use Rattle.std.proofs.Common.{subst, subst₂, arith, Contains, eqb-true}
 use Rattle.std.proofs.lemmas.Bool.{cases_eq}
 use Rattle.nofs_model.proofs.OnFiles.Chains.{pair-of, agreed-holds, holds-agreed}
@@ -11,7 +13,8 @@ use Rattle.nofs_crashlaw.proofs.OnUntouched.Agreement.{links-kin, a-kin, entry-a
 use Rattle.nofs_history.specs.History.{FilesMatch, SameFile}
 use Rattle.nofs_model.specs.Cells.{File, BackLink, Entry}
 use Rattle.nofs_model.specs.Kinds.{Directory as Folder}
-use Rattle.nofs_model.specs.Image.{Image, files_in, agreed, Agreed, root, linked, FileState, Files, is_folder, entry_in_file, pairs, names, is_a}
+use Rattle.nofs_model.specs.Image.{Image, files_in, agreed, Agreed, root, linked, FileState, Files, is_folder}
+use Rattle.nofs_model.specs.Image.{entry_in_file, pairs, names, is_a}
 use Rattle.nofs_model.specs.Image.{is_pair, links_of, is_root, is_special}
 
 -- entry e of the two directories is the same, and so are their kinds and generations
@@ -20,14 +23,19 @@ pub record SameDirectory (o p : Option FileState) (e : ℕ) : Type 0 where
   pub names : (i g : ℕ) → names (entry_in_file o e) i g ≡ names (entry_in_file p e) i g
 
 -- the two files have one kind and generation
-pub pairs-parts : (o p u v : Option FileState) (i : ℕ) (link : BackLink) → Kin o p → SameDirectory u v link.entry → pairs o u i link ≡ pairs p v i link
+pub pairs-parts : (o p u v : Option FileState) (i : ℕ) (link : BackLink) → Kin o p → SameDirectory u v link.entry
+    → pairs o u i link ≡ pairs p v i link
 pairs-parts None None u v i link own dir = refl
 pairs-parts None (Some b) u v i link own dir = absurd own
 pairs-parts (Some a) None u v i link own dir = absurd own
-pairs-parts (Some a) (Some b) u v i link own dir = rw (own.kind, own.generation, dir.is link.generation, dir.names i b.generation) refl
+pairs-parts (Some a) (Some b) u v i link own dir =
+    rw (own.kind, own.generation, dir.is link.generation, dir.names i b.generation) refl
 
 pub alike-directory : (o p : Option FileState) (e : ℕ) → Alike o p → SameDirectory o p e
-alike-directory o p e h = record { is = λ g. a-alike Folder o p g h; names = λ i g. ap (λ (q : Option Entry). names q i g) (entry-alike o p e h) }
+alike-directory o p e h = record {
+  is = λ g. a-alike Folder o p g h;
+  names = λ i g. ap (λ (q : Option Entry). names q i g) (entry-alike o p e h);
+}
 
 directory-trans : (o p q : Option FileState) (e : ℕ) → SameDirectory o p e → SameDirectory p q e → SameDirectory o q e
 directory-trans o p q e h j = record { is = λ g. h.is g ∙ j.is g; names = λ i g. h.names i g ∙ j.names i g }
@@ -39,7 +47,8 @@ kin-some : (o p : Option FileState) → Kin o p → is_some o ≡ is_some p
 kin-some = both-same KinFiles is_some (λ a b h. refl)
 
 -- the parts of a pair, as tests
-pair-names : (o u : Option FileState) (i : ℕ) (link : BackLink) → pairs o u i link ≡ true → (g : ℕ) × (names (entry_in_file u link.entry) i g ≡ true)
+pair-names : (o u : Option FileState) (i : ℕ) (link : BackLink)
+    → pairs o u i link ≡ true → (g : ℕ) × (names (entry_in_file u link.entry) i g ≡ true)
 pair-names None u i link e = cc
 pair-names (Some f) u i link e = (
   f.generation,
@@ -55,15 +64,19 @@ pair-names (Some f) u i link e = (
 module _ (F E : Files) (X Y : Image) (d e i : ℕ) (match : FilesMatch F X)
     -- the step changes links of inode i alone, and entry e of directory d alone
     (own : (j : ℕ) → j ≢ i → Kin (F j) (E j))
-    (elsewhere : (j k : ℕ) → is_some (F j) ≡ true → is_some (E j) ≡ true → (j ≡ d → k ≡ e → ⊥) → SameDirectory (F j) (E j) k)
+    (elsewhere : (j k : ℕ) → is_some (F j) ≡ true → is_some (E j) ≡ true → (j ≡ d → k ≡ e → ⊥)
+    → SameDirectory (F j) (E j) k)
     -- before the step no other inode was paired there or below i
-    (away : (j : ℕ) (link : BackLink) → j ≢ i → Contains (links_of F j) link → is_pair F j link ≡ true → link.directory ≡ d → link.entry ≡ e → ⊥)
-    (lone : (j : ℕ) (link : BackLink) → j ≢ i → Contains (links_of F j) link → is_pair F j link ≡ true → link.directory ≢ i)
+    (away : (j : ℕ) (link : BackLink) → j ≢ i → Contains (links_of F j) link
+    → is_pair F j link ≡ true → link.directory ≡ d → link.entry ≡ e → ⊥)
+    (lone : (j : ℕ) (link : BackLink) → j ≢ i → Contains (links_of F j) link
+    → is_pair F j link ≡ true → link.directory ≢ i)
     -- after it none but i is named there, and a new directory has no entries
     (named : (j g : ℕ) → j ≢ i → names (entry_in_file (E d) e) j g ≡ false)
     (empty : is_some (F i) ≡ false → (k j g : ℕ) → names (entry_in_file (E i) k) j g ≡ false)
     -- inode i, where it is still there, is a root or has a pair
-    (home : is_some (E i) ≡ true → (is_root E i ≡ true) ⊎ ((link : BackLink) × (is_special i ≡ false) × Contains (links_of E i) link ×
+    (home : is_some (E i) ≡ true → (is_root E i ≡ true)
+    ⊎ ((link : BackLink) × (is_special i ≡ false) × Contains (links_of E i) link ×
     (is_pair E i link ≡ true) × (link.directory ≢ i) × (is_some (F link.directory) ≡ true)))
     -- the image after the step
     (same : (j : ℕ) → is_some (E j) ≡ true → SameFile (E j) (files_in Y j))
@@ -74,7 +87,8 @@ module _ (F E : Files) (X Y : Image) (d e i : ℕ) (match : FilesMatch F X)
 
   not-agreed : (j : ℕ) → is_some (F j) ≡ false → Agreed (files_in X) j → ⊥
   not-agreed j h a =
-      let m = matched-agreed F X j match (live-some X j (agreed-some (files_in X) j a)) (holds-agreed (files_in X) j a) in
+      let m = matched-agreed F X j match (live-some X j (agreed-some (files_in X) j a))
+      (holds-agreed (files_in X) j a) in
       let s = some-is (F j) m.file m.is in
       cc (h, s)
 
@@ -94,11 +108,13 @@ module _ (F E : Files) (X Y : Image) (d e i : ℕ) (match : FilesMatch F X)
       let off = lone j link ne has pair in
       let p = pair-of F j link pair in
       let there : is_some (F link.directory) ≡ true = some-is (F link.directory) p.parent p.parent_is in
-      let still : is_some (E link.directory) ≡ true = sym (kin-some (F link.directory) (E link.directory) (own link.directory off)) ∙ there in
+      let still : is_some (E link.directory) ≡ true =
+      sym (kin-some (F link.directory) (E link.directory) (own link.directory off)) ∙ there in
       let dir = elsewhere link.directory link.entry there still (away j link ne has pair) in
       let same_pair = pairs-parts (F j) (E j) (F link.directory) (E link.directory) j link (own j ne) dir in
       let l = links-kin (F j) (E j) (own j ne) in
-      linked link plain (subst (λ (ls : List BackLink). Contains ls link) l has) (sym same_pair ∙ pair) (carry link.directory off up)
+      linked link plain (subst (λ (ls : List BackLink). Contains ls link) l has) (sym same_pair ∙ pair)
+      (carry link.directory off up)
 
   machine : (j : ℕ) → is_some (F j) ≡ true → Agreed F j
   machine j h = agreed-machine F X match j (agreed-holds (files_in X) j (in-image j h))
@@ -112,7 +128,8 @@ module _ (F E : Files) (X Y : Image) (d e i : ℕ) (match : FilesMatch F X)
       at-i : is_some (E i) ≡ true → (j : ℕ) → j ≡ i → Agreed E j
       at-i h j at = elim (home h) [
         | inl r ↦ subst (λ (q : ℕ). Agreed E q) (sym at) (root r)
-        | inr l ↦ subst (λ (q : ℕ). Agreed E q) (sym at) (linked l.0 l.1 l.2 l.3 (carry l.0.directory l.4 (machine l.0.directory l.5)))
+        | inr l ↦ subst (λ (q : ℕ). Agreed E q) (sym at)
+            (linked l.0 l.1 l.2 l.3 (carry l.0.directory l.4 (machine l.0.directory l.5)))
       ]
 
   no-root : (j : ℕ) → is_some (E j) ≡ false → is_root (files_in Y) j ≡ false
@@ -127,7 +144,8 @@ module _ (F E : Files) (X Y : Image) (d e i : ℕ) (match : FilesMatch F X)
         | inr ne ↦
             let fj : is_some (F j) ≡ false = kin-some (F j) (E j) (own j ne) ∙ h in
             let r : is_root (files_in X) j ≡ true = root-kin (files_in Y) (files_in X) j
-            (λ k s. subst (λ (t : ℕ). Kin (files_in Y t) (files_in X t)) s (kin-sym (files_in X j) (files_in Y j) (rest j ne fj))) q in
+            (λ k s. subst (λ (t : ℕ). Kin (files_in Y t) (files_in X t)) s
+            (kin-sym (files_in X j) (files_in Y j) (rest j ne fj))) q in
             absurd (not-agreed j fj (root r))
       ]
         where
@@ -145,7 +163,8 @@ module _ (F E : Files) (X Y : Image) (d e i : ℕ) (match : FilesMatch F X)
       go : (b : Bool) → is_pair (files_in Y) j link ≡ b → is_pair (files_in Y) j link ≡ false
       go false q = q
       go true q = absurd (elim (cases_eq j i) [
-        | inl at ↦ gone-pair (subst (λ (k : ℕ). files_in Y k ≡ None) (sym at) (removed (subst (λ (k : ℕ). is_some (E k) ≡ false) at h))) q
+        | inl at ↦ gone-pair (subst (λ (k : ℕ). files_in Y k ≡ None) (sym at)
+            (removed (subst (λ (k : ℕ). is_some (E k) ≡ false) at h))) q
         | inr ne ↦ other ne q
       ])
         where
@@ -161,20 +180,24 @@ module _ (F E : Files) (X Y : Image) (d e i : ℕ) (match : FilesMatch F X)
                   (same-alike (E link.directory) (files_in Y link.directory) (same link.directory dir))
 
               is-named : (g : ℕ) × (names (entry_in_file (E link.directory) link.entry) j g ≡ true)
-              is-named = let n = pair-names (files_in Y j) (files_in Y link.directory) j link q in (n.0, dir_same.names j n.0 ∙ n.1)
+              is-named = let n = pair-names (files_in Y j) (files_in Y link.directory) j link q in
+                  (n.0, dir_same.names j n.0 ∙ n.1)
 
               at-directory : (b : Bool) → is_some (F link.directory) ≡ b → ⊥
               at-directory false fd = elim (cases_eq link.directory i) [
                 | inl at ↦ (let z = empty (subst (λ (k : ℕ). is_some (F k) ≡ false) at fd) link.entry j is-named.0 in
                     let n : names (entry_in_file (E i) link.entry) j is-named.0 ≡ true =
-                    subst (λ (k : ℕ). names (entry_in_file (E k) link.entry) j is-named.0 ≡ true) at is-named.1 in cc (z, n))
-                | inr off ↦ (let z = kin-some (F link.directory) (E link.directory) (own link.directory off) in cc (fd, dir, z))
+                    subst (λ (k : ℕ). names (entry_in_file (E k) link.entry) j is-named.0 ≡ true) at is-named.1 in
+                    cc (z, n))
+                | inr off ↦ (let z = kin-some (F link.directory) (E link.directory) (own link.directory off) in
+                    cc (fd, dir, z))
               ]
               at-directory true fd = elim (cases_eq link.directory d) [
                 | inl at ↦ elim (cases_eq link.entry e) [
                   | inl here ↦ (let z = named j is-named.0 ne in
                       let n : names (entry_in_file (E d) e) j is-named.0 ≡ true =
-                      subst₂ (λ (k l : ℕ). names (entry_in_file (E k) l) j is-named.0 ≡ true) at here is-named.1 in cc (z, n))
+                      subst₂ (λ (k l : ℕ). names (entry_in_file (E k) l) j is-named.0 ≡ true) at here is-named.1 in
+                      cc (z, n))
                   | inr there ↦ was (λ a b. there b)
                 ]
                 | inr off ↦ was (λ a b. off a)
@@ -186,15 +209,20 @@ module _ (F E : Files) (X Y : Image) (d e i : ℕ) (match : FilesMatch F X)
                       let ad = in-image link.directory fd in
                       let x0 : SameDirectory (F link.directory) (files_in X link.directory) link.entry =
                       alike-directory (F link.directory) (files_in X link.directory) link.entry
-                      (same-alike (F link.directory) (files_in X link.directory) (same-of F X link.directory match ad)) in
+                      (same-alike (F link.directory) (files_in X link.directory)
+                      (same-of F X link.directory match ad)) in
                       let x1 = directory-sym (F link.directory) (files_in X link.directory) link.entry x0 in
-                      let x2 = directory-trans (files_in X link.directory) (F link.directory) (E link.directory) link.entry x1
+                      let x2 = directory-trans (files_in X link.directory) (F link.directory)
+                      (E link.directory) link.entry x1
                       (elsewhere link.directory link.entry fd dir apart) in
-                      let x3 = directory-trans (files_in X link.directory) (E link.directory) (files_in Y link.directory) link.entry x2 dir_same in
+                      let x3 = directory-trans (files_in X link.directory) (E link.directory)
+                      (files_in Y link.directory) link.entry x2 dir_same in
                       let k = rest j ne fj in
-                      let p = pairs-parts (files_in X j) (files_in Y j) (files_in X link.directory) (files_in Y link.directory) j link k x3 in
+                      let p = pairs-parts (files_in X j) (files_in Y j) (files_in X link.directory)
+                      (files_in Y link.directory) j link k x3 in
                       let l = links-kin (files_in X j) (files_in Y j) k in
-                      not-agreed j fj (linked link plain (subst (λ (ls : List BackLink). Contains ls link) (sym l) has) (p ∙ q)
+                      not-agreed j fj
+                      (linked link plain (subst (λ (ls : List BackLink). Contains ls link) (sym l) has) (p ∙ q)
                       (agreed-holds (files_in X) link.directory ad))
 
   pub match-entry : FilesMatch E Y

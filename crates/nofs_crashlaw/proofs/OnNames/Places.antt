@@ -1,5 +1,6 @@
 -- Where a new entry goes: its slot holds, or is a hole.
-use Rattle.std.proofs.Common.{◌≡◌, ◌≢◌, ℕ, ◌*◌, ◌/◌, ◌<◌, ◌⊎◌, inl, inr, true, false, ◌&&◌, not, List, [], ◌∷◌, Option, Some, None, is_some, option_map, refl}
+use Rattle.std.proofs.Common.{◌≡◌, ◌≢◌, ℕ, ◌*◌, ◌/◌, ◌<◌, ◌⊎◌, inl, inr, true, false, ◌&&◌, not, List, [], ◌∷◌, Option}
+use Rattle.std.proofs.Common.{Some, None, is_some, option_map, refl}
 use Rattle.std.proofs.Common.{sym, ap, ◌∙◌, subst, arith}
 use Rattle.nofs_dirent.specs.Entries.{entry_limit}
 use Rattle.nofs_model.specs.Cells.{Entry, Pointer, slot_limit}
@@ -48,14 +49,21 @@ module _ (F : Files) (d : ℕ) (name : List ℕ) (f : FileState) (is : F d ≡ S
       (omega (arith, lt), there (entry_at F d e) refl a.0)
     where
       there : (o : Option Entry) → entry_at F d e ≡ o → entry_has_name F d name e ≡ true → value_of F d (e / 16) ≢ Lost
-      there (Some entry) eo q lost = not-lost-held (f.values (e / 16)) e entry (entry-parts (F d) f e entry is eo).2 (sym (value-of F d f is (e / 16)) ∙ lost)
-      there None eo q lost = absurd (let z : entry_has_name F d name e ≡ false = rw (eo, entry_has_name) refl in cc (q, z))
+      there (Some entry) eo q lost = not-lost-held (f.values (e / 16)) e entry
+          (entry-parts (F d) f e entry is eo).2 (sym (value-of F d f is (e / 16)) ∙ lost)
+      there None eo q lost =
+          absurd (let z : entry_has_name F d name e ≡ false = rw (eo, entry_has_name) refl in cc (q, z))
 
-  fit-new : (e : ℕ) → least_from (λ k. is_bytes (value_of F d (k / 16)) && not (is_some (entry_at F d k))) 0 entry_limit ≡ Some e → Fit e
+  fit-new : (e : ℕ) → least_from (λ k. is_bytes (value_of F d (k / 16)) && not (is_some (entry_at F d k))) 0 entry_limit
+      ≡ Some e → Fit e
   fit-new e h =
-      let p = least-passes (λ k. is_bytes (value_of F d (k / 16)) && not (is_some (entry_at F d k))) 0 entry_limit e h in
-      let lt = p.1 in
-      (omega (arith, lt), not-lost-bytes (value_of F d (e / 16)) (and-both (is_bytes (value_of F d (e / 16))) (not (is_some (entry_at F d e))) p.0).0)
+      let p = least-passes (λ k. is_bytes (value_of F d (k / 16)) && not (is_some (entry_at F d k))) 0
+      entry_limit e h in
+      let lt = p.1 in (
+        omega (arith, lt),
+        not-lost-bytes (value_of F d (e / 16))
+            (and-both (is_bytes (value_of F d (e / 16))) (not (is_some (entry_at F d e))) p.0).0,
+      )
 
   fit-hole : (k e : ℕ) → 16 * k ≡ e → least_from (λ l. is_hole (value_of F d l)) 0 72 ≡ Some k → Fit e
   fit-hole k e s h =
@@ -66,11 +74,13 @@ module _ (F : Files) (d : ℕ) (name : List ℕ) (f : FileState) (is : F d ≡ S
 
   fit : (e : ℕ) → place_for F d name ≡ Some e → Fit e
   unfolding place_for
-  fit e h = go (first_dead F d name) refl (least_from (λ k. is_bytes (value_of F d (k / 16)) && not (is_some (entry_at F d k))) 0 entry_limit) refl
+  fit e h = go (first_dead F d name) refl
+      (least_from (λ k. is_bytes (value_of F d (k / 16)) && not (is_some (entry_at F d k))) 0 entry_limit) refl
       (least_from (λ k. is_hole (value_of F d k)) 0 72) refl h
     where
       go : (a : Option ℕ) → first_dead F d name ≡ a → (b : Option ℕ)
-          → least_from (λ k. is_bytes (value_of F d (k / 16)) && not (is_some (entry_at F d k))) 0 entry_limit ≡ b → (c : Option ℕ)
+          → least_from (λ k. is_bytes (value_of F d (k / 16)) && not (is_some (entry_at F d k))) 0 entry_limit ≡ b
+          → (c : Option ℕ)
           → least_from (λ k. is_hole (value_of F d k)) 0 72 ≡ c
           → first_of (a ∷ b ∷ option_map (λ k. 16 * k) c ∷ []) ≡ Some e → Fit e
       go (Some n) ea b eb c ec q = let s : n ≡ e = cc q in fit-dead e (ea ∙ ap Some s)
@@ -79,7 +89,8 @@ module _ (F : Files) (d : ℕ) (name : List ℕ) (f : FileState) (is : F d ≡ S
       go None ea None eb None ec q = cc
 
 pub law-entry-place : LawEntryPlace
-law-entry-place F X d e name f match is place = (fits.0, place-unpaired F d name e place, go (find X d (path_of (e / 16))) refl)
+law-entry-place F X d e name f match is place =
+    (fits.0, place-unpaired F d name e place, go (find X d (path_of (e / 16))) refl)
   where
     fits : (e < entry_limit) × (value_of F d (e / 16) ≢ Lost)
     fits = fit F d name f is e place

@@ -1,6 +1,8 @@
 -- The premises of the steps on names, from what a search found and which record was written.
-use Rattle.std.proofs.Common.{◌≡◌, ◌≢◌, ℕ, zero, suc, ◌+◌, ◌-◌, ◌*◌, ◌/◌, ◌%◌, ◌<◌, ◌≤◌, ◌⊎◌, Bool, true, false, cond, eqb, ltb, leb, ◌&&◌, ◌||◌, not, List}
-use Rattle.std.proofs.Common.{[], ◌∷◌, length, Option, Some, None, is_some, refl, sym, ap, ◌∙◌, subst, arith, eqb-true, eq-eqb, leb-true}
+use Rattle.std.proofs.Common.{◌≡◌, ◌≢◌, ℕ, zero, suc, ◌+◌, ◌-◌, ◌*◌, ◌/◌, ◌%◌, ◌<◌, ◌≤◌, ◌⊎◌, Bool, true, false, cond}
+use Rattle.std.proofs.Common.{eqb, ltb, leb, ◌&&◌, ◌||◌, not, List}
+use Rattle.std.proofs.Common.{[], ◌∷◌, length, Option, Some, None, is_some, refl, sym, ap, ◌∙◌, subst, arith, eqb-true}
+use Rattle.std.proofs.Common.{eq-eqb, leb-true}
 use Rattle.std.specs.Prelude.{option_map}
 use Rattle.nofs_model.specs.Kinds.{Directory as Folder}
 use Rattle.nofs_crashlaw.specs.Images.Proper.{Proper, RecordProper}
@@ -13,13 +15,15 @@ use Rattle.nofs_crashlaw.proofs.OnNames.HoleWrites.{mixed-table-proper, two-reco
 use Rattle.nofs_history.specs.Meta.{is_bytes}
 use Rattle.nofs_history.specs.Marks.{Mark}
 use Rattle.nofs_history.specs.declared.machine.history.Claims.{Claims}
-use Rattle.nofs_history.specs.Machine.{found, first_dead, place_for, link_place, entry_has_name, is_paired, is_hole, value_of, gives, rename_given}
+use Rattle.nofs_history.specs.Machine.{found, first_dead, place_for, link_place, entry_has_name, is_paired, is_hole}
+use Rattle.nofs_history.specs.Machine.{value_of, gives, rename_given}
 use Rattle.nofs_history.specs.Machine.{drop_given, link_given, make_given, place_for_link}
 use Rattle.nofs_history.specs.Search.{first_of, least_from}
 use Rattle.nofs_history.specs.History.{FilesMatch}
 use Rattle.nofs_history.specs.declared.machine.steps.Step.TheVariants as step
 use Rattle.nofs_model.specs.Cells.{Cell, Entry, FileKind, BackLink, record_at, free_record, is_empty_link, entry_limit}
-use Rattle.nofs_model.specs.Image.{Image, cell_at, super_at, is_inode, is_data_block, inode, FileState, Files, entry_held, entry_in_file, entry_at}
+use Rattle.nofs_model.specs.Image.{Image, cell_at, super_at, is_inode, is_data_block, inode, FileState, Files}
+use Rattle.nofs_model.specs.Image.{entry_held, entry_in_file, entry_at}
 use Rattle.nofs_model.specs.Image.{is_folder, files_in, Agreed, root, linked, is_a, is_pair, is_special, links_of}
 use Rattle.nofs_model.specs.declared.image.value.Value.{Value}
 use Rattle.nofs_model.specs.declared.image.value.Value.TheVariants.{Hole}
@@ -46,7 +50,8 @@ found-parts F d name e h =
     let n = named (entry_at F d e) refl a.0 in
     (n.0, n.1, a.1, p.1)
   where
-    named : (o : Option Entry) → entry_at F d e ≡ o → entry_has_name F d name e ≡ true → (entry : Entry) × (entry_at F d e ≡ Some entry)
+    named : (o : Option Entry)
+        → entry_at F d e ≡ o → entry_has_name F d name e ≡ true → (entry : Entry) × (entry_at F d e ≡ Some entry)
     named (Some entry) eo q = (entry, eo)
     named None eo q = absurd (let z : entry_has_name F d name e ≡ false = rw (eo, entry_has_name) refl in cc (q, z))
 
@@ -67,13 +72,16 @@ no-entry-unpaired F d e h = rw (h, is_paired) refl
 -- records beside the one that is written stay
 pub records-stay : (X Y : Image) (i : ℕ) → is_inode X i ≡ true → cell_at Y 0 ≡ cell_at X 0
     → ((b : ℕ) → is_data_block X b ≡ false → b ≢ 1 + (i - 1) / 4 → cell_at Y b ≡ cell_at X b)
-    → ((q : ℕ) → q < 4 → q ≢ (i - 1) % 4 → record_at (cell_at Y (1 + (i - 1) / 4)).payload q ≡ record_at (cell_at X (1 + (i - 1) / 4)).payload q)
+    → ((q : ℕ) → q < 4 → q ≢ (i - 1) % 4
+    → record_at (cell_at Y (1 + (i - 1) / 4)).payload q ≡ record_at (cell_at X (1 + (i - 1) / 4)).payload q)
     → (super_at X).inodes % 4 ≡ 0 → (j : ℕ) → j ≢ i → inode Y j ≡ inode X j
 unfolding inode
-records-stay X Y i range super blocks same quarters j ne = go (is_inode X j) refl (eqb (1 + (j - 1) / 4) (1 + (i - 1) / 4)) refl
+records-stay X Y i range super blocks same quarters j ne =
+    go (is_inode X j) refl (eqb (1 + (j - 1) / 4) (1 + (i - 1) / 4)) refl
   where
     go : (b : Bool) → is_inode X j ≡ b → (t : Bool) → eqb (1 + (j - 1) / 4) (1 + (i - 1) / 4) ≡ t
-        → cond (is_inode Y j) (record_at (cell_at Y (1 + (j - 1) / 4)).payload ((j - 1) % 4)) free_record ≡ cond (is_inode X j)
+        → cond (is_inode Y j) (record_at (cell_at Y (1 + (j - 1) / 4)).payload ((j - 1) % 4)) free_record
+        ≡ cond (is_inode X j)
         (record_at (cell_at X (1 + (j - 1) / 4)).payload ((j - 1) % 4)) free_record
     go false e t et = let z = super-same X Y super in let y : is_inode Y j ≡ false = rw z e in rw (y, e) refl
     go true e true et =
@@ -83,7 +91,8 @@ records-stay X Y i range super blocks same quarters j ne = go (is_inode X j) ref
         let lj = leb-true 1 j (and-both (leb 1 j) (leb j (super_at X).inodes) e).0 in
         let li = leb-true 1 i (and-both (leb 1 i) (leb i (super_at X).inodes) range).0 in
         let s = same ((j - 1) % 4) (omega arith) (λ q. ne (omega (arith, q, eb, lj, li))) in
-        rw (y, e) (subst (λ (b : ℕ). record_at (cell_at Y b).payload ((j - 1) % 4) ≡ record_at (cell_at X b).payload ((j - 1) % 4)) (sym eb) s)
+        rw (y, e) (subst (λ (b : ℕ). record_at (cell_at Y b).payload ((j - 1) % 4)
+        ≡ record_at (cell_at X b).payload ((j - 1) % 4)) (sym eb) s)
     go true e false et =
         let z = super-same X Y super in
         let y : is_inode Y j ≡ true = rw z e in
@@ -98,19 +107,23 @@ records-stay X Y i range super blocks same quarters j ne = go (is_inode X j) ref
             let high = leb-true j (super_at X).inodes both.1 in
             below (is_data_block X (1 + (j - 1) / 4)) refl low high
           where
-            below : (b : Bool) → is_data_block X (1 + (j - 1) / 4) ≡ b → 1 ≤ j → j ≤ (super_at X).inodes → is_data_block X (1 + (j - 1) / 4) ≡ false
+            below : (b : Bool) → is_data_block X (1 + (j - 1) / 4) ≡ b → 1 ≤ j → j ≤ (super_at X).inodes
+                → is_data_block X (1 + (j - 1) / 4) ≡ false
             below false q low high = q
             below true q low high =
                 let first = leb-true (1 + (super_at X).inodes / 4) (1 + (j - 1) / 4)
-                (and-both (leb (1 + (super_at X).inodes / 4) (1 + (j - 1) / 4)) (ltb (1 + (j - 1) / 4) (super_at X).blocks) q).0 in
+                (and-both (leb (1 + (super_at X).inodes / 4) (1 + (j - 1) / 4))
+                (ltb (1 + (j - 1) / 4) (super_at X).blocks) q).0 in
                 absurd (omega (arith, first, low, high, quarters))
 
 -- the table cells of Make and Link in a hole, at any moment: the records of d and i are each that of X or that of Y
 pub step-table-proper : (m : Mark) (X Y : Image) (d i b : ℕ) (c : Cell) → 0 < b → is_data_block m.image b ≡ false
     → ((j : ℕ) → is_inode m.image j ≡ true → 1 + (j - 1) / 4 ≡ b
     → (record_at c.payload ((j - 1) % 4) ≡ inode X j) ⊎ (record_at c.payload ((j - 1) % 4) ≡ inode Y j))
-    → ((j : ℕ) → j ≢ d → j ≢ i → inode Y j ≡ inode X j) → RecordProper m X d (inode Y d) → RecordProper m X i (inode Y i) → Proper m X b c
-step-table-proper m X Y d i b c pos area each others at_d at_i = mixed-table-proper m X Y b c pos area each (two-records m X Y d i others at_d at_i)
+    → ((j : ℕ) → j ≢ d → j ≢ i → inode Y j ≡ inode X j) → RecordProper m X d (inode Y d)
+    → RecordProper m X i (inode Y i) → Proper m X b c
+step-table-proper m X Y d i b c pos area each others at_d at_i =
+    mixed-table-proper m X Y b c pos area each (two-records m X Y d i others at_d at_i)
 
 -- what the steps give
 pub rename-gives : (F : Files) (d g : ℕ) (old new : List ℕ) (claims : Claims) (e : ℕ) → found F d old ≡ Some e
@@ -123,12 +136,14 @@ pub drop-gives : (F : Files) (d g : ℕ) (name : List ℕ) (claims : Claims) (e 
 unfolding gives
 drop-gives F d g name claims e h = rw h refl
 
-pub link-gives : (F : Files) (d g : ℕ) (name : List ℕ) (i of : ℕ) (claims : Claims) (e b : ℕ) → place_for F d name ≡ Some e → link_place F i ≡ Some b
+pub link-gives : (F : Files) (d g : ℕ) (name : List ℕ) (i of : ℕ) (claims : Claims) (e b : ℕ)
+    → place_for F d name ≡ Some e → link_place F i ≡ Some b
     → gives F (step.Link d g name i of) claims ≡ link_given F d g name i of e b
 unfolding gives
 link-gives F d g name i of claims e b h l = rw (h, l) refl
 
-pub make-given-is : (F : Files) (d g : ℕ) (name : List ℕ) (kind : FileKind) (claims : Claims) (e : ℕ) → place_for F d name ≡ Some e
+pub make-given-is : (F : Files) (d g : ℕ) (name : List ℕ) (kind : FileKind) (claims : Claims) (e : ℕ)
+    → place_for F d name ≡ Some e
     → gives F (step.Make d g name kind) claims ≡ make_given F d g name kind claims e
 unfolding gives
 make-given-is F d g name kind claims e h = rw h refl
@@ -144,9 +159,11 @@ place-hole F d k h e eq = go (F d) refl
     go None eo = ap (λ (o : Option FileState). entry_in_file o e) eo
     go (Some f) eo =
         let v : f.values k ≡ Hole = sym (rw (eo, value_of) refl) ∙ h in
-        ap (λ (o : Option FileState). entry_in_file o e) eo ∙ inside f (is_folder f.kind && ltb e entry_limit) (ap f.values slot ∙ v)
+        ap (λ (o : Option FileState). entry_in_file o e) eo
+        ∙ inside f (is_folder f.kind && ltb e entry_limit) (ap f.values slot ∙ v)
       where
-        inside : (f : FileState) (b : Bool) → f.values (e / 16) ≡ Hole → cond b (entry_held (f.values (e / 16)) e) None ≡ None
+        inside : (f : FileState) (b : Bool)
+            → f.values (e / 16) ≡ Hole → cond b (entry_held (f.values (e / 16)) e) None ≡ None
         inside f true q = ap (λ (v : Value). entry_held v e) q
         inside f false q = refl
 
@@ -166,13 +183,15 @@ place-unpaired F d name e h = go (first_dead F d name) refl
     (least_from (λ k. is_hole (value_of F d k)) 0 72) refl h
   where
     go : (a : Option ℕ) → first_dead F d name ≡ a → (b : Option ℕ)
-        → least_from (λ k. is_bytes (value_of F d (k / 16)) && not (is_some (entry_at F d k))) 0 entry_limit ≡ b → (c : Option ℕ)
+        → least_from (λ k. is_bytes (value_of F d (k / 16)) && not (is_some (entry_at F d k))) 0 entry_limit ≡ b
+        → (c : Option ℕ)
         → least_from (λ k. is_hole (value_of F d k)) 0 72 ≡ c
         → first_of (a ∷ b ∷ option_map (λ k. 16 * k) c ∷ []) ≡ Some e → is_paired F d e ≡ false
     go (Some n) ea b eb c ec q = let s : n ≡ e = cc q in dead-unpaired F d name e (ea ∙ ap Some s)
     go None ea (Some n) eb c ec q =
         let s : n ≡ e = cc q in
-        let p = least-passes (λ k. is_bytes (value_of F d (k / 16)) && not (is_some (entry_at F d k))) 0 entry_limit e (eb ∙ ap Some s) in
+        let p = least-passes (λ k. is_bytes (value_of F d (k / 16)) && not (is_some (entry_at F d k))) 0 entry_limit e
+        (eb ∙ ap Some s) in
         let a = and-both (is_bytes (value_of F d (e / 16))) (not (is_some (entry_at F d e))) p.0 in
         no-entry-unpaired F d e (some-false (entry_at F d e) (not-true (is_some (entry_at F d e)) a.1))
     go None ea None eb (Some k) ec q =
@@ -182,7 +201,8 @@ place-unpaired F d name e h = go (first_dead F d name) refl
     go None ea None eb None ec q = cc
 
 -- no number passes
-pub least-none : (test : ℕ → Bool) (at n : ℕ) → is_some (least_from test at n) ≡ false → (k : ℕ) → at ≤ k → k < at + n → test k ≡ false
+pub least-none : (test : ℕ → Bool) (at n : ℕ) → is_some (least_from test at n) ≡ false → (k : ℕ)
+    → at ≤ k → k < at + n → test k ≡ false
 unfolding least_from
 least-none test at zero h k le lt = absurd (omega (arith, le, lt))
 least-none test at (suc n) h k le lt = go (test at) refl (λ q l. least-none test (suc at) n q k l (omega (arith, lt))) h
@@ -197,15 +217,18 @@ least-none test at (suc n) h k le lt = go (test at) refl (λ q l. least-none tes
         same false et = ih q (let ne : at ≢ k = λ s. let t = eq-eqb at k s in cc (et, t) in omega (arith, le, ne))
 
 -- a directory that may go has no pairs: Drop
-pub empty-names : (F : Files) (i : ℕ) → is_some (least_from (λ b. is_paired F i b) 0 entry_limit) ≡ false → (b : ℕ) → b < entry_limit → is_paired F i b ≡ false
+pub empty-names : (F : Files) (i : ℕ) → is_some (least_from (λ b. is_paired F i b) 0 entry_limit) ≡ false → (b : ℕ)
+    → b < entry_limit → is_paired F i b ≡ false
 empty-names F i h b lt = least-none (λ k. is_paired F i k) 0 entry_limit h b (omega arith) (omega (arith, lt))
 
 -- Where a back link goes: Link
-place-in-range : (test : BackLink → Bool) (links : List BackLink) (at b : ℕ) → place_for_link test links at ≡ Some b → b < at + length links
+place-in-range : (test : BackLink → Bool) (links : List BackLink) (at b : ℕ) → place_for_link test links at ≡ Some b
+    → b < at + length links
 place-in-range test [] at b h = cc
 place-in-range test (l ∷ ls) at b h = go (test l) (λ q. place-in-range test ls (suc at) b q) h
   where
-    go : (t : Bool) → (place_for_link test ls (suc at) ≡ Some b → b < suc at + length ls) → cond t (Some at) (place_for_link test ls (suc at)) ≡ Some b
+    go : (t : Bool) → (place_for_link test ls (suc at) ≡ Some b → b < suc at + length ls)
+        → cond t (Some at) (place_for_link test ls (suc at)) ≡ Some b
         → b < at + length (l ∷ ls)
     go true ih q = let s : at ≡ b = cc q in omega (arith, s)
     go false ih q = let lt = ih q in omega (arith, lt)
@@ -214,24 +237,29 @@ pub link-place-parts : (F : Files) (i b : ℕ) → link_place F i ≡ Some b →
 unfolding link_place
 link-place-parts F i b h = go (eqb i 2) refl h
   where
-    go : (t : Bool) → eqb i 2 ≡ t → cond t None (first_of (place_for_link is_empty_link (links_of F i) 0 ∷ place_for_link (λ link. not (is_pair F i link))
+    go : (t : Bool) → eqb i 2 ≡ t → cond t None
+        (first_of (place_for_link is_empty_link (links_of F i) 0 ∷ place_for_link (λ link. not (is_pair F i link))
         (links_of F i) 0 ∷ [])) ≡ Some b → (i ≢ 2) × (b < length (links_of F i))
     go true e q = cc
     go false e q = (
       λ s. let t = eq-eqb i 2 s in cc (e, t),
-      pick (place_for_link is_empty_link (links_of F i) 0) refl (place_for_link (λ link. not (is_pair F i link)) (links_of F i) 0) refl q,
+      pick (place_for_link is_empty_link (links_of F i) 0) refl
+          (place_for_link (λ link. not (is_pair F i link)) (links_of F i) 0) refl q,
     )
       where
         pick : (u : Option ℕ) → place_for_link is_empty_link (links_of F i) 0 ≡ u → (v : Option ℕ)
-            → place_for_link (λ link. not (is_pair F i link)) (links_of F i) 0 ≡ v → first_of (u ∷ v ∷ []) ≡ Some b → b < length (links_of F i)
-        pick (Some n) eu v ev q = let s : n ≡ b = cc q in let lt = place-in-range is_empty_link (links_of F i) 0 b (eu ∙ ap Some s) in omega (arith, lt)
+            → place_for_link (λ link. not (is_pair F i link)) (links_of F i) 0 ≡ v → first_of (u ∷ v ∷ []) ≡ Some b
+            → b < length (links_of F i)
+        pick (Some n) eu v ev q = let s : n ≡ b = cc q in
+            let lt = place-in-range is_empty_link (links_of F i) 0 b (eu ∙ ap Some s) in omega (arith, lt)
         pick None eu (Some n) ev q = let s : n ≡ b = cc q in let lt =
             place-in-range (λ link. not (is_pair F i link)) (links_of F i) 0 b (ev ∙ ap Some s) in omega (arith, lt)
         pick None eu None ev q = cc
 
 -- the file of inode 1, where there is one, is a directory
 pub root-folder : (F : Files) (X : Image) (h : FileState) → FilesMatch F X → F 1 ≡ Some h → is_folder h.kind ≡ true
-root-folder F X h match is = go (agreed-machine F X match 1 (agreed-holds (files_in X) 1 (matched-file F X 1 match (some-is (F 1) h is)).agreed))
+root-folder F X h match is =
+    go (agreed-machine F X match 1 (agreed-holds (files_in X) 1 (matched-file F X 1 match (some-is (F 1) h is)).agreed))
   where
     folder : (h : FileState) → is_a Folder 1 (Some h) ≡ true → is_folder h.kind ≡ true
     folder h e = (and-both (is_folder h.kind) (eqb h.generation 1) e).0
@@ -245,10 +273,12 @@ root-folder F X h match is = go (agreed-machine F X match 1 (agreed-holds (files
     go (linked link plain has pair up) = cc plain
 
 -- the file of a Link is neither inode 1 nor 2
-pub link-plain : (F : Files) (X : Image) (i : ℕ) (h : FileState) → FilesMatch F X → F i ≡ Some h → is_folder h.kind ≡ false → i ≢ 2 → is_special i ≡ false
+pub link-plain : (F : Files) (X : Image) (i : ℕ) (h : FileState) → FilesMatch F X → F i ≡ Some h
+    → is_folder h.kind ≡ false → i ≢ 2 → is_special i ≡ false
 link-plain F X i h match is file ne = go (eqb i 1) refl (eqb i 2) refl
   where
     go : (a : Bool) → eqb i 1 ≡ a → (b : Bool) → eqb i 2 ≡ b → is_special i ≡ false
-    go true ea b eb = absurd (let z = root-folder F X h match (subst (λ (j : ℕ). F j ≡ Some h) (eqb-true i 1 ea) is) in cc (z, file))
+    go true ea b eb =
+        absurd (let z = root-folder F X h match (subst (λ (j : ℕ). F j ≡ Some h) (eqb-true i 1 ea) is) in cc (z, file))
     go false ea true eb = absurd (ne (eqb-true i 2 eb))
     go false ea false eb = rw (ea, eb) refl

@@ -16,7 +16,8 @@ use Rattle.nofs_crashlaw.specs.Numbers.Cells.{LawTableNumbers, LawTableMoment}
 use Rattle.nofs_crashlaw.proofs.OnNumbers.Cells.{old-generation}
 
 null-below : (s : ℕ) (x : Pointer) → is_null x ≡ true → 0 < s → x.stamp < s
-null-below s x z positive = let e = eqb-true x.stamp 0 (and-both (eqb x.block 0) (eqb x.stamp 0) z).1 in omega (arith, e, positive)
+null-below s x z positive = let e = eqb-true x.stamp 0 (and-both (eqb x.block 0) (eqb x.stamp 0) z).1 in
+    omega (arith, e, positive)
 
 module _ (W : World) (c : Claims) (X : Image) (j : ℕ) (o : OldNumbers W X) where
   old-link : is_live (inode X j) ≡ true → (l : BackLink) → Contains (inode X j).links l → Numbered W c l.generation
@@ -35,8 +36,10 @@ module _ (W : World) (c : Claims) (X : Image) (j : ℕ) (o : OldNumbers W X) whe
   changed-numbers : (r : Record) → RecordFrom W c X j r → RecordNumbers (Numbered W c) r
   changed-numbers r p = record {
     generation = subst (λ (n : ℕ). Numbered W c n) (sym p.generation) (old-generation W c X j o p.live);
-    links = λ k d lt. elim (p.links _ (Contains-get_or r.links k d lt)) [ inl there ↦ old-link p.live _ there | inr new ↦ new ];
-    pointers = λ n lt. law-pointers W c X j (InRecord n) (record_pointer r n) o.positive o.mountable o.below p.live lt (p.pointers n lt);
+    links = λ k d lt.
+        elim (p.links _ (Contains-get_or r.links k d lt)) [ inl there ↦ old-link p.live _ there | inr new ↦ new ];
+    pointers = λ n lt. law-pointers W c X j (InRecord n) (record_pointer r n) o.positive o.mountable o.below p.live lt
+        (p.pointers n lt);
   }
 
   null-stamp : (r : Record) → RecordBorn W c r → (n : ℕ) → n < 10 → Numbered W c (record_pointer r n).stamp
@@ -50,7 +53,8 @@ module _ (W : World) (c : Claims) (X : Image) (j : ℕ) (o : OldNumbers W X) whe
   }
 
   written-numbers : (r : Record) → RecordWritten W c X j r → is_live r ≡ true → RecordNumbers (Numbered W c) r
-  written-numbers r (AsBefore e) live = subst (RecordNumbers (Numbered W c)) (sym e) (old-numbers (subst (λ (q : Record). is_live q ≡ true) e live))
+  written-numbers r (AsBefore e) live =
+      subst (RecordNumbers (Numbered W c)) (sym e) (old-numbers (subst (λ (q : Record). is_live q ≡ true) e live))
   written-numbers r (Changed p) live = changed-numbers r p
   written-numbers r (Made p) live = born-numbers r p
   written-numbers r (Freed dead) live = absurd (cc (dead, live))
@@ -60,7 +64,8 @@ law-table-numbers W c X b cell o tag each = InTable (table_tag b) tag refl (Old 
     (λ j range e live. written-numbers W c X j o (record_at cell.payload ((j - 1) % 4)) (each j range e) live)
 
 pub law-table-moment : LawTableMoment
-law-table-moment W c X Y b cell o tag each after = law-table-numbers W c X b cell o tag (λ j range e. elim (each j range e) [
-  | inl x ↦ AsBefore x
-  | inr y ↦ subst (RecordWritten W c X j) (sym y) (after j)
-])
+law-table-moment W c X Y b cell o tag each after =
+    law-table-numbers W c X b cell o tag (λ j range e. elim (each j range e) [
+      | inl x ↦ AsBefore x
+      | inr y ↦ subst (RecordWritten W c X j) (sym y) (after j)
+    ])

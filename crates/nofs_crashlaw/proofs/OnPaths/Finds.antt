@@ -1,11 +1,13 @@
 -- A name that every version since the last flush has finds its file.
-use Rattle.std.proofs.Common.{◌≡◌, ℕ, suc, ◌/◌, ◌%◌, ◌<◌, inl, inr, Bool, true, false, eqb, lt-ltb, ◌&&◌, ◌||◌, List, length, get_or, Option, Some, None}
+use Rattle.std.proofs.Common.{◌≡◌, ℕ, suc, ◌/◌, ◌%◌, ◌<◌, inl, inr, Bool, true, false, eqb, lt-ltb, ◌&&◌, ◌||◌, List}
+use Rattle.std.proofs.Common.{length, get_or, Option, Some, None}
 use Rattle.std.proofs.Common.{is_some, refl, sym, ap, ◌∙◌, subst, arith, Contains, eq-eqb}
 use Rattle.std.proofs.lemmas.Bool.{cases_lt}
 use Rattle.std.proofs.lemmas.List.{get_or_past}
 use Rattle.nofs_model.specs.Kinds.{Directory as Folder}
 use Rattle.nofs_model.specs.Cells.{FileKind, File, BackLink, Record, entry_in, entry_limit, slot_limit}
-use Rattle.nofs_model.specs.Image.{Image, inode, files_in, Agreed, root, linked, value, entry_in_file, entry_at, names, is_pair, links_of}
+use Rattle.nofs_model.specs.Image.{Image, inode, files_in, Agreed, root, linked, value, entry_in_file, entry_at, names}
+use Rattle.nofs_model.specs.Image.{is_pair, links_of}
 use Rattle.nofs_model.specs.declared.image.value.Value.{Value}
 use Rattle.nofs_model.specs.declared.image.value.Value.TheVariants.{Bytes}
 use Rattle.nofs_model.proofs.OnFiles.Chains.{holds-agreed}
@@ -18,7 +20,8 @@ use Rattle.nofs_crashlaw.specs.Paths.Names.{SureName, SureChain, SureRoot, SureE
 folder-kind : (r : Record) → IsFolderMeta (meta_of r) → r.kind ≡ Some Folder
 folder-kind r h = go r.kind refl h
   where
-    go : (o : Option FileKind) → r.kind ≡ o → IsFolderMeta (elim o [ None ↦ Gone | Some kind ↦ Is kind r.size r.links ]) → r.kind ≡ Some Folder
+    go : (o : Option FileKind) → r.kind ≡ o → IsFolderMeta (elim o [ None ↦ Gone | Some kind ↦ Is kind r.size r.links ])
+        → r.kind ≡ Some Folder
     go None e f = absurd f
     go (Some File) e f = cc f
     go (Some Folder) e f = e
@@ -27,7 +30,8 @@ bytes-are : (v : Value) (P : List ℕ → Type 0) → (content : List ℕ) × (v
 bytes-are v P (c, e, p) = rw e refl
 
 -- what stands in a place whatever stands for none is there
-in-list : (ls : List BackLink) (b : ℕ) (link : BackLink) → ((none : BackLink) → get_or ls b none ≡ link) → Contains ls link
+in-list : (ls : List BackLink) (b : ℕ) (link : BackLink) → ((none : BackLink) → get_or ls b none ≡ link)
+    → Contains ls link
 in-list ls b link h = elim (cases_lt b (length ls)) [
   | inl lt ↦ (b, lt, h link)
   | inr le ↦
@@ -44,7 +48,8 @@ module _ (B : Image) (H : List Entry1) (m : ℕ) (X : Image) (a : IsAllowed B H 
       let r = a.versions.records i g s in
       subst (λ (q : ℕ). Contains (since_meta B H m i q) (meta_of (inode X i))) r.1 (a.versions.metas i r.0)
 
-  root-agreed : stands B H m 1 1 ≡ true → ((meta : Meta) → Contains (since_meta B H m 1 1) meta → IsFolderMeta meta) → Agreed (files_in X) 1
+  root-agreed : stands B H m 1 1 ≡ true → ((meta : Meta) → Contains (since_meta B H m 1 1) meta → IsFolderMeta meta)
+      → Agreed (files_in X) 1
   root-agreed s folders =
       let r = a.versions.records 1 1 s in
       let k = folder-kind (inode X 1) (folders (meta_of (inode X 1)) (meta-now 1 1 s)) in
@@ -58,29 +63,36 @@ module _ (B : Image) (H : List Entry1) (m : ℕ) (X : Image) (a : IsAllowed B H 
 
     -- its back link is in the record
     pub has-link : Contains (links_of (files_in X) i) link
-    has-link = go (inode X i).kind refl (λ none. p.linked (meta_of (inode X i)) (meta-now i g p.file_stands) none) (a.versions.records i g p.file_stands).0
+    has-link = go (inode X i).kind refl (λ none. p.linked (meta_of (inode X i)) (meta-now i g p.file_stands) none)
+        (a.versions.records i g p.file_stands).0
       where
         go : (o : Option FileKind) → (inode X i).kind ≡ o → ((none : BackLink)
-            → meta_link (elim o [ None ↦ Gone | Some kind ↦ Is kind (inode X i).size (inode X i).links ]) b none ≡ link) → is_some o ≡ true
+            → meta_link (elim o [ None ↦ Gone | Some kind ↦ Is kind (inode X i).size (inode X i).links ]) b none ≡ link)
+            → is_some o ≡ true
             → Contains (links_of (files_in X) i) link
         go None e h live = cc live
         go (Some kind) e h live = rw (e, files_in) (in-list (inode X i).links b link h)
 
   module _ (i g b : ℕ) (link : BackLink) (name : List ℕ) (p : SureName B H m i g b link name) where
     -- and the entry is the one that every version has
-    pub entry-now : entry_at (files_in X) link.directory link.entry ≡ Some (record { inode = i; generation = g; name = name })
+    pub entry-now : entry_at (files_in X) link.directory link.entry
+        ≡ Some (record { inode = i; generation = g; name = name })
     entry-now =
         let r = a.versions.records link.directory link.generation p.directory_stands in
         let k = folder-kind (inode X link.directory) (p.folders (meta_of (inode X link.directory))
         (meta-now link.directory link.generation p.directory_stands)) in
         let slot : link.entry / 16 < slot_limit = let lt = p.range in omega (arith, lt) in
         let sure = a.versions.sure link.directory link.generation (link.entry / 16) p.directory_stands slot
-        (λ v c. bytes-are v (λ (content : List ℕ). entry_in content (link.entry % 16) ≡ Some (record { inode = i; generation = g; name = name }))
+        (λ v c. bytes-are v (λ (content : List ℕ). entry_in content (link.entry % 16)
+        ≡ Some (record { inode = i; generation = g; name = name }))
         (p.entry v c)) in
-        let may : MayRead (since B H m link.directory link.generation (link.entry / 16)) (value X link.directory (link.entry / 16)) =
-        subst (λ (q : ℕ). MayRead (since B H m link.directory q (link.entry / 16)) (value X link.directory (link.entry / 16))) r.1
+        let may : MayRead (since B H m link.directory link.generation (link.entry / 16))
+        (value X link.directory (link.entry / 16)) =
+        subst (λ (q : ℕ). MayRead (since B H m link.directory q (link.entry / 16))
+        (value X link.directory (link.entry / 16))) r.1
         (a.versions.values link.directory (link.entry / 16) r.0 slot) in
-        let has : Contains (since B H m link.directory link.generation (link.entry / 16)) (value X link.directory (link.entry / 16)) =
+        let has : Contains (since B H m link.directory link.generation (link.entry / 16))
+        (value X link.directory (link.entry / 16)) =
         elim may [ inl l ↦ absurd (sure l) | inr c ↦ c ] in
         let h = p.entry (value X link.directory (link.entry / 16)) has in
         let v = h.1 in
@@ -88,7 +100,8 @@ module _ (B : Image) (H : List Entry1) (m : ℕ) (X : Image) (a : IsAllowed B H 
 
   chain : (i : ℕ) → SureChain B H m i → Agreed (files_in X) i
   chain i (SureRoot s folders) = root-agreed s folders
-  chain i (SureEntry g b link plain p up) = linked link plain (has-link i g b link p) (paired i g b link p) (chain link.directory up)
+  chain i (SureEntry g b link plain p up) =
+      linked link plain (has-link i g b link p) (paired i g b link p) (chain link.directory up)
 
 pub law-sure-chain : LawSureChain
 law-sure-chain B H m X i a c = holds-agreed (files_in X) i (chain B H m X a i c)

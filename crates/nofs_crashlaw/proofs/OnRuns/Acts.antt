@@ -1,9 +1,11 @@
 -- What an entry of a run does: nothing, or what its step gives where no row refuses it.
-use Rattle.std.proofs.Common.{◌≡◌, ℕ, Bool, true, false, cond, not, ◌||◌, Option, Some, None, ◌⊎◌, inl, inr, refl, sym, ap, ◌∙◌, subst}
+use Rattle.std.proofs.Common.{◌≡◌, ℕ, Bool, true, false, cond, not, ◌||◌, Option, Some, None, ◌⊎◌, inl, inr, refl, sym}
+use Rattle.std.proofs.Common.{ap, ◌∙◌, subst}
 use Rattle.nofs_model.specs.Cells.{Entry}
 use Rattle.nofs_model.specs.Image.{Files, entry_at}
 use Rattle.nofs_history.specs.Search.{first_of}
-use Rattle.nofs_history.specs.Machine.{Given, nothing, gives, at_place, found, drop_given, link_to, generation_of, files_after, is_refused, is_fault}
+use Rattle.nofs_history.specs.Machine.{Given, nothing, gives, at_place, found, drop_given, link_to, generation_of}
+use Rattle.nofs_history.specs.Machine.{files_after, is_refused, is_fault}
 use Rattle.nofs_history.specs.Machine.{is_write_fault, may_give, given_by, files_by}
 use Rattle.nofs_history.specs.World.{World}
 use Rattle.nofs_history.specs.Refusals.{rows}
@@ -23,7 +25,8 @@ use Rattle.nofs_history.proofs.Faultless.{FaultFree, first-free, rows-free}
 
 pub data Acts (W : World) (e : Entry1) : Type 0 where
   Idle : given_by W.files e ≡ nothing → Acts W e
-  Acting : (V : World) → given_by W.files e ≡ gives W.files e.step e.claims → first_of (rows W V e.step) ≡ None → IsClaim W e.step e.claims → Acts W e
+  Acting : (V : World) → given_by W.files e ≡ gives W.files e.step e.claims
+      → first_of (rows W V e.step) ≡ None → IsClaim W e.step e.claims → Acts W e
 
 pub faultless : (r : Reply) → is_fault r ≡ false → is_write_fault r ≡ false
 faultless (reply.Refused refusal.WriteFault) e = cc e
@@ -32,10 +35,13 @@ faultless (reply.Refused _) e = refl
 faultless _ e = refl
 
 -- a row is no fault of writing
-pub row-faultless : (W V : World) (s : Step) (why : Refusal) → first_of (rows W V s) ≡ Some why → is_write_fault (reply.Refused why) ≡ false
-row-faultless W V s why e = faultless (reply.Refused why) (subst FaultFree e (first-free (rows W V s) (rows-free W V s)))
+pub row-faultless : (W V : World) (s : Step) (why : Refusal) → first_of (rows W V s) ≡ Some why
+    → is_write_fault (reply.Refused why) ≡ false
+row-faultless W V s why e =
+    faultless (reply.Refused why) (subst FaultFree e (first-free (rows W V s) (rows-free W V s)))
 
-refused-idle : (F : Files) (e : Entry1) (why : Refusal) → e.reply ≡ reply.Refused why → is_write_fault (reply.Refused why) ≡ false → given_by F e ≡ nothing
+refused-idle : (F : Files) (e : Entry1) (why : Refusal) → e.reply ≡ reply.Refused why
+    → is_write_fault (reply.Refused why) ≡ false → given_by F e ≡ nothing
 refused-idle F e why r f = ap (λ (q : Reply). cond (may_give q) (gives F e.step e.claims) nothing) r
     ∙ ap (λ (b : Bool). cond b (gives F e.step e.claims) nothing) f
 
@@ -44,7 +50,8 @@ acts W V e (AfterFault s r c same) = Idle (refused-idle W.files e refusal.Stoppe
 acts W V e (ByRow why s row (inl r) c k t l) = Idle (refused-idle W.files e why r (row-faultless W V e.step why row))
 acts W V e (ByRow why s row (inr r) c k t l) = Idle (refused-idle W.files e refusal.ReadFault r.0 refl)
 acts W V e (ByRead s row r c k t l) = Idle (refused-idle W.files e refusal.ReadFault r refl)
-acts W V e (ByWrite s row m r claim k t l) = Acting V (ap (λ (q : Reply). cond (may_give q) (gives W.files e.step e.claims) nothing) r) row claim
+acts W V e (ByWrite s row m r claim k t l) =
+    Acting V (ap (λ (q : Reply). cond (may_give q) (gives W.files e.step e.claims) nothing) r) row claim
 acts W V e (Done s row r claim fs hs se vs l) = go (may_give e.reply) refl
   where
     go : (b : Bool) → may_give e.reply ≡ b → Acts W e
@@ -55,13 +62,22 @@ acts W V e (Done s row r claim fs hs se vs l) = go (may_give e.reply) refl
 pub accepted-acts : (W V : World) (e : Entry1) → Next W e V → is_refused e.reply ≡ false
     → (first_of (rows W V e.step) ≡ None) × IsClaim W e.step e.claims × (e.reply ≡ reply_of W e.step e.claims) ×
     (given_by W.files e ≡ gives W.files e.step e.claims)
-accepted-acts W V e (AfterFault s r c same) ok = absurd (let z : is_refused e.reply ≡ true = ap is_refused r in cc (z, ok))
-accepted-acts W V e (ByRow why s row (inl r) c k t l) ok = absurd (let z : is_refused e.reply ≡ true = ap is_refused r in cc (z, ok))
-accepted-acts W V e (ByRow why s row (inr r) c k t l) ok = absurd (let z : is_refused e.reply ≡ true = ap is_refused r.0 in cc (z, ok))
-accepted-acts W V e (ByRead s row r c k t l) ok = absurd (let z : is_refused e.reply ≡ true = ap is_refused r in cc (z, ok))
-accepted-acts W V e (ByWrite s row m r claim k t l) ok = absurd (let z : is_refused e.reply ≡ true = ap is_refused r in cc (z, ok))
-accepted-acts W V e (Done s row r claim fs hs se vs l) ok =
-    (row, claim, r, ap (λ (b : Bool). cond (not b || is_write_fault e.reply) (gives W.files e.step e.claims) nothing) ok)
+accepted-acts W V e (AfterFault s r c same) ok =
+    absurd (let z : is_refused e.reply ≡ true = ap is_refused r in cc (z, ok))
+accepted-acts W V e (ByRow why s row (inl r) c k t l) ok =
+    absurd (let z : is_refused e.reply ≡ true = ap is_refused r in cc (z, ok))
+accepted-acts W V e (ByRow why s row (inr r) c k t l) ok =
+    absurd (let z : is_refused e.reply ≡ true = ap is_refused r.0 in cc (z, ok))
+accepted-acts W V e (ByRead s row r c k t l) ok =
+    absurd (let z : is_refused e.reply ≡ true = ap is_refused r in cc (z, ok))
+accepted-acts W V e (ByWrite s row m r claim k t l) ok =
+    absurd (let z : is_refused e.reply ≡ true = ap is_refused r in cc (z, ok))
+accepted-acts W V e (Done s row r claim fs hs se vs l) ok = (
+  row,
+  claim,
+  r,
+  ap (λ (b : Bool). cond (not b || is_write_fault e.reply) (gives W.files e.step e.claims) nothing) ok,
+)
 
 -- The files after an entry
 
@@ -71,7 +87,8 @@ tells_giving (reply.Refused why) = false
 tells_giving reply.Flushed = false
 tells_giving _ = true
 
-gives-told : (W : World) (s : Step) (c : Claims) → (gives W.files s c ≡ nothing) ⊎ (tells_giving (reply_of W s c) ≡ true)
+gives-told : (W : World) (s : Step) (c : Claims) → (gives W.files s c ≡ nothing)
+    ⊎ (tells_giving (reply_of W s c) ≡ true)
 unfolding gives
 gives-told W (step.Put i g k at bytes) c = inr refl
 gives-told W (step.Resize i g size) c = inr refl
@@ -81,17 +98,20 @@ gives-told W (step.Rename d g old new) c = inr refl
 gives-told W (step.Drop d g name) c = go (found W.files d name)
   where
     entry : (p : ℕ) (o : Option Entry) → entry_at W.files d p ≡ o
-        → (drop_given W.files d g p ≡ nothing) ⊎ (tells_giving (dropped_entry W.files (link_to d p (generation_of W.files d)) o) ≡ true)
+        → (drop_given W.files d g p ≡ nothing)
+        ⊎ (tells_giving (dropped_entry W.files (link_to d p (generation_of W.files d)) o) ≡ true)
     entry p None eo = inl (rw (eo, drop_given) refl)
     entry p (Some x) eo = inr refl
 
-    go : (o : Option ℕ) → (at_place o (λ p. drop_given W.files d g p) ≡ nothing) ⊎ (tells_giving (dropped_reply W.files d o) ≡ true)
+    go : (o : Option ℕ) → (at_place o (λ p. drop_given W.files d g p) ≡ nothing)
+        ⊎ (tells_giving (dropped_reply W.files d o) ≡ true)
     go None = inl refl
     go (Some p) = entry p (entry_at W.files d p) refl
 gives-told W _ c = inl refl
 
 refused-nothing : (W : World) (s : Step) (c : Claims) → is_refused (reply_of W s c) ≡ true → gives W.files s c ≡ nothing
-refused-nothing W s c e = elim (gives-told W s c) [ inl none ↦ none | inr told ↦ absurd (not-both (reply_of W s c) e told) ]
+refused-nothing W s c e =
+    elim (gives-told W s c) [ inl none ↦ none | inr told ↦ absurd (not-both (reply_of W s c) e told) ]
   where
     not-both : (r : Reply) → is_refused r ≡ true → tells_giving r ≡ true → ⊥
     not-both (reply.Refused why) e t = cc t
@@ -119,4 +139,5 @@ files-next W V e (Done s row r claim fs hs se vs l) = fs ∙ go (is_refused e.re
     go : (b : Bool) → is_refused e.reply ≡ b → files_after W.files (gives W.files e.step e.claims) ≡ cond b W.files
         (files_after W.files (gives W.files e.step e.claims))
     go false q = refl
-    go true q = ap (λ (g : Given). files_after W.files g) (refused-nothing W e.step e.claims (sym (ap is_refused r) ∙ q)) ∙ files-stay W.files
+    go true q = ap (λ (g : Given). files_after W.files g)
+        (refused-nothing W e.step e.claims (sym (ap is_refused r) ∙ q)) ∙ files-stay W.files

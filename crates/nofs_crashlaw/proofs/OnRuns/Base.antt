@@ -1,5 +1,6 @@
 -- The machine's worlds are sane along a run over a base that a mount leaves.
-use Rattle.std.proofs.Common.{◌≡◌, ℕ, ◌+◌, ◌*◌, ◌^◌, ◌<◌, ◌≤◌, true, length, Option, Some, None, unwrap_or, refl, sym, ap, ◌∙◌, subst, subst₂, arith}
+use Rattle.std.proofs.Common.{◌≡◌, ℕ, ◌+◌, ◌*◌, ◌^◌, ◌<◌, ◌≤◌, true, length, Option, Some, None, unwrap_or, refl, sym}
+use Rattle.std.proofs.Common.{ap, ◌∙◌, subst, subst₂, arith}
 use Rattle.std.proofs.lemmas.List.{length-replicate}
 use Rattle.nofs_model.specs.Image.{Image, Files, FileState, is_folder}
 use Rattle.nofs_model.specs.declared.image.value.Value.{Value}
@@ -31,7 +32,8 @@ keeps-sane W V k s = record {
   positive = subst (λ (n : ℕ). 0 < n) (sym stamp) s.positive;
   bottom = ap (λ (F : Files). F 0) k.files ∙ s.bottom;
   numbers = λ i f is. s.numbers i f (sym (ap (λ (F : Files). F i) k.files) ∙ is);
-  young = λ i f is. subst (λ (n : ℕ). f.generation < n) (sym stamp) (s.young i f (sym (ap (λ (F : Files). F i) k.files) ∙ is));
+  young = λ i f is. subst (λ (n : ℕ). f.generation < n) (sym stamp)
+      (s.young i f (sym (ap (λ (F : Files). F i) k.files) ∙ is));
   whole = λ i f is. s.whole i f (sym (ap (λ (F : Files). F i) k.files) ∙ is);
   rooted = λ i f is dir. subst (λ (F : Files). Rattle.nofs_model.specs.Image.Agreed F i) (sym k.files)
       (s.rooted i f (sym (ap (λ (F : Files). F i) k.files) ∙ is) dir);
@@ -40,21 +42,27 @@ keeps-sane W V k s = record {
     stamp : next_stamp V ≡ next_stamp W
     stamp = λ j. k.mount j * 2 ^ 40 + k.serial j
 
-module _ (W V : World) (e : Entry1) (sane : IsSane W) (next : Next W e V) (row : first_of (rows W V e.step) ≡ None) (claim : IsClaim W e.step e.claims)
+module _ (W V : World) (e : Entry1) (sane : IsSane W) (next : Next W e V) (row : first_of (rows W V e.step) ≡ None)
+    (claim : IsClaim W e.step e.claims)
     (files : V.files ≡ files_after W.files (gives W.files e.step e.claims))
-    (serial : V.serial ≡ W.serial + inodes_needed e.step + blocks_needed W.files e.step) (inodes : V.inodes ≡ W.inodes) (mount : V.mount ≡ W.mount) where
+    (serial : V.serial ≡ W.serial + inodes_needed e.step + blocks_needed W.files e.step) (inodes : V.inodes ≡ W.inodes)
+    (mount : V.mount ≡ W.mount) where
   now : (i : ℕ) (h : FileState) → V.files i ≡ Some h → After W.files (gives W.files e.step e.claims) i h
-  now i h is = after W.files (gives W.files e.step e.claims) i h (gives-birth W.files e.step e.claims) (λ f at. given-kind W e.claims e.step claim i f at)
+  now i h is = after W.files (gives W.files e.step e.claims) i h (gives-birth W.files e.step e.claims)
+      (λ f at. given-kind W e.claims e.step claim i f at)
       (sym (ap (λ (F : Files). F i) files) ∙ is)
 
   later : next_stamp W ≤ next_stamp V
-  later = let m : W.mount * 2 ^ 40 ≡ V.mount * 2 ^ 40 = ap (λ (n : ℕ). n * 2 ^ 40) (sym mount) in omega (arith, serial, m)
+  later = let m : W.mount * 2 ^ 40 ≡ V.mount * 2 ^ 40 = ap (λ (n : ℕ). n * 2 ^ 40) (sym mount) in
+      omega (arith, serial, m)
 
   -- the numbers of what is made
   new : (i g : ℕ) → Made W e.step e.claims i g → Spelled i g × (g < next_stamp V)
   new i g m =
-      let row' : first_of (rows W V (step.Make m.directory m.generation m.name m.kind)) ≡ None = subst (λ (s : Step). first_of (rows W V s) ≡ None) m.is row in
-      let claim' : IsClaim W (step.Make m.directory m.generation m.name m.kind) e.claims = subst (λ (s : Step). IsClaim W s e.claims) m.is claim in
+      let row' : first_of (rows W V (step.Make m.directory m.generation m.name m.kind)) ≡ None =
+      subst (λ (s : Step). first_of (rows W V s) ≡ None) m.is row in
+      let claim' : IsClaim W (step.Make m.directory m.generation m.name m.kind) e.claims =
+      subst (λ (s : Step). IsClaim W s e.claims) m.is claim in
       let n = make-new W V e.claims m.directory m.generation m.name m.kind row' claim' in
       let one : inodes_needed e.step ≡ 1 = ap inodes_needed m.is in
       let same : W.mount * 2 ^ 40 ≡ V.mount * 2 ^ 40 = ap (λ (k : ℕ). k * 2 ^ 40) (sym mount) in
@@ -92,18 +100,22 @@ module _ (W V : World) (e : Entry1) (sane : IsSane W) (next : Next W e V) (row :
         where
           by : After W.files (gives W.files e.step e.claims) 0 h → ⊥
           by (Old f at gen kind values alive) = let b = sane.bottom in cc (at, b)
-          by (New g born gen values metas) = let n = (new 0 g (made W e.step e.claims 0 g born)).0 in let z = n.some in omega (arith, z)
+          by (New g born gen values metas) = let n = (new 0 g (made W e.step e.claims 0 g born)).0 in let z = n.some in
+              omega (arith, z)
 
-      whole : (i : ℕ) (h : FileState) → is_folder h.kind ≡ true → (k : ℕ) → After W.files (gives W.files e.step e.claims) i h
+      whole : (i : ℕ) (h : FileState) → is_folder h.kind ≡ true → (k : ℕ)
+          → After W.files (gives W.files e.step e.claims) i h
           → length (bytes_in (h.values k)) ≡ 1024
-      whole i h dir k (New g born gen values metas) = ap (λ (v : Value). length (bytes_in v)) (values k) ∙ length-replicate {A = ℕ} 1024 0
+      whole i h dir k (New g born gen values metas) = ap (λ (v : Value). length (bytes_in v)) (values k)
+          ∙ length-replicate {A = ℕ} 1024 0
       whole i h dir k (Old f at gen kind values alive) = ap (λ (v : Value). length (bytes_in v)) (values k)
           ∙ by ((gives W.files e.step e.claims).slots i f.generation k) refl
         where
           folder : is_folder f.kind ≡ true
           folder = sym (ap is_folder kind) ∙ dir
 
-          by : (o : Option Value) → (gives W.files e.step e.claims).slots i f.generation k ≡ o → length (bytes_in (unwrap_or o (f.values k))) ≡ 1024
+          by : (o : Option Value) → (gives W.files e.step e.claims).slots i f.generation k ≡ o
+              → length (bytes_in (unwrap_or o (f.values k))) ≡ 1024
           by None eo = sane.whole i f at folder k
           by (Some v) eo = slot-whole W V e.claims sane i f at folder k e.step row claim v eo
 

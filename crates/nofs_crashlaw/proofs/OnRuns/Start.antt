@@ -1,5 +1,6 @@
 -- The first world of a base that a mount leaves is sane.
-use Rattle.std.proofs.Common.{◌≡◌, ℕ, ◌+◌, ◌-◌, ◌*◌, ◌/◌, ◌%◌, ◌^◌, ◌<◌, ◌≤◌, Bool, true, false, cond, leb, ltb, leb-true, ltb-true, ◌&&◌, List, length}
+use Rattle.std.proofs.Common.{◌≡◌, ℕ, ◌+◌, ◌-◌, ◌*◌, ◌/◌, ◌%◌, ◌^◌, ◌<◌, ◌≤◌, Bool, true, false, cond, leb, ltb}
+use Rattle.std.proofs.Common.{leb-true, ltb-true, ◌&&◌, List, length}
 use Rattle.std.proofs.Common.{Option, Some, None, is_some, refl, sym, ap, ◌∙◌, subst, arith}
 use Rattle.std.specs.List.{list_all}
 use Rattle.std.proofs.lemmas.List.{length-replicate}
@@ -9,7 +10,8 @@ use Rattle.nofs_model.specs.Cells.{FileKind, Record, is_live, record_at, record_
 use Rattle.nofs_model.specs.declared.image.path.PathAnswer.{PathAnswer}
 use Rattle.nofs_model.specs.declared.image.path.PathAnswer.TheVariants as answer
 use Rattle.nofs_model.specs.declared.image.value.Value.{Value}
-use Rattle.nofs_model.specs.Image.{Image, super_at, cell_at, inode, Agreed, FileState, files_in, agreed, file_from, path_of, find, value, value_in}
+use Rattle.nofs_model.specs.Image.{Image, super_at, cell_at, inode, Agreed, FileState, files_in, agreed, file_from}
+use Rattle.nofs_model.specs.Image.{path_of, find, value, value_in}
 use Rattle.nofs_model.proofs.OnSlots.Find.{and-both, find-held}
 use Rattle.nofs_model.proofs.OnFiles.Chains.{agreed-holds}
 use Rattle.nofs_model.proofs.OnSound.Writes.{mountable-law}
@@ -27,11 +29,14 @@ use Rattle.nofs_crashlaw.proofs.OnRuns.PairEntries.{Spelled}
 use Rattle.nofs_crashlaw.proofs.OnRuns.Links.{IsSane}
 
 -- a record in use has a generation
-record-generation : (payload : List ℕ) (j : ℕ) → is_live (record_at payload j) ≡ true → 1 ≤ (record_at payload j).generation
+record-generation : (payload : List ℕ) (j : ℕ)
+    → is_live (record_at payload j) ≡ true → 1 ≤ (record_at payload j).generation
 unfolding record_at record_of
-record-generation payload j live = go (fields_in (256 * j) payload) (has_rest (256 * j) payload (fields_in (256 * j) payload)) live
+record-generation payload j live =
+    go (fields_in (256 * j) payload) (has_rest (256 * j) payload (fields_in (256 * j) payload)) live
   where
-    by-kind : (r : Record) (o : Option FileKind) → r.kind ≡ o → is_live r ≡ true → allows_record o r ≡ true → 1 ≤ r.generation
+    by-kind : (r : Record) (o : Option FileKind)
+        → r.kind ≡ o → is_live r ≡ true → allows_record o r ≡ true → 1 ≤ r.generation
     by-kind r None e l a = absurd (let z : is_live r ≡ false = ap is_some e in cc (z, l))
     by-kind r (Some kind) e l a =
         let x = and-both (leb 1 r.generation && list_all is_tidy_link r.links) (allows_kind kind r) a in
@@ -43,8 +48,10 @@ record-generation payload j live = go (fields_in (256 * j) payload) (has_rest (2
     spelled r true e l = by-kind r r.kind refl l e
     spelled r false e l = cc l
 
-    go : (r : Record) (b : Bool) → is_live (Rattle.nofs_inode.specs.InodeRecords.record_or_free (cond (b && allows_record r.kind r) (Some r) None)) ≡ true
-        → 1 ≤ (Rattle.nofs_inode.specs.InodeRecords.record_or_free (cond (b && allows_record r.kind r) (Some r) None)).generation
+    go : (r : Record) (b : Bool) → is_live
+        (Rattle.nofs_inode.specs.InodeRecords.record_or_free (cond (b && allows_record r.kind r) (Some r) None)) ≡ true
+        → 1 ≤ (Rattle.nofs_inode.specs.InodeRecords.record_or_free
+        (cond (b && allows_record r.kind r) (Some r) None)).generation
     go r true l = spelled r (allows_record r.kind r) refl l
     go r false l = cc l
 
@@ -63,7 +70,8 @@ module _ (B : Image) (first : ℕ) (base : IsBase B first) where
 
   young : (i : ℕ) (f : FileState) → agreed_files B i ≡ Some f → f.generation < (super_at B).mount * 2 ^ 40 + first
   young i f is =
-      let lt = live-below B ((super_at B).mount * 2 ^ 40 + first) (super_at B).blocks base.below (omega arith) geometry.table i (matched i f is).live in
+      let lt = live-below B ((super_at B).mount * 2 ^ 40 + first) (super_at B).blocks base.below
+      (omega arith) geometry.table i (matched i f is).live in
       let e = generation i f is in
       omega (arith, lt, e)
 
@@ -83,7 +91,12 @@ module _ (B : Image) (first : ℕ) (base : IsBase B first) where
       let g = record-generation (cell_at B (1 + (i - 1) / 4)).payload ((i - 1) % 4) live in
       let same : (inode B i).generation ≡ (record_at (cell_at B (1 + (i - 1) / 4)).payload ((i - 1) % 4)).generation =
       ap (λ (r : Record). r.generation) st.same in
-      record { some = low; small = omega (arith, high, most); from = omega (arith, g, same, e); below = omega (arith, y, mount, serial) }
+      record {
+        some = low;
+        small = omega (arith, high, most);
+        from = omega (arith, g, same, e);
+        below = omega (arith, y, mount, serial);
+      }
 
   whole-value : (i k : ℕ) → length (bytes_in (value B i k)) ≡ 1024
   whole-value i k = go (find B i (path_of k)) refl
@@ -93,7 +106,8 @@ module _ (B : Image) (first : ℕ) (base : IsBase B first) where
       go answer.Lost e = length-replicate {A = ℕ} 1024 0
       go (answer.Holds x) e =
           let h = find-held B i (path_of k) x e in
-          let a = and-both (leb (1 + (super_at B).inodes / 4) x.block) (ltb x.block (super_at B).blocks) h.agrees.area in
+          let a = and-both (leb (1 + (super_at B).inodes / 4) x.block)
+          (ltb x.block (super_at B).blocks) h.agrees.area in
           let lt = ltb-true x.block (super_at B).blocks a.1 in
           let fits = geometry.fits in
           (base.sized x.block (omega (arith, lt, fits))).payload.len
@@ -102,15 +116,18 @@ module _ (B : Image) (first : ℕ) (base : IsBase B first) where
   unfolding agreed_files
   whole i f is k = go (agreed (files_in B) i) (inode B i).kind refl is
     where
-      go : (a : Bool) (o : Option FileKind) → (inode B i).kind ≡ o → cond a (file_from B i o) None ≡ Some f → length (bytes_in (f.values k)) ≡ 1024
+      go : (a : Bool) (o : Option FileKind) → (inode B i).kind ≡ o → cond a (file_from B i o) None ≡ Some f
+          → length (bytes_in (f.values k)) ≡ 1024
       go false o eo h = cc h
       go true None eo h = cc h
       go true (Some kind) eo h =
-          let s : value B i ≡ f.values = ap (λ (o : Option FileState). elim o [ None ↦ value B i | Some q ↦ q.values ]) h in
+          let s : value B i ≡ f.values =
+          ap (λ (o : Option FileState). elim o [ None ↦ value B i | Some q ↦ q.values ]) h in
           subst (λ (v : ℕ → Value). length (bytes_in (v k)) ≡ 1024) s (whole-value i k)
 
   rooted : (i : ℕ) (f : FileState) → agreed_files B i ≡ Some f → Agreed (agreed_files B) i
-  rooted i f is = agreed-machine (agreed_files B) B (self-match B) i (agreed-holds (files_in B) i (matched i f is).agreed)
+  rooted i f is =
+      agreed-machine (agreed_files B) B (self-match B) i (agreed-holds (files_in B) i (matched i f is).agreed)
 
   pub sane-start : IsSane (world_of B first)
   unfolding world_of

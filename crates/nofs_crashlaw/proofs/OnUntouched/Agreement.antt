@@ -1,5 +1,6 @@
 -- Agreement depends on kinds, generations, links and the cells of directories alone.
-use Rattle.std.proofs.Common.{◌≡◌, ℕ, ◌/◌, ◌<◌, Bool, true, false, cond, eqb, ltb, ◌&&◌, ◌||◌, List, Option, Some, None, is_some, refl, sym, ap, ◌∙◌, subst}
+use Rattle.std.proofs.Common.{◌≡◌, ℕ, ◌/◌, ◌<◌, Bool, true, false, cond, eqb, ltb, ◌&&◌, ◌||◌, List, Option, Some, None}
+use Rattle.std.proofs.Common.{is_some, refl, sym, ap, ◌∙◌, subst}
 use Rattle.std.proofs.Common.{arith, Contains, ltb-true, eqb-true}
 use Rattle.nofs_model.specs.Kinds.{Directory as Folder}
 use Rattle.nofs_model.proofs.OnFiles.Chains.{pair-of, agreed-holds, holds-agreed}
@@ -7,7 +8,8 @@ use Rattle.nofs_crashlaw.proofs.OnUntouched.Matches.{matched-file, matched-agree
 use Rattle.nofs_crashlaw.proofs.OnUntouched.Frames.{some-is, files-match}
 use Rattle.nofs_history.specs.History.{agreed_files, FilesMatch, SameFile}
 use Rattle.nofs_model.specs.Cells.{FileKind, File, BackLink, is_live, entry_limit}
-use Rattle.nofs_model.specs.Image.{Image, inode, file_from, files_in, agreed, Agreed, root, linked, FileState, Files, is_folder, entry_held}
+use Rattle.nofs_model.specs.Image.{Image, inode, file_from, files_in, agreed, Agreed, root, linked, FileState, Files}
+use Rattle.nofs_model.specs.Image.{is_folder, entry_held}
 use Rattle.nofs_model.specs.Image.{entry_in_file, pairs, is_a, is_pair, links_in_file, links_of, is_root, is_special}
 use Rattle.nofs_model.specs.declared.image.value.Value.{Value}
 
@@ -19,7 +21,8 @@ Both R (Some a) None = ⊥
 Both R (Some a) (Some b) = R a b
 
 -- what is the same of related ones is the same of both
-pub both-same : {A B : Type 0} (R : A → A → Type 0) (f : Option A → B) → ((a b : A) → R a b → f (Some a) ≡ f (Some b)) → (o p : Option A) → Both R o p
+pub both-same : {A B : Type 0} (R : A → A → Type 0) (f : Option A → B) → ((a b : A) → R a b → f (Some a) ≡ f (Some b))
+    → (o p : Option A) → Both R o p
     → f o ≡ f p
 both-same R f same None None h = refl
 both-same R f same None (Some b) h = absurd h
@@ -32,7 +35,8 @@ both-sym R back None (Some b) h = absurd h
 both-sym R back (Some a) None h = absurd h
 both-sym R back (Some a) (Some b) h = back a b h
 
-both-trans : {A : Type 0} (R : A → A → Type 0) → ((a b c : A) → R a b → R b c → R a c) → (o p q : Option A) → Both R o p → Both R p q → Both R o q
+both-trans : {A : Type 0} (R : A → A → Type 0) → ((a b c : A) → R a b → R b c → R a c) → (o p q : Option A) → Both R o p
+    → Both R p q → Both R o q
 both-trans R on None None q h j = j
 both-trans R on None (Some b) q h j = absurd h
 both-trans R on (Some a) None q h j = absurd h
@@ -62,7 +66,8 @@ pub same-alike : (o p : Option FileState) → SameFile o p → Alike o p
 same-alike None None h = tt
 same-alike None (Some b) h = absurd h
 same-alike (Some a) None h = absurd h
-same-alike (Some a) (Some b) h = record { generation = h.generation; kind = h.kind; links = h.links; cells = λ d k lt. h.values k (omega arith) }
+same-alike (Some a) (Some b) h =
+    record { generation = h.generation; kind = h.kind; links = h.links; cells = λ d k lt. h.values k (omega arith) }
 
 pub alike-sym : (o p : Option FileState) → Alike o p → Alike p o
 alike-sym = both-sym AlikeFiles (λ a b h. record {
@@ -99,7 +104,8 @@ entry-alike (Some a) (Some b) e h = rw (sym h.kind) (inside (is_folder a.kind) r
         ap (λ (v : Value). entry_held v e) (h.cells ex (e / 16) k)
 
 -- one kind and generation
-same-a : (q : FileKind) (a b : FileState) (g : ℕ) → a.kind ≡ b.kind → a.generation ≡ b.generation → is_a q g (Some a) ≡ is_a q g (Some b)
+same-a : (q : FileKind) (a b : FileState) (g : ℕ)
+    → a.kind ≡ b.kind → a.generation ≡ b.generation → is_a q g (Some a) ≡ is_a q g (Some b)
 same-a Folder a b g kind generation = rw (kind, generation)
 same-a File a b g kind generation = rw (kind, generation)
 
@@ -109,11 +115,13 @@ a-alike q o p g = both-same AlikeFiles (is_a q g) (λ a b h. same-a q a b g h.ki
 pub a-kin : (q : FileKind) (o p : Option FileState) (g : ℕ) → Kin o p → is_a q g o ≡ is_a q g p
 a-kin q o p g = both-same KinFiles (is_a q g) (λ a b h. same-a q a b g h.kind h.generation) o p
 
-pairs-kin : (o p u v : Option FileState) (i : ℕ) (link : BackLink) → Kin o p → Alike u v → pairs o u i link ≡ pairs p v i link
+pairs-kin : (o p u v : Option FileState) (i : ℕ) (link : BackLink) → Kin o p → Alike u v
+    → pairs o u i link ≡ pairs p v i link
 pairs-kin None None u v i link own up = refl
 pairs-kin None (Some b) u v i link own up = absurd own
 pairs-kin (Some a) None u v i link own up = absurd own
-pairs-kin (Some a) (Some b) u v i link own up = rw (entry-alike u v link.entry up, a-alike Folder u v link.generation up, own.kind, own.generation)
+pairs-kin (Some a) (Some b) u v i link own up =
+    rw (entry-alike u v link.entry up, a-alike Folder u v link.generation up, own.kind, own.generation)
 
 alike-kin : (o p : Option FileState) → Alike o p → Kin o p
 alike-kin None None h = tt
@@ -121,7 +129,8 @@ alike-kin None (Some b) h = absurd h
 alike-kin (Some a) None h = absurd h
 alike-kin (Some a) (Some b) h = record { generation = h.generation; kind = h.kind; links = h.links }
 
-pub pairs-alike : (o p u v : Option FileState) (i : ℕ) (link : BackLink) → Alike o p → Alike u v → pairs o u i link ≡ pairs p v i link
+pub pairs-alike : (o p u v : Option FileState) (i : ℕ) (link : BackLink) → Alike o p → Alike u v
+    → pairs o u i link ≡ pairs p v i link
 pairs-alike o p u v i link own up = pairs-kin o p u v i link (alike-kin o p own) up
 
 pub links-kin : (o p : Option FileState) → Kin o p → links_in_file o ≡ links_in_file p
@@ -162,13 +171,17 @@ is-a-some q g (Some f) e = refl
 pub agreed-some : (F : Files) (i : ℕ) → Agreed F i → is_some (F i) ≡ true
 agreed-some F i (root r) = go (eqb i 1) refl (eqb i 2) refl (is_a Folder 1 (F 1)) refl (is_a File 2 (F 2)) refl r
   where
-    go : (p : Bool) → eqb i 1 ≡ p → (q : Bool) → eqb i 2 ≡ q → (a : Bool) → is_a Folder 1 (F 1) ≡ a → (b : Bool) → is_a File 2 (F 2) ≡ b
+    go : (p : Bool) → eqb i 1 ≡ p → (q : Bool) → eqb i 2 ≡ q → (a : Bool) → is_a Folder 1 (F 1) ≡ a → (b : Bool)
+        → is_a File 2 (F 2) ≡ b
         → ((p && a) || (q && b)) ≡ true → is_some (F i) ≡ true
-    go true ep q eq true ea b eb e = subst (λ (j : ℕ). is_some (F j) ≡ true) (sym (eqb-true i 1 ep)) (is-a-some Folder 1 (F 1) ea)
-    go true ep true eq false ea true eb e = subst (λ (j : ℕ). is_some (F j) ≡ true) (sym (eqb-true i 2 eq)) (is-a-some File 2 (F 2) eb)
+    go true ep q eq true ea b eb e =
+        subst (λ (j : ℕ). is_some (F j) ≡ true) (sym (eqb-true i 1 ep)) (is-a-some Folder 1 (F 1) ea)
+    go true ep true eq false ea true eb e =
+        subst (λ (j : ℕ). is_some (F j) ≡ true) (sym (eqb-true i 2 eq)) (is-a-some File 2 (F 2) eb)
     go true ep true eq false ea false eb e = cc
     go true ep false eq false ea b eb e = cc
-    go false ep true eq a ea true eb e = subst (λ (j : ℕ). is_some (F j) ≡ true) (sym (eqb-true i 2 eq)) (is-a-some File 2 (F 2) eb)
+    go false ep true eq a ea true eb e =
+        subst (λ (j : ℕ). is_some (F j) ≡ true) (sym (eqb-true i 2 eq)) (is-a-some File 2 (F 2) eb)
     go false ep true eq a ea false eb e = cc
     go false ep false eq a ea b eb e = cc
 agreed-some F i (linked link plain has pair up) = let p = pair-of F i link pair in some-is (F i) p.own p.own_is
@@ -180,7 +193,8 @@ live-some X i e = go (inode X i).kind refl e
     go None ek h = cc
     go (Some kind) ek h = rw ek refl
 
-pub same-of : (F : Files) (X : Image) (i : ℕ) → FilesMatch F X → agreed (files_in X) i ≡ true → SameFile (F i) (files_in X i)
+pub same-of : (F : Files) (X : Image) (i : ℕ) → FilesMatch F X
+    → agreed (files_in X) i ≡ true → SameFile (F i) (files_in X i)
 same-of F X i match a = subst (λ (o : Option FileState). SameFile (F i) o) (opened X i ∙ rw a refl) (match i)
   where
     opened : (X : Image) (i : ℕ) → agreed_files X i ≡ cond (agreed (files_in X) i) (files_in X i) None
@@ -195,7 +209,8 @@ file-in F X i f match is =
     let k = go (inode X i).kind refl same in
     (k, subst (λ (q : Option FileKind). SameFile (Some f) (file_from X i q)) k same)
   where
-    go : (o : Option FileKind) → (inode X i).kind ≡ o → SameFile (Some f) (file_from X i o) → (inode X i).kind ≡ Some f.kind
+    go : (o : Option FileKind) → (inode X i).kind ≡ o → SameFile (Some f) (file_from X i o)
+        → (inode X i).kind ≡ Some f.kind
     go None e h = absurd h
     go (Some kind) e h = e ∙ ap Some (sym h.kind)
 
@@ -205,11 +220,13 @@ agreed-machine F X match i (root r) = root (go (eqb i 1) refl (eqb i 2) refl r)
   where
     first : eqb i 1 ≡ true → is_root (files_in X) i ≡ true → is_a Folder 1 (F 1) ≡ is_a Folder 1 (files_in X 1)
     first e r = a-alike Folder (F 1) (files_in X 1) 1 (same-alike (F 1) (files_in X 1)
-        (same-of F X 1 match (subst (λ (j : ℕ). agreed (files_in X) j ≡ true) (eqb-true i 1 e) (holds-agreed (files_in X) i (root r)))))
+        (same-of F X 1 match
+        (subst (λ (j : ℕ). agreed (files_in X) j ≡ true) (eqb-true i 1 e) (holds-agreed (files_in X) i (root r)))))
 
     second : eqb i 2 ≡ true → is_root (files_in X) i ≡ true → is_a File 2 (F 2) ≡ is_a File 2 (files_in X 2)
     second e r = a-alike File (F 2) (files_in X 2) 2 (same-alike (F 2) (files_in X 2)
-        (same-of F X 2 match (subst (λ (j : ℕ). agreed (files_in X) j ≡ true) (eqb-true i 2 e) (holds-agreed (files_in X) i (root r)))))
+        (same-of F X 2 match
+        (subst (λ (j : ℕ). agreed (files_in X) j ≡ true) (eqb-true i 2 e) (holds-agreed (files_in X) i (root r)))))
 
     go : (p : Bool) → eqb i 1 ≡ p → (q : Bool) → eqb i 2 ≡ q → is_root (files_in X) i ≡ true → is_root F i ≡ true
     go true ep true eq r = rw (first ep r, second eq r) r
@@ -219,20 +236,25 @@ agreed-machine F X match i (root r) = root (go (eqb i 1) refl (eqb i 2) refl r)
 agreed-machine F X match i (linked link plain has pair up) =
     let own = same-of F X i match (holds-agreed (files_in X) i (linked link plain has pair up)) in
     let parent = same-of F X link.directory match (holds-agreed (files_in X) link.directory up) in
-    let e = pairs-alike (F i) (files_in X i) (F link.directory) (files_in X link.directory) i link (same-alike (F i) (files_in X i) own)
+    let e = pairs-alike (F i) (files_in X i) (F link.directory) (files_in X link.directory) i link
+    (same-alike (F i) (files_in X i) own)
     (same-alike (F link.directory) (files_in X link.directory) parent) in
     let l = links-alike (F i) (files_in X i) (same-alike (F i) (files_in X i) own) in
-    linked link plain (subst (λ (ls : List BackLink). Contains ls link) (sym l) has) (e ∙ pair) (agreed-machine F X match link.directory up)
+    linked link plain (subst (λ (ls : List BackLink). Contains ls link) (sym l) has) (e ∙ pair)
+    (agreed-machine F X match link.directory up)
 
--- A step that leaves agreement alone: what is agreed goes over to the new files, and what is not keeps its kind, generation and links.
+-- A step that leaves agreement alone: what is agreed goes over to the new files, and what is not keeps its kind,
+-- generation and links.
 module _ (F E : Files) (X Y : Image) (match : FilesMatch F X) (files : (i : ℕ) → Alike (F i) (E i))
-    (same : (i : ℕ) → is_some (E i) ≡ true → SameFile (E i) (files_in Y i)) (rest : (i : ℕ) → is_some (F i) ≡ false → Kin (files_in X i) (files_in Y i)) where
+    (same : (i : ℕ) → is_some (E i) ≡ true → SameFile (E i) (files_in Y i))
+    (rest : (i : ℕ) → is_some (F i) ≡ false → Kin (files_in X i) (files_in Y i)) where
   in-image : (i : ℕ) → is_some (F i) ≡ true → agreed (files_in X) i ≡ true
   in-image i e = (matched-file F X i match e).agreed
 
   not-agreed : (i : ℕ) → is_some (F i) ≡ false → agreed (files_in X) i ≡ true → ⊥
   not-agreed i e a =
-      let m = matched-agreed F X i match (live-some X i (agreed-some (files_in X) i (agreed-holds (files_in X) i a))) a in
+      let m = matched-agreed F X i match
+      (live-some X i (agreed-some (files_in X) i (agreed-holds (files_in X) i a))) a in
       let s = some-is (F i) m.file m.is in
       cc (e, s)
 
@@ -250,7 +272,8 @@ module _ (F E : Files) (X Y : Image) (match : FilesMatch F X) (files : (i : ℕ)
       kin : (j : ℕ) → i ≡ j → Kin (files_in X j) (files_in Y j)
       kin j ij = subst (λ (q : ℕ). Kin (files_in X q) (files_in Y q)) ij (rest i (back i e))
 
-      go : (b : Bool) → is_root (files_in Y) i ≡ b → (p : Bool) → eqb i 1 ≡ p → (q : Bool) → eqb i 2 ≡ q → is_root (files_in Y) i ≡ false
+      go : (b : Bool) → is_root (files_in Y) i ≡ b → (p : Bool) → eqb i 1 ≡ p → (q : Bool)
+          → eqb i 2 ≡ q → is_root (files_in Y) i ≡ false
       go false eb p ep q eq = eb
       go true eb false ep false eq = absurd (let z : is_root (files_in Y) i ≡ false = rw (ep, eq) refl in cc (eb, z))
       go true eb true ep false eq =
@@ -271,18 +294,22 @@ module _ (F E : Files) (X Y : Image) (match : FilesMatch F X) (files : (i : ℕ)
       go false eb = eb
       go true eb =
           let k = rest i (back i e) in
-          let fd : is_some (F link.directory) ≡ true = some-alike (F link.directory) (E link.directory) (files link.directory) ∙ d in
+          let fd : is_some (F link.directory) ≡ true =
+          some-alike (F link.directory) (E link.directory) (files link.directory) ∙ d in
           let ad = in-image link.directory fd in
           let x : Alike (files_in X link.directory) (F link.directory) =
           alike-sym (F link.directory) (files_in X link.directory)
           (same-alike (F link.directory) (files_in X link.directory) (same-of F X link.directory match ad)) in
-          let y : Alike (E link.directory) (files_in Y link.directory) = same-alike (E link.directory) (files_in Y link.directory) (same link.directory d) in
+          let y : Alike (E link.directory) (files_in Y link.directory) =
+          same-alike (E link.directory) (files_in Y link.directory) (same link.directory d) in
           let xy : Alike (files_in X link.directory) (files_in Y link.directory) =
           alike-trans (files_in X link.directory) (F link.directory) (files_in Y link.directory) x
           (alike-trans (F link.directory) (E link.directory) (files_in Y link.directory) (files link.directory) y) in
-          let p = pairs-kin (files_in X i) (files_in Y i) (files_in X link.directory) (files_in Y link.directory) i link k xy in
+          let p = pairs-kin (files_in X i) (files_in Y i) (files_in X link.directory)
+          (files_in Y link.directory) i link k xy in
           let l = links-kin (files_in X i) (files_in Y i) k in
-          let a : Agreed (files_in X) i = linked link plain (subst (λ (ls : List BackLink). Contains ls link) (sym l) has) (p ∙ eb)
+          let a : Agreed (files_in X) i =
+          linked link plain (subst (λ (ls : List BackLink). Contains ls link) (sym l) has) (p ∙ eb)
           (agreed-holds (files_in X) link.directory ad) in
           absurd (not-agreed i (back i e) (holds-agreed (files_in X) i a))
 

@@ -1,5 +1,6 @@
 -- What a step leaves as it was.
-use Rattle.std.proofs.Common.{◌≡◌, ℕ, ◌/◌, ◌<◌, ◌≤◌, inl, inr, Bool, true, false, cond, eqb, ltb, ◌&&◌, ◌||◌, List, Option, Some, None, is_some, refl, sym}
+use Rattle.std.proofs.Common.{◌≡◌, ℕ, ◌/◌, ◌<◌, ◌≤◌, inl, inr, Bool, true, false, cond, eqb, ltb, ◌&&◌, ◌||◌, List}
+use Rattle.std.proofs.Common.{Option, Some, None, is_some, refl, sym}
 use Rattle.std.proofs.Common.{ap, ◌∙◌, subst, arith, Contains, ltb-true}
 use Rattle.nofs_model.specs.Kinds.{Directory as Folder}
 use Rattle.nofs_model.specs.declared.image.path.PathAnswer.{PathAnswer}
@@ -8,13 +9,18 @@ use Rattle.nofs_model.proofs.OnSlots.Find.{is_tag-true}
 use Rattle.nofs_model.proofs.OnFiles.Chains.{pair-of, agreed-holds, holds-agreed}
 use Rattle.nofs_model.specs.declared.image.path.PathAnswer.TheVariants as answer
 use Rattle.nofs_history.specs.History.{agreed_files, FilesMatch, SameFile}
-use Rattle.nofs_model.specs.Cells.{Cell, File, BackLink, Tag, Pointer, tag_of, is_null, pointer_at, is_live, entry_limit, slot_limit}
-use Rattle.nofs_model.specs.Image.{super_in, Image, cell_at, super_at, is_data_block, inode, files_in, agreed, Agreed, root, linked, Path, InRecord}
-use Rattle.nofs_model.specs.Image.{Under, tag_for, is_tag, agrees, record_pointer, judged, find, pointer, FileState, Files, is_folder, entry_held}
-use Rattle.nofs_model.specs.Image.{entry_in_file, pairs, is_a, is_pair, links_in_file, links_of, is_root, is_special, IsSlot, IsFree}
+use Rattle.nofs_model.specs.Cells.{Cell, File, BackLink, Tag, Pointer, tag_of, is_null, pointer_at, is_live}
+use Rattle.nofs_model.specs.Cells.{entry_limit, slot_limit}
+use Rattle.nofs_model.specs.Image.{super_in, Image, cell_at, super_at, is_data_block, inode, files_in, agreed, Agreed}
+use Rattle.nofs_model.specs.Image.{root, linked, Path, InRecord}
+use Rattle.nofs_model.specs.Image.{Under, tag_for, is_tag, agrees, record_pointer, judged, find, pointer, FileState}
+use Rattle.nofs_model.specs.Image.{Files, is_folder, entry_held}
+use Rattle.nofs_model.specs.Image.{entry_in_file, pairs, is_a, is_pair, links_in_file, links_of, is_root, is_special}
+use Rattle.nofs_model.specs.Image.{IsSlot, IsFree}
 use Rattle.nofs_model.specs.declared.image.value.Value.{Value}
 
-module _ (s : ℕ) (X Y : Image) (w : Rewrites s X Y) (i : ℕ) (owned : agreed (files_in X) i ≡ true) (same : SameIdentity X Y i) where
+module _ (s : ℕ) (X Y : Image) (w : Rewrites s X Y) (i : ℕ) (owned : agreed (files_in X) i ≡ true)
+    (same : SameIdentity X Y i) where
   same-super : super_at Y ≡ super_at X
   unfolding super_at
   same-super = ap (λ (c : Cell). super_in c.payload) w.super
@@ -39,10 +45,12 @@ module _ (s : ℕ) (X Y : Image) (w : Rewrites s X Y) (i : ℕ) (owned : agreed 
           absurd (omega (arith, le, old))
 
   -- a pointer of this inode agrees after the step where it did before
-  agrees-same : (a : Path) (x : Pointer) → IsSlot a → x.stamp < s → (agrees X i a x ≡ true → find X i a ≡ answer.Holds x) → agrees Y i a x ≡ agrees X i a x
+  agrees-same : (a : Path) (x : Pointer) → IsSlot a
+      → x.stamp < s → (agrees X i a x ≡ true → find X i a ≡ answer.Holds x) → agrees Y i a x ≡ agrees X i a x
   agrees-same a x slot old holds = go (is_data_block X x.block) refl
     where
-      tag-part : is_data_block X x.block ≡ true → is_tag (tag_of (cell_at Y x.block).tag) (tag_for X i a x.stamp) ≡ is_tag (tag_of (cell_at X x.block).tag)
+      tag-part : is_data_block X x.block ≡ true
+          → is_tag (tag_of (cell_at Y x.block).tag) (tag_for X i a x.stamp) ≡ is_tag (tag_of (cell_at X x.block).tag)
           (tag_for X i a x.stamp)
       tag-part area = elim (w.tags x.block area) [
         | inl e ↦ ap (λ (o : Option Tag). is_tag o (tag_for X i a x.stamp)) e
@@ -64,7 +72,8 @@ module _ (s : ℕ) (X Y : Image) (w : Rewrites s X Y) (i : ℕ) (owned : agreed 
   judged-holds : (a : Path) (x : Pointer) → is_null x ≡ false → agrees X i a x ≡ true → judged X i a x ≡ answer.Holds x
   judged-holds a x n e = rw (n, e)
 
-  pub judged-same : (a : Path) (x : Pointer) → IsSlot a → x.stamp < s → judged X i a x ≡ find X i a → judged Y i a x ≡ judged X i a x
+  pub judged-same : (a : Path) (x : Pointer) → IsSlot a → x.stamp < s → judged X i a x ≡ find X i a
+      → judged Y i a x ≡ judged X i a x
   judged-same a x slot old eq = go (is_null x) refl
     where
       go : (n : Bool) → is_null x ≡ n → judged Y i a x ≡ judged X i a x
@@ -85,8 +94,10 @@ module _ (s : ℕ) (X Y : Image) (w : Rewrites s X Y) (i : ℕ) (owned : agreed 
       under (answer.Holds z) e ih =
           let y : find Y i a ≡ answer.Holds z = ih ∙ e in
           let px : pointer X i (Under a n) ≡ pointer_at (cell_at X z.block).payload n = rw (e, pointer) in
-          let lt : (pointer_at (cell_at X z.block).payload n).stamp < s = subst (λ (q : Pointer). q.stamp < s) px (old (Under a n) slot) in
-          let fx : judged X i (Under a n) (pointer_at (cell_at X z.block).payload n) ≡ find X i (Under a n) = rw (e, find) in
+          let lt : (pointer_at (cell_at X z.block).payload n).stamp < s =
+          subst (λ (q : Pointer). q.stamp < s) px (old (Under a n) slot) in
+          let fx : judged X i (Under a n) (pointer_at (cell_at X z.block).payload n) ≡ find X i (Under a n) =
+          rw (e, find) in
           let j = judged-same (Under a n) (pointer_at (cell_at X z.block).payload n) slot lt fx in
           rw (e, y, find) (ap (λ (x : Pointer). judged Y i (Under a n) x) (p.1 z e) ∙ j)
 
@@ -100,7 +111,8 @@ entry-same None (Some b) e h = absurd h
 entry-same (Some a) None e h = absurd h
 entry-same (Some a) (Some b) e h = rw h.kind (inside (is_folder b.kind) (ltb e entry_limit) refl)
   where
-    inside : (x y : Bool) → ltb e entry_limit ≡ y → cond (x && y) (entry_held (a.values (e / 16)) e) None ≡ cond (x && y) (entry_held (b.values (e / 16)) e)
+    inside : (x y : Bool) → ltb e entry_limit ≡ y
+        → cond (x && y) (entry_held (a.values (e / 16)) e) None ≡ cond (x && y) (entry_held (b.values (e / 16)) e)
         None
     inside false y ey = refl
     inside true false ey = refl
@@ -115,11 +127,13 @@ a-same None (Some b) g h = absurd h
 a-same (Some a) None g h = absurd h
 a-same (Some a) (Some b) g h = rw (h.kind, h.generation)
 
-pub pairs-same : (o p u v : Option FileState) (i : ℕ) (link : BackLink) → SameFile o p → SameFile u v → pairs o u i link ≡ pairs p v i link
+pub pairs-same : (o p u v : Option FileState) (i : ℕ) (link : BackLink) → SameFile o p → SameFile u v
+    → pairs o u i link ≡ pairs p v i link
 pairs-same None None u v i link own up = refl
 pairs-same None (Some b) u v i link own up = absurd own
 pairs-same (Some a) None u v i link own up = absurd own
-pairs-same (Some a) (Some b) u v i link own up = rw (entry-same u v link.entry up, a-same u v link.generation up, own.kind, own.generation)
+pairs-same (Some a) (Some b) u v i link own up =
+    rw (entry-same u v link.entry up, a-same u v link.generation up, own.kind, own.generation)
 
 pub is-file-same : (o p : Option FileState) (g : ℕ) → SameFile o p → is_a File g o ≡ is_a File g p
 is-file-same None None g h = refl
@@ -144,7 +158,8 @@ module _ (F : Files) (Y : Image)
     (match : (i : ℕ) → is_some (F i) ≡ true → SameFile (F i) (files_in Y i))
     (self : (i : ℕ) → is_some (F i) ≡ true → Agreed F i)
     (no_root : (i : ℕ) → is_some (F i) ≡ false → is_root (files_in Y) i ≡ false)
-    (no_pair : (i : ℕ) (link : BackLink) → is_special i ≡ false → is_some (F i) ≡ false → is_some (F link.directory) ≡ true
+    (no_pair : (i : ℕ) (link : BackLink)
+    → is_special i ≡ false → is_some (F i) ≡ false → is_some (F link.directory) ≡ true
     → Contains (links_of (files_in Y) i) link → is_pair (files_in Y) i link ≡ false) where
   root-same : (i : ℕ) → is_root F i ≡ true → is_root (files_in Y) i ≡ true
   root-same i e = go (eqb i 1) (eqb i 2) (is_a Folder 1 (F 1)) refl (is_a File 2 (F 2)) refl e
@@ -185,7 +200,8 @@ module _ (F : Files) (Y : Image)
       let own = match i (some-is (F i) p.own p.own_is) in
       let parent = match link.directory (some-is (F link.directory) p.parent p.parent_is) in
       let e = pairs-same (F i) (files_in Y i) (F link.directory) (files_in Y link.directory) i link own parent in
-      let l : links_of F i ≡ links_of (files_in Y) i = links-same (F i) (files_in Y i) own (some-is (F i) p.own p.own_is) in
+      let l : links_of F i ≡ links_of (files_in Y) i =
+      links-same (F i) (files_in Y i) own (some-is (F i) p.own p.own_is) in
       linked link plain (subst (λ (ls : List BackLink). Contains ls link) l has) (sym e ∙ pair) (up link.directory more)
 
   -- and nothing else is
@@ -204,7 +220,8 @@ module _ (F : Files) (Y : Image)
   pub agreed-are : (i : ℕ) → agreed (files_in Y) i ≡ is_some (F i)
   agreed-are i = go (is_some (F i)) refl (agreed (files_in Y) i) refl
     where
-      go : (b : Bool) → is_some (F i) ≡ b → (a : Bool) → agreed (files_in Y) i ≡ a → agreed (files_in Y) i ≡ is_some (F i)
+      go : (b : Bool) → is_some (F i) ≡ b → (a : Bool)
+          → agreed (files_in Y) i ≡ a → agreed (files_in Y) i ≡ is_some (F i)
       go true e a ea = holds-agreed (files_in Y) i (up i (self i e)) ∙ sym e
       go false e false ea = ea ∙ sym e
       go false e true ea = absurd (cc (e, down i (agreed-holds (files_in Y) i ea)))

@@ -8,7 +8,8 @@ use Rattle.nofs_crashlaw.proofs.OnUntouched.Frames.{frame}
 use Rattle.nofs_model.specs.declared.image.path.PathAnswer.TheVariants as answer
 use Rattle.nofs_history.specs.History.{SameFile}
 use Rattle.nofs_model.specs.Cells.{Cell, FileKind, Tag, Pointer, Record, tag_of, pointer_at, is_live, slot_limit}
-use Rattle.nofs_model.specs.Image.{Image, cell_at, inode, files_in, agreed, value, value_in, node_in, Path, InRecord, Under, path_of, slot_of}
+use Rattle.nofs_model.specs.Image.{Image, cell_at, inode, files_in, agreed, value, value_in, node_in, Path, InRecord}
+use Rattle.nofs_model.specs.Image.{Under, path_of, slot_of}
 use Rattle.nofs_model.specs.Image.{tag_for, find, IsSlot}
 use Rattle.nofs_model.specs.declared.image.value.Value.{Value}
 
@@ -16,7 +17,8 @@ same-parts : (t u : Tag) → Some t ≡ Some u → (t.inode ≡ u.inode) × (t.s
 same-parts t u e = let s : t ≡ u = cc e in (ap (λ (q : Tag). q.inode) s, ap (λ (q : Tag). q.slot) s)
 
 -- a block has one owner
-pub one-owner : (X : Image) (i j : ℕ) (a c : Path) (x y : Pointer) → find X i a ≡ answer.Holds x → find X j c ≡ answer.Holds y → x.block ≡ y.block
+pub one-owner : (X : Image) (i j : ℕ) (a c : Path) (x y : Pointer) → find X i a ≡ answer.Holds x
+    → find X j c ≡ answer.Holds y → x.block ≡ y.block
     → (i ≡ j) × (slot_of a ≡ slot_of c)
 one-owner X i j a c x y ea ec same =
     let ta = (find-held X i a x ea).agrees.tag in
@@ -41,7 +43,8 @@ module _ (s : ℕ) (touched : ℕ → Bool) (X Y : Image) (w : Touches s touched
     same-record = w.records j apart
 
     -- the blocks of an inode that is not touched stay
-    same-cell : (path : Path) (y : Pointer) → IsSlot path → find X j path ≡ answer.Holds y → cell_at Y y.block ≡ cell_at X y.block
+    same-cell : (path : Path) (y : Pointer) → IsSlot path → find X j path ≡ answer.Holds y
+        → cell_at Y y.block ≡ cell_at X y.block
     same-cell path y slot e =
         let h = find-held X j path y e in
         elim (w.blocks y.block h.agrees.area) [
@@ -52,7 +55,8 @@ module _ (s : ℕ) (touched : ℕ → Bool) (X Y : Image) (w : Touches s touched
           ]
         ]
       where
-        not-mine : ((i : ℕ) × (p : Path) × (x : Pointer) × (touched i ≡ true) × (find X i p ≡ answer.Holds x) × (x.block ≡ y.block)) → ⊥
+        not-mine : ((i : ℕ) × (p : Path) × (x : Pointer) × (touched i ≡ true) × (find X i p ≡ answer.Holds x)
+            × (x.block ≡ y.block)) → ⊥
         not-mine (i, p, x, t, ex, eb) =
             let o = one-owner X i j p path x y ex e eb in
             let t' : touched j ≡ true = subst (λ (q : ℕ). touched q ≡ true) o.0 t in
@@ -60,10 +64,15 @@ module _ (s : ℕ) (touched : ℕ → Bool) (X Y : Image) (w : Touches s touched
 
     same-pointers : (path : Path) → IsSlot path → SamePointers X Y j path
     same-pointers (InRecord n) slot = rw same-record refl
-    same-pointers (Under a n) slot = (same-pointers a slot.2, λ y e. ap (λ (c : Cell). pointer_at c.payload n) (same-cell a y slot.2 e))
+    same-pointers (Under a n) slot =
+        (same-pointers a slot.2, λ y e. ap (λ (c : Cell). pointer_at c.payload n) (same-cell a y slot.2 e))
 
     live : is_live (inode X j) ≡ true → SameIdentity X Y j
-    live l = record { live = l; kind = ap (λ (r : Record). r.kind) same-record; generation = ap (λ (r : Record). r.generation) same-record }
+    live l = record {
+      live = l;
+      kind = ap (λ (r : Record). r.kind) same-record;
+      generation = ap (λ (r : Record). r.generation) same-record;
+    }
 
     pub same-find : is_live (inode X j) ≡ true → (path : Path) → IsSlot path → find Y j path ≡ find X j path
     same-find l path slot = frame s X Y rewrites j owned (live l) path slot old (same-pointers path slot)
@@ -73,12 +82,15 @@ module _ (s : ℕ) (touched : ℕ → Bool) (X Y : Image) (w : Touches s touched
       where
         go : (f : PathAnswer) → find X j (path_of k) ≡ f → value Y j k ≡ value X j k
         go answer.Hole e = let y : find Y j (path_of k) ≡ answer.Hole =
-            same-find l (path_of k) (path_of-slot k lt) ∙ e in ap (λ (q : PathAnswer). value_in Y q) y ∙ sym (ap (λ (q : PathAnswer). value_in X q) e)
+            same-find l (path_of k) (path_of-slot k lt) ∙ e in
+            ap (λ (q : PathAnswer). value_in Y q) y ∙ sym (ap (λ (q : PathAnswer). value_in X q) e)
         go answer.Lost e = let y : find Y j (path_of k) ≡ answer.Lost =
-            same-find l (path_of k) (path_of-slot k lt) ∙ e in ap (λ (q : PathAnswer). value_in Y q) y ∙ sym (ap (λ (q : PathAnswer). value_in X q) e)
+            same-find l (path_of k) (path_of-slot k lt) ∙ e in
+            ap (λ (q : PathAnswer). value_in Y q) y ∙ sym (ap (λ (q : PathAnswer). value_in X q) e)
         go (answer.Holds z) e =
             let y : find Y j (path_of k) ≡ answer.Holds z = same-find l (path_of k) (path_of-slot k lt) ∙ e in
-            ap (λ (q : PathAnswer). value_in Y q) y ∙ ap (λ (c : Cell). Value.Bytes c.payload) (same-cell (path_of k) z (path_of-slot k lt) e)
+            ap (λ (q : PathAnswer). value_in Y q) y
+            ∙ ap (λ (c : Cell). Value.Bytes c.payload) (same-cell (path_of k) z (path_of-slot k lt) e)
             ∙ sym (ap (λ (q : PathAnswer). value_in X q) e)
 
     pub same-file : is_live (inode X j) ≡ true → SameFile (files_in X j) (files_in Y j)

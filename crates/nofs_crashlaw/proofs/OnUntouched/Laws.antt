@@ -11,7 +11,10 @@ law-untouched s touched X Y j w t a old live = same-file s touched X Y w j t a o
 pub law-grown : LawGrown
 law-grown s X Y i k at w owned same old range r = record {
   on = on-path s X Y i w owned same old (path_of k) at r.placed r.not_null r.area r.tag r.record_stays r.beside r.apart;
-  off = off-path s X Y i w owned same old (path_of k) at r.placed r.not_null r.area r.tag r.record_stays r.beside r.apart;
-  here = value-on s X Y i w owned same old (path_of k) at r.placed r.not_null r.area r.tag r.record_stays r.beside r.apart k refl;
-  beside = λ l lt ne. value-off s X Y i w owned same old (path_of k) at r.placed r.not_null r.area r.tag r.record_stays r.beside r.apart k l refl range lt ne;
+  off = off-path s X Y i w owned same old
+      (path_of k) at r.placed r.not_null r.area r.tag r.record_stays r.beside r.apart;
+  here = value-on s X Y i w owned same old
+      (path_of k) at r.placed r.not_null r.area r.tag r.record_stays r.beside r.apart k refl;
+  beside = λ l lt ne. value-off s X Y i w owned same old
+      (path_of k) at r.placed r.not_null r.area r.tag r.record_stays r.beside r.apart k l refl range lt ne;
 }

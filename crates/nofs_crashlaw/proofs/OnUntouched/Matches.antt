@@ -1,5 +1,6 @@
 -- Where the machine's files are those of an image, each file is an agreed inode, and each agreed inode a file.
-use Rattle.std.proofs.Common.{◌≡◌, ℕ, ◌<◌, ◌⊎◌, inl, inr, Bool, true, false, cond, Option, Some, None, is_some, refl, subst}
+use Rattle.std.proofs.Common.{◌≡◌, ℕ, ◌<◌, ◌⊎◌, inl, inr, Bool, true, false, cond, Option, Some, None, is_some, refl}
+use Rattle.std.proofs.Common.{subst}
 use Rattle.nofs_crashlaw.proofs.OnLives.Era.{meta_of_file}
 use Rattle.nofs_history.specs.Meta.{meta_of}
 use Rattle.nofs_history.specs.Machine.{generation_of}
@@ -25,7 +26,8 @@ pub record Matched (F : Files) (X : Image) (i : ℕ) : Type 0 where
   pub links : file.links ≡ (inode X i).links
   pub values : (k : ℕ) → k < slot_limit → file.values k ≡ value X i k
 
-matched-from : (F : Files) (X : Image) (i : ℕ) → FilesMatch F X → (o : Option FileState) → F i ≡ o → (a : Bool) → agreed (files_in X) i ≡ a
+matched-from : (F : Files) (X : Image) (i : ℕ) → FilesMatch F X
+    → (o : Option FileState) → F i ≡ o → (a : Bool) → agreed (files_in X) i ≡ a
     → (k : Option FileKind) → (inode X i).kind ≡ k
     → SameFile o (cond a (file_from X i k) None)
     → (is_some o ≡ true) ⊎ ((is_live (inode X i) ≡ true) × (a ≡ true)) → Matched F X i
@@ -48,7 +50,8 @@ matched-from F X i match (Some f) eo true ea (Some kind) ek same one = record {
   values = same.values;
 }
 
-agreed-file : (X : Image) (i : ℕ) → agreed_files X i ≡ cond (agreed (files_in X) i) (file_from X i (inode X i).kind) None
+agreed-file : (X : Image) (i : ℕ)
+    → agreed_files X i ≡ cond (agreed (files_in X) i) (file_from X i (inode X i).kind) None
 unfolding agreed_files
 agreed-file X i = refl
 
@@ -56,6 +59,8 @@ pub matched-file : (F : Files) (X : Image) (i : ℕ) → FilesMatch F X → is_s
 matched-file F X i match e = matched-from F X i match (F i) refl (agreed (files_in X) i) refl (inode X i).kind refl
     (subst (λ (o : Option FileState). SameFile (F i) o) (agreed-file X i) (match i)) (inl e)
 
-pub matched-agreed : (F : Files) (X : Image) (i : ℕ) → FilesMatch F X → is_live (inode X i) ≡ true → agreed (files_in X) i ≡ true → Matched F X i
-matched-agreed F X i match live a = matched-from F X i match (F i) refl (agreed (files_in X) i) refl (inode X i).kind refl
+pub matched-agreed : (F : Files) (X : Image) (i : ℕ) → FilesMatch F X
+    → is_live (inode X i) ≡ true → agreed (files_in X) i ≡ true → Matched F X i
+matched-agreed F X i match live a =
+    matched-from F X i match (F i) refl (agreed (files_in X) i) refl (inode X i).kind refl
     (subst (λ (o : Option FileState). SameFile (F i) o) (agreed-file X i) (match i)) (inr (live, a))

@@ -1,7 +1,8 @@
 -- A slot of content gets a block: the blocks of pointers above it are there already, or are claimed with it.
 use Rattle.std.specs.Prelude.{◌≡◌, ℕ, ◌≤◌, ◌⊎◌, true, false, Some}
 use Rattle.nofs_model.specs.Cells.{Pointer, tag_of, is_null, pointer_at}
-use Rattle.nofs_model.specs.Image.{Image, cell_at, is_data_block, inode, Path, InRecord, Under, tag_for, find, record_pointer, IsAbove, IsSlot}
+use Rattle.nofs_model.specs.Image.{Image, cell_at, is_data_block, inode, Path, InRecord, Under, tag_for, find}
+use Rattle.nofs_model.specs.Image.{record_pointer, IsAbove, IsSlot}
 use Rattle.nofs_model.specs.Image.{IsFree}
 use Rattle.nofs_model.specs.declared.image.path.PathAnswer.TheVariants as answer
 
@@ -17,14 +18,18 @@ pub record ClaimedCell (s : ℕ) (X Y : Image) (d : ℕ) (path : Path) (x : Poin
   pub fresh : s ≤ x.stamp
   pub tag : tag_of (cell_at Y x.block).tag ≡ Some (tag_for Y d path x.stamp)
 
--- on the path p each slot has its pointer, at, and its tag; beside it pointers stay, or are null under a slot that was empty
+-- on the path p each slot has its pointer, at, and its tag; beside it pointers stay, or are null under a slot that was
+-- empty
 pub record Grows (s : ℕ) (X Y : Image) (d : ℕ) (p : Path) (at : Path → Pointer) : Type 0 where
   pub placed : (a : Path) → IsAbove a p → IsPlaced Y d at a
   pub not_null : (a : Path) → IsAbove a p → is_null (at a) ≡ false
   pub area : (a : Path) → IsAbove a p → is_data_block Y (at a).block ≡ true
   pub tag : (a : Path) → IsAbove a p → tag_of (cell_at Y (at a).block).tag ≡ Some (tag_for Y d a (at a).stamp)
-  pub record_stays : (n : ℕ) → (IsAbove (InRecord n) p → ⊥) → record_pointer (inode Y d) n ≡ record_pointer (inode X d) n
+  pub record_stays : (n : ℕ) → (IsAbove (InRecord n) p → ⊥)
+      → record_pointer (inode Y d) n ≡ record_pointer (inode X d) n
   pub beside : (b : Path) (n : ℕ) → IsSlot (Under b n) → IsAbove b p → (IsAbove (Under b n) p → ⊥)
-      → ((find X d b ≡ answer.Holds (at b)) × (pointer_at (cell_at Y (at b).block).payload n ≡ pointer_at (cell_at X (at b).block).payload n))
+      → ((find X d b ≡ answer.Holds (at b))
+      × (pointer_at (cell_at Y (at b).block).payload n ≡ pointer_at (cell_at X (at b).block).payload n))
       ⊎ ((find X d b ≡ answer.Hole) × (is_null (pointer_at (cell_at Y (at b).block).payload n) ≡ true))
-  pub apart : (b : Path) (y : Pointer) → IsSlot b → (IsAbove b p → ⊥) → find X d b ≡ answer.Holds y → cell_at Y y.block ≡ cell_at X y.block
+  pub apart : (b : Path) (y : Pointer) → IsSlot b → (IsAbove b p → ⊥) → find X d b ≡ answer.Holds y
+      → cell_at Y y.block ≡ cell_at X y.block

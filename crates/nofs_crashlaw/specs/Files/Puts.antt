@@ -1,7 +1,8 @@
 -- What a Put leaves on the disk, wherever its slot lies.
 use Rattle.std.specs.Prelude.{◌≡◌, ◌≢◌, ℕ, ◌+◌, ◌*◌, ◌<◌, ◌⊎◌, max, true, false, List, length, Some, is_some, ◌==◌}
 use Rattle.nofs_model.specs.Cells.{Pointer, tag_of, slot_limit}
-use Rattle.nofs_model.specs.Image.{Image, cell_at, is_data_block, inode, Path, path_of, find, pointer, record_pointer, FileState, Files, is_folder}
+use Rattle.nofs_model.specs.Image.{Image, cell_at, is_data_block, inode, Path, path_of, find, pointer, record_pointer}
+use Rattle.nofs_model.specs.Image.{FileState, Files, is_folder}
 use Rattle.nofs_model.specs.Image.{IsAbove}
 use Rattle.nofs_model.specs.declared.image.path.PathAnswer.TheVariants as answer
 use Rattle.nofs_history.specs.Machine.{put_given, put_content, files_after}
@@ -15,9 +16,10 @@ use Rattle.nofs_crashlaw.specs.Files.Growth.{Grows}
 use Rattle.nofs_crashlaw.specs.Maps.Homes.{HomesMove}
 use Rattle.nofs_crashlaw.specs.Maps.Moves.{IsClaimed}
 
--- X before the step, Y after it: the content lies in slot k of file i, and each slot of its path has its place. Where the
--- slot held before, the places are those of X; where not, some of them are claimed
-pub record PutLies (F : Files) (X Y : Image) (i g k at : ℕ) (bytes : List ℕ) (f : FileState) (s : ℕ) (places : Path → Pointer) : Type 0 where
+-- X before the step, Y after it: the content lies in slot k of file i, and each slot of its path has its place. Where
+-- the slot held before, the places are those of X; where not, some of them are claimed
+pub record PutLies (F : Files) (X Y : Image) (i g k at : ℕ) (bytes : List ℕ) (f : FileState) (s : ℕ)
+    (places : Path → Pointer) : Type 0 where
   pub files : FilesMatch F X
   pub is : F i ≡ Some f
   pub generation : f.generation ≡ g
@@ -31,7 +33,8 @@ pub record PutLies (F : Files) (X Y : Image) (i g k at : ℕ) (bytes : List ℕ)
   pub old : (j : ℕ) → is_some (F j) ≡ true → OldPointers s X j
 
 -- X before the step, Y after it: slot k of file i holds, and its block is written in place
-pub record PutHeld (F : Files) (X Y : Image) (i g k at : ℕ) (bytes : List ℕ) (f : FileState) (s : ℕ) (x : Pointer) : Type 0 where
+pub record PutHeld (F : Files) (X Y : Image) (i g k at : ℕ) (bytes : List ℕ) (f : FileState) (s : ℕ)
+    (x : Pointer) : Type 0 where
   pub files : FilesMatch F X
   pub is : F i ≡ Some f
   pub generation : f.generation ≡ g
@@ -51,8 +54,10 @@ pub record PutHeld (F : Files) (X Y : Image) (i g k at : ℕ) (bytes : List ℕ)
 -- each place is that of X, or a claimed one in a slot that held nothing
 pub record ClaimsPlaced (c : Claims) (X : Image) (i k : ℕ) (places : Path → Pointer) : Type 0 where
   pub cell : is_claimed c.cell ≡ true → places (path_of k) ≡ c.cell
-  pub leaf : is_claimed c.leaf ≡ true → IsAbove (slot_above (path_of k)) (path_of k) × (places (slot_above (path_of k)) ≡ c.leaf)
-  pub top : is_claimed c.top ≡ true → IsAbove (slot_above (slot_above (path_of k))) (path_of k) × (places (slot_above (slot_above (path_of k))) ≡ c.top)
+  pub leaf : is_claimed c.leaf ≡ true → IsAbove (slot_above (path_of k)) (path_of k)
+      × (places (slot_above (path_of k)) ≡ c.leaf)
+  pub top : is_claimed c.top ≡ true → IsAbove (slot_above (slot_above (path_of k))) (path_of k)
+      × (places (slot_above (slot_above (path_of k))) ≡ c.top)
   pub each : (a : Path) → IsAbove a (path_of k) → (find X i a ≡ answer.Holds (places a)) ⊎
       (IsClaimed c (places a) × ((x : Pointer) → find X i a ≡ answer.Holds x → ⊥))
 
@@ -60,15 +65,19 @@ pub record ClaimsPlaced (c : Claims) (X : Image) (i k : ℕ) (places : Path → 
 abbrev pub LawPutHeld : Type 0
 LawPutHeld = (F : Files) (X Y : Image) (i g k at : ℕ) (bytes : List ℕ) (f : FileState) (s : ℕ) (x : Pointer)
     → PutHeld F X Y i g k at bytes f s x
-    → PutLies F X Y i g k at bytes f s (λ a. pointer X i a) × ((c : Claims) → c ≡ no_claims → ClaimsPlaced c X i k (λ a. pointer X i a))
+    → PutLies F X Y i g k at bytes f s (λ a. pointer X i a)
+    × ((c : Claims) → c ≡ no_claims → ClaimsPlaced c X i k (λ a. pointer X i a))
 
 -- The machine's files after a Put are those of the disk after it.
 abbrev pub LawPutFiles : Type 0
-LawPutFiles = (F : Files) (X Y : Image) (i g k at : ℕ) (bytes : List ℕ) (f : FileState) (s : ℕ) (places : Path → Pointer)
+LawPutFiles =
+    (F : Files) (X Y : Image) (i g k at : ℕ) (bytes : List ℕ) (f : FileState) (s : ℕ) (places : Path → Pointer)
     → PutLies F X Y i g k at bytes f s places → FilesMatch (files_after F (put_given F i g k at bytes)) Y
 
 -- And its claimed blocks have their homes.
 abbrev pub LawPutHomes : Type 0
-LawPutHomes = (W : World) (X Y : Image) (i g k at : ℕ) (bytes : List ℕ) (f : FileState) (s : ℕ) (places : Path → Pointer) (c : Claims)
-    → PutLies W.files X Y i g k at bytes f s places → IsClaim W (step.Put i g k at bytes) c → ClaimsPlaced c X i k places
+LawPutHomes = (W : World) (X Y : Image) (i g k at : ℕ) (bytes : List ℕ) (f : FileState) (s : ℕ)
+    (places : Path → Pointer) (c : Claims)
+    → PutLies W.files X Y i g k at bytes f s places → IsClaim W (step.Put i g k at bytes) c
+    → ClaimsPlaced c X i k places
     → HomesMove W.files (step.Put i g k at bytes) c X Y

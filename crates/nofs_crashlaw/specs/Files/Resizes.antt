@@ -1,7 +1,9 @@
 -- What a Resize leaves on the disk: the slots from the cut on are empty, and every other stays.
-use Rattle.std.specs.Prelude.{◌≡◌, ◌≢◌, ℕ, ◌+◌, ◌*◌, ◌<◌, min, Bool, true, false, ◌||◌, if◌then◌else◌, nat_le, ◌==◌, unwrap_or, is_some, Some}
+use Rattle.std.specs.Prelude.{◌≡◌, ◌≢◌, ℕ, ◌+◌, ◌*◌, ◌<◌, min, Bool, true, false, ◌||◌, if◌then◌else◌, nat_le, ◌==◌}
+use Rattle.std.specs.Prelude.{unwrap_or, is_some, Some}
 use Rattle.nofs_model.specs.Cells.{Pointer, is_null, pointer_at, slot_limit}
-use Rattle.nofs_model.specs.Image.{Image, cell_at, inode, Path, InRecord, Under, path_of, find, FileState, Files, is_folder, record_pointer, IsSlot}
+use Rattle.nofs_model.specs.Image.{Image, cell_at, inode, Path, InRecord, Under, path_of, find, FileState, Files}
+use Rattle.nofs_model.specs.Image.{is_folder, record_pointer, IsSlot}
 use Rattle.nofs_model.specs.declared.image.path.PathAnswer.TheVariants as answer
 use Rattle.nofs_model.specs.declared.image.value.Value.TheVariants.{Bytes}
 use Rattle.nofs_history.specs.Marks.{Mark}
@@ -31,8 +33,8 @@ is_cut m (Under a n) = is_cut m a || nat_le m (first_slot_below (Under a n))
 abbrev pub cut_at : FileState → ℕ → ℕ
 cut_at f size = min (slots_in f.size) (slots_in size)
 
--- X before the step, Y after it: what is cut has null pointers, and what isn't keeps its own. Content is no block of pointers,
--- whatever its bytes are
+-- X before the step, Y after it: what is cut has null pointers, and what isn't keeps its own. Content is no block of
+-- pointers, whatever its bytes are
 pub record ResizeLies (F : Files) (X Y : Image) (i g size : ℕ) (f : FileState) (s : ℕ) : Type 0 where
   pub files : FilesMatch F X
   pub is : F i ≡ Some f
@@ -42,13 +44,18 @@ pub record ResizeLies (F : Files) (X Y : Image) (i g size : ℕ) (f : FileState)
   pub names : SameNames X Y i
   pub size_is : (inode Y i).size ≡ size
   pub record_cut : (n : ℕ) → is_cut (cut_at f size) (InRecord n) ≡ true → is_null (record_pointer (inode Y i) n) ≡ true
-  pub record_stays : (n : ℕ) → is_cut (cut_at f size) (InRecord n) ≡ false → record_pointer (inode Y i) n ≡ record_pointer (inode X i) n
-  pub cell_cut : (b : Path) (n : ℕ) (y : Pointer) → IsSlot (Under b n) → is_cut (cut_at f size) b ≡ false → find X i b ≡ answer.Holds y
+  pub record_stays : (n : ℕ)
+      → is_cut (cut_at f size) (InRecord n) ≡ false → record_pointer (inode Y i) n ≡ record_pointer (inode X i) n
+  pub cell_cut : (b : Path) (n : ℕ) (y : Pointer) → IsSlot (Under b n)
+      → is_cut (cut_at f size) b ≡ false → find X i b ≡ answer.Holds y
       → is_cut (cut_at f size) (Under b n) ≡ true → is_null (pointer_at (cell_at Y y.block).payload n) ≡ true
-  pub cell_stays : (b : Path) (n : ℕ) (y : Pointer) → IsSlot (Under b n) → is_cut (cut_at f size) b ≡ false → find X i b ≡ answer.Holds y
-      → is_cut (cut_at f size) (Under b n) ≡ false → pointer_at (cell_at Y y.block).payload n ≡ pointer_at (cell_at X y.block).payload n
+  pub cell_stays : (b : Path) (n : ℕ) (y : Pointer) → IsSlot (Under b n)
+      → is_cut (cut_at f size) b ≡ false → find X i b ≡ answer.Holds y
+      → is_cut (cut_at f size) (Under b n) ≡ false
+      → pointer_at (cell_at Y y.block).payload n ≡ pointer_at (cell_at X y.block).payload n
   -- nothing is cut under a slot that is lost
-  pub whole : (b : Path) (n : ℕ) → IsSlot (Under b n) → is_cut (cut_at f size) b ≡ false → is_cut (cut_at f size) (Under b n) ≡ true → find X i b ≢ answer.Lost
+  pub whole : (b : Path) (n : ℕ) → IsSlot (Under b n)
+      → is_cut (cut_at f size) b ≡ false → is_cut (cut_at f size) (Under b n) ≡ true → find X i b ≢ answer.Lost
   -- the content of a slot that stays is what the step gives, or what it was
   pub content : (k : ℕ) (y : Pointer) → k < slot_limit → k < cut_at f size → find X i (path_of k) ≡ answer.Holds y
       → Bytes (cell_at Y y.block).payload ≡ unwrap_or (resize_slot F i size k) (Bytes (cell_at X y.block).payload)
@@ -62,9 +69,11 @@ LawResizeFiles = (F : Files) (X Y : Image) (i g size : ℕ) (f : FileState) (s :
 -- No block gets a home, and each block of a slot that stays keeps its own.
 abbrev pub LawResizeHomes : Type 0
 LawResizeHomes = (W : World) (X Y : Image) (i g size : ℕ) (f : FileState) (s : ℕ) (c : Claims)
-    → ResizeLies W.files X Y i g size f s → IsClaim W (step.Resize i g size) c → HomesMove W.files (step.Resize i g size) c X Y
+    → ResizeLies W.files X Y i g size f s → IsClaim W (step.Resize i g size) c
+    → HomesMove W.files (step.Resize i g size) c X Y
 
 -- A pointer may be cut off where its slot is, since holes are given to all that lies below.
 abbrev pub LawResizeHoles : Type 0
-LawResizeHoles = (L : Mark) (F : Files) (i g size : ℕ) (f : FileState) (a : Path) → F i ≡ Some f → IsSlot a → is_cut (cut_at f size) a ≡ true
+LawResizeHoles = (L : Mark) (F : Files) (i g size : ℕ) (f : FileState) (a : Path) → F i ≡ Some f → IsSlot a
+    → is_cut (cut_at f size) a ≡ true
     → Holes (during L (resize_given F i g size)) i g a

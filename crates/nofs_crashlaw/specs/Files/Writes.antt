@@ -1,7 +1,8 @@
 -- Why each write of a step on a file is proper.
 use Rattle.std.specs.Prelude.{◌≡◌, ℕ, ◌<◌, ◌≤◌, ◌⊎◌, true, Some}
 use Rattle.nofs_model.specs.Cells.{Cell, Pointer, Record, tag_of, is_null, is_live, slot_limit}
-use Rattle.nofs_model.specs.Image.{Image, cell_at, is_data_block, inode, Path, InRecord, Under, path_of, is_pointer_slot, tag_for, find}
+use Rattle.nofs_model.specs.Image.{Image, cell_at, is_data_block, inode, Path, InRecord, Under, path_of}
+use Rattle.nofs_model.specs.Image.{is_pointer_slot, tag_for, find}
 use Rattle.nofs_model.specs.Image.{record_pointer, IsAbove, IsSlot, IsFree}
 use Rattle.nofs_model.specs.declared.image.path.PathAnswer.TheVariants as answer
 use Rattle.nofs_model.specs.declared.image.value.Value.TheVariants.{Bytes}
@@ -24,11 +25,14 @@ pub record ContentLies (L : Mark) (given : Given) (X Y : Image) (i g k : ℕ) (x
 
 -- A cell of content is proper.
 abbrev pub LawContent : Type 0
-LawContent = (L : Mark) (given : Given) (X Y : Image) (i g k : ℕ) (x : Pointer) (c : Cell) → ContentLies L given X Y i g k x c
+LawContent =
+    (L : Mark) (given : Given) (X Y : Image) (i g k : ℕ) (x : Pointer) (c : Cell) → ContentLies L given X Y i g k x c
     → Proper (during L given) X x.block c
 
--- the block of pointers in slot b, on the way to slot p, of which place n is next: it held, or was claimed for an empty slot
-pub record PointersLie (L : Mark) (X Y : Image) (i : ℕ) (b : Path) (n : ℕ) (p : Path) (at : Path → Pointer) : Type 0 where
+-- the block of pointers in slot b, on the way to slot p, of which place n is next: it held, or was claimed for an empty
+-- slot
+pub record PointersLie (L : Mark) (X Y : Image) (i : ℕ) (b : Path) (n : ℕ) (p : Path)
+    (at : Path → Pointer) : Type 0 where
   pub area : is_data_block L.image (at b).block ≡ true
   pub points : is_pointer_slot b ≡ true
   pub slot : IsSlot b
@@ -44,10 +48,13 @@ pub record PointersLie (L : Mark) (X Y : Image) (i : ℕ) (b : Path) (n : ℕ) (
 
 -- A block of pointers on the path of a slot that gets its block is proper.
 abbrev pub LawPointerBlock : Type 0
-LawPointerBlock = (s : ℕ) (L : Mark) (given : Given) (X Y : Image) (i : ℕ) (b : Path) (n : ℕ) (p : Path) (at : Path → Pointer)
-    → Grows s X Y i p at → PointersLie L X Y i b n p at → Proper (during L given) X (at b).block (cell_at Y (at b).block)
+LawPointerBlock =
+    (s : ℕ) (L : Mark) (given : Given) (X Y : Image) (i : ℕ) (b : Path) (n : ℕ) (p : Path) (at : Path → Pointer)
+    → Grows s X Y i p at → PointersLie L X Y i b n p at
+    → Proper (during L given) X (at b).block (cell_at Y (at b).block)
 
--- a record of a live inode: its meta was given or may be read, and each pointer stays, is new where nothing held, or is cut off where holes are given
+-- a record of a live inode: its meta was given or may be read, and each pointer stays, is new where nothing held, or is
+-- cut off where holes are given
 pub record RecordLies (L : Mark) (given : Given) (X : Image) (i : ℕ) (r : Record) : Type 0 where
   pub live : is_live (inode X i) ≡ true
   pub generation : r.generation ≡ (inode X i).generation
@@ -60,4 +67,5 @@ pub record RecordLies (L : Mark) (given : Given) (X : Image) (i : ℕ) (r : Reco
 
 -- Such a record is proper, also with its new pointer and its old size.
 abbrev pub LawRecord : Type 0
-LawRecord = (L : Mark) (given : Given) (X : Image) (i : ℕ) (r : Record) → RecordLies L given X i r → RecordProper (during L given) X i r
+LawRecord = (L : Mark) (given : Given) (X : Image) (i : ℕ) (r : Record) → RecordLies L given X i r
+    → RecordProper (during L given) X i r

@@ -13,8 +13,10 @@ use Rattle.nofs_history.specs.Marks.{IsUnderWay}
 use Rattle.nofs_model.specs.Cells.{Cell, is_live}
 use Rattle.nofs_model.specs.Image.{Image, cell_at, inode, Files}
 
--- A step that begins at image X, a pick of what a crash may leave at moment l, with its reasons; and what may be left at moment m of it
-pub record StepUnderWay (B : Image) (H : List Entry1) (e : Entry1) (l m : ℕ) (image : Image) (stamps : ℕ) (before after : ℕ → List Cell) (X : Image)
+-- A step that begins at image X, a pick of what a crash may leave at moment l, with its reasons; and what may be left
+-- at moment m of it
+pub record StepUnderWay (B : Image) (H : List Entry1) (e : Entry1) (l m : ℕ) (image : Image) (stamps : ℕ)
+    (before after : ℕ → List Cell) (X : Image)
     : Type 0 where
   pub under_way : IsUnderWay H e l m
   pub mark : IsMark (mark_at B H l image stamps)
@@ -23,10 +25,12 @@ pub record StepUnderWay (B : Image) (H : List Entry1) (e : Entry1) (l m : ℕ) (
   pub explained : AllExplained (mark_at B H l image stamps) before
   pub pick : Picks before (length image) X
   pub files : FilesMatch (files_along (agreed_files B) H) X
-  pub proper : OnlyProper (during (mark_at B H l image stamps) (given_by (files_along (agreed_files B) H) e)) X before after
+  pub proper : OnlyProper
+      (during (mark_at B H l image stamps) (given_by (files_along (agreed_files B) H) e)) X before after
 
 -- what then holds at moment m, with the step's entry under way
-pub record StepKeeps (B : Image) (H : List Entry1) (e : Entry1) (l m : ℕ) (image : Image) (stamps : ℕ) (after : ℕ → List Cell) : Type 0 where
+pub record StepKeeps (B : Image) (H : List Entry1) (e : Entry1) (l m : ℕ) (image : Image) (stamps : ℕ)
+    (after : ℕ → List Cell) : Type 0 where
   pub mark : IsMark (mark_at B (H ++ e ∷ []) m image stamps)
   pub explained : AllExplained (mark_at B (H ++ e ∷ []) m image stamps) after
   pub allowed : (Y : Image) → Picks after (length image) Y → IsAllowed B (H ++ e ∷ []) m Y
@@ -35,7 +39,8 @@ pub record StepKeeps (B : Image) (H : List Entry1) (e : Entry1) (l m : ℕ) (ima
 -- A step: where each cell that it may leave was there before it, or is a proper write, every image is allowed with the
 -- step's entry under way, and the pointers of what is sure are the same in all of them.
 abbrev pub LawStep : Type 0
-LawStep = (B : Image) (H : List Entry1) (e : Entry1) (l m : ℕ) (image : Image) (stamps : ℕ) (before after : ℕ → List Cell) (X : Image)
+LawStep = (B : Image) (H : List Entry1) (e : Entry1) (l m : ℕ) (image : Image) (stamps : ℕ)
+    (before after : ℕ → List Cell) (X : Image)
     → StepUnderWay B H e l m image stamps before after X → StepKeeps B H e l m image stamps after
 
 -- an entry that begins at moment m or later, and flushes, if it does, after it
@@ -45,14 +50,17 @@ AllLater (e ∷ es) m = (m ≤ e.from) × (is_flushed e.reply ≡ true → m < e
 
 -- entries that come later change nothing of what is allowed at a moment
 abbrev pub LawLater : Type 0
-LawLater = (B : Image) (H es : List Entry1) (m : ℕ) (X : Image) → AllLater es m → IsAllowed B H m X → IsAllowed B (H ++ es) m X
+LawLater = (B : Image) (H es : List Entry1) (m : ℕ) (X : Image) → AllLater es m → IsAllowed B H m X
+    → IsAllowed B (H ++ es) m X
 
 -- the parts on versions give the part on names
 abbrev pub LawNames : Type 0
 LawNames = (B : Image) (H : List Entry1) (m : ℕ) (X : Image) → HasVersions B H m X → NamesStay B H m X
 
--- A step from X to Y, with the machine's files E after it, touches no inode that the machine does not have, and gives nothing to it
-pub record SparesRest (B : Image) (H : List Entry1) (e : Entry1) (s : ℕ) (touched : ℕ → Bool) (X Y : Image) (E : Files) : Type 0 where
+-- A step from X to Y, with the machine's files E after it, touches no inode that the machine does not have, and gives
+-- nothing to it
+pub record SparesRest (B : Image) (H : List Entry1) (e : Entry1) (s : ℕ) (touched : ℕ → Bool) (X Y : Image)
+    (E : Files) : Type 0 where
   pub before : FilesMatch (files_along (agreed_files B) H) X
   pub after : FilesMatch E Y
   pub touches : Touches s touched X Y
@@ -66,7 +74,8 @@ pub record SparesRest (B : Image) (H : List Entry1) (e : Entry1) (s : ℕ) (touc
 
 -- what is live and not agreed stays the base's
 abbrev pub LawRest : Type 0
-LawRest = (B : Image) (H : List Entry1) (e : Entry1) (s : ℕ) (touched : ℕ → Bool) (X Y : Image) (E : Files) → SteadyRest B H X
+LawRest = (B : Image) (H : List Entry1) (e : Entry1) (s : ℕ) (touched : ℕ → Bool) (X Y : Image) (E : Files)
+    → SteadyRest B H X
     → SparesRest B H e s touched X Y E → SteadyRest B (H ++ e ∷ []) Y
 
 -- Until a flush has succeeded, the base is among what a crash may leave.

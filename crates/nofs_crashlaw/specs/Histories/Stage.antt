@@ -37,7 +37,8 @@ AllBy [] n = Unit {0}
 AllBy (e ∷ es) n = (e.from ≤ n) × (e.to ≤ n) × AllBy es n
 
 -- Whatever has failed: all that a crash may leave is allowed, now and at each moment since the start. B is the disk as
--- the mount's flush left it, with the raised mount number, M the disk as the last flush left it, S a bound above M's stamps
+-- the mount's flush left it, with the raised mount number, M the disk as the last flush left it, S a bound above M's
+-- stamps
 pub record Lasts (B : Image) (H : List Entry1) (M : Image) (S start : ℕ) (d : DiskState) : Type 0 where
   pub size : length M ≡ length B
   pub first : cell_at M 0 ≡ cell_at B 0
@@ -55,7 +56,8 @@ abbrev pub files_now : Image → List Entry1 → Files
 files_now B H = files_along (agreed_files B) H
 
 -- a step that does not flush, from one state of a disk that tells to another
-pub record IsStep (B : Image) (H : List Entry1) (e : Entry1) (M : Image) (S start s : ℕ) (old new : DiskState) : Type 0 where
+pub record IsStep (B : Image) (H : List Entry1) (e : Entry1) (M : Image) (S start s : ℕ)
+    (old new : DiskState) : Type 0 where
   pub stage : Stage B H M S start s old
   pub disk : IsDisk old
   pub tells : IsTrue old.tells
@@ -65,7 +67,8 @@ pub record IsStep (B : Image) (H : List Entry1) (e : Entry1) (M : Image) (S star
 
 -- each cell that it may leave was there before, or is a proper write of what the step gives
 abbrev pub AddsProper : Image → List Entry1 → Entry1 → Image → ℕ → DiskState → DiskState → Type 0
-AddsProper B H e M S old new = Adds (Proper (during (mark_at B H (old.moment + 1) M S) (given_by (files_now B H) e)) old.now) old new
+AddsProper B H e M S old new =
+    Adds (Proper (during (mark_at B H (old.moment + 1) M S) (given_by (files_now B H) e)) old.now) old new
 
 -- A step that adds proper writes alone leaves only what is allowed, whichever of its writes failed.
 abbrev pub LawLasts : DiskState → DiskState → Type 0
@@ -93,7 +96,8 @@ LawIdleStage old new = (B : Image) (H : List Entry1) (e : Entry1) (M : Image) (S
 
 -- What stands is agreed now.
 abbrev pub LawTracked : DiskState → Type 0
-LawTracked d = (B : Image) (H : List Entry1) (M : Image) (S start s : ℕ) → Stage B H M S start s d → IsTracked (mark_at B H (d.moment + 1) M S) d.now
+LawTracked d = (B : Image) (H : List Entry1) (M : Image) (S start s : ℕ) → Stage B H M S start s d
+    → IsTracked (mark_at B H (d.moment + 1) M S) d.now
 
 -- the entry of a flush that succeeded
 abbrev pub flush_entry : ℕ → DiskState → DiskState → ℕ → ℕ → Entry1
@@ -123,7 +127,8 @@ abbrev pub LawFlushStage : DiskState → DiskState → Type 0
 LawFlushStage old new = (B : Image) (H : List Entry1) (M : Image) (S start s caller i g : ℕ)
     → IsFlush B H M S start s old new → Stage B (H ++ flush_entry caller old new i g ∷ []) old.now s start s new
 
--- a disk that tells, as a mount leaves it: each block may hold its present cell alone, and every number on it is below s
+-- a disk that tells, as a mount leaves it: each block may hold its present cell alone, and every number on it is below
+-- s
 pub record IsLeftByMount (d : DiskState) (s : ℕ) : Type 0 where
   pub disk : IsDisk d
   pub tells : IsTrue d.tells
@@ -138,5 +143,6 @@ LawFirstStage d = (s : ℕ) → IsLeftByMount d s → Stage d.now [] d.now s d.m
 
 -- Between two steps, also after a write fault: what a read gives is steady, as far as its rest is.
 abbrev pub LawSteady : DiskState → Type 0
-LawSteady d = (B : Image) (H : List Entry1) (M : Image) (S start : ℕ) → IsDisk d → IsTrue d.tells → Lasts B H M S start d → SteadyRest B H d.now
+LawSteady d = (B : Image) (H : List Entry1) (M : Image) (S start : ℕ) → IsDisk d → IsTrue d.tells
+    → Lasts B H M S start d → SteadyRest B H d.now
     → IsSteady B H (d.moment + 1) d.may d.now

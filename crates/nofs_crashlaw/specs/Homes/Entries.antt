@@ -23,13 +23,15 @@ pub record EntryClaims (F : Files) (c : Claims) (d n : ℕ) (name : List ℕ) (x
 
 -- Rename: each slot is found as before.
 abbrev pub LawRenameHomes : Type 0
-LawRenameHomes = (W : World) (X Y : Image) (d g n s : ℕ) (old new : List ℕ) (f : FileState) (x : Pointer) (entry : Entry) (c : Claims)
+LawRenameHomes = (W : World) (X Y : Image) (d g n s : ℕ) (old new : List ℕ) (f : FileState) (x : Pointer)
+    (entry : Entry) (c : Claims)
     → RenameLies W.files X Y d g n s new f x entry → IsClaim W (step.Rename d g old new) c
     → HomesMove W.files (step.Rename d g old new) c X Y
 
 -- Drop, where the inode has another name: its slots and the directory's are found as before.
 abbrev pub LawDropNameHomes : Type 0
-LawDropNameHomes = (W : World) (X Y : Image) (d g n s : ℕ) (name : List ℕ) (f h : FileState) (x : Pointer) (entry : Entry) (c : Claims)
+LawDropNameHomes =
+    (W : World) (X Y : Image) (d g n s : ℕ) (name : List ℕ) (f h : FileState) (x : Pointer) (entry : Entry) (c : Claims)
     → DropLies W.files X Y d g n s f h x entry
     → drop_meta W.files entry.inode (link_to d n g) ≡ Is h.kind h.size (without_link (link_to d n g) h.links)
     → Relinked X Y entry.inode (without_link (link_to d n g) h.links)
@@ -38,7 +40,8 @@ LawDropNameHomes = (W : World) (X Y : Image) (d g n s : ℕ) (name : List ℕ) (
 
 -- Where it has none: no slot of the free record holds.
 abbrev pub LawDropFileHomes : Type 0
-LawDropFileHomes = (W : World) (X Y : Image) (d g n s : ℕ) (name : List ℕ) (f h : FileState) (x : Pointer) (entry : Entry) (c : Claims)
+LawDropFileHomes =
+    (W : World) (X Y : Image) (d g n s : ℕ) (name : List ℕ) (f h : FileState) (x : Pointer) (entry : Entry) (c : Claims)
     → DropLies W.files X Y d g n s f h x entry
     → drop_meta W.files entry.inode (link_to d n g) ≡ Gone → (inode Y entry.inode).kind ≡ None
     → IsClaim W (step.Drop d g name) c
@@ -46,28 +49,34 @@ LawDropFileHomes = (W : World) (X Y : Image) (d g n s : ℕ) (name : List ℕ) (
 
 -- Link in a slot that holds: nothing is claimed, since the entry's place has its block.
 abbrev pub LawLinkInPlaceHomes : Type 0
-LawLinkInPlaceHomes = (W : World) (X Y : Image) (d g n i of b s : ℕ) (name : List ℕ) (f h : FileState) (x : Pointer) (c : Claims)
+LawLinkInPlaceHomes =
+    (W : World) (X Y : Image) (d g n i of b s : ℕ) (name : List ℕ) (f h : FileState) (x : Pointer) (c : Claims)
     → LinkLies W.files X Y d g n i of b s name f h → EntryInPlace X Y d n i (spelled_entry i of name) x
     → place_for W.files d name ≡ Some n → IsClaim W (step.Link d g name i of) c
     → HomesMove W.files (step.Link d g name i of) c X Y
 
 -- Link in a hole: the claimed blocks stand in the entry's slot, and in the leaf's.
 abbrev pub LawLinkInHoleHomes : Type 0
-LawLinkInHoleHomes = (W : World) (X Y : Image) (d g n i of b s : ℕ) (name : List ℕ) (f h : FileState) (x y : Pointer) (c : Claims)
+LawLinkInHoleHomes =
+    (W : World) (X Y : Image) (d g n i of b s : ℕ) (name : List ℕ) (f h : FileState) (x y : Pointer) (c : Claims)
     → LinkLies W.files X Y d g n i of b s name f h → EntryInHole s X Y d n i (spelled_entry i of name) x y
     → EntryClaims W.files c d n name x y → IsClaim W (step.Link d g name i of) c
     → HomesMove W.files (step.Link d g name i of) c X Y
 
 -- Make in a slot that holds: the new inode has no blocks.
 abbrev pub LawMakeInPlaceHomes : Type 0
-LawMakeInPlaceHomes = (W : World) (X Y : Image) (d g n s : ℕ) (name : List ℕ) (kind : FileKind) (claims : Claims) (f : FileState) (x : Pointer)
-    → MakeLies W.files X Y d g n s name kind claims f → EntryInPlace X Y d n claims.inode (spelled_entry claims.inode claims.generation name) x
+LawMakeInPlaceHomes = (W : World) (X Y : Image) (d g n s : ℕ) (name : List ℕ) (kind : FileKind) (claims : Claims)
+    (f : FileState) (x : Pointer)
+    → MakeLies W.files X Y d g n s name kind claims f
+    → EntryInPlace X Y d n claims.inode (spelled_entry claims.inode claims.generation name) x
     → place_for W.files d name ≡ Some n → IsClaim W (step.Make d g name kind) claims
     → HomesMove W.files (step.Make d g name kind) claims X Y
 
 -- Make in a hole.
 abbrev pub LawMakeInHoleHomes : Type 0
-LawMakeInHoleHomes = (W : World) (X Y : Image) (d g n s : ℕ) (name : List ℕ) (kind : FileKind) (claims : Claims) (f : FileState) (y : Pointer)
-    → MakeLies W.files X Y d g n s name kind claims f → EntryInHole s X Y d n claims.inode (spelled_entry claims.inode claims.generation name) claims.cell y
+LawMakeInHoleHomes = (W : World) (X Y : Image) (d g n s : ℕ) (name : List ℕ) (kind : FileKind) (claims : Claims)
+    (f : FileState) (y : Pointer)
+    → MakeLies W.files X Y d g n s name kind claims f
+    → EntryInHole s X Y d n claims.inode (spelled_entry claims.inode claims.generation name) claims.cell y
     → EntryClaims W.files claims d n name claims.cell y → IsClaim W (step.Make d g name kind) claims
     → HomesMove W.files (step.Make d g name kind) claims X Y

@@ -12,7 +12,8 @@ use Rattle.nofs_crashlaw.specs.Maps.Homes.{HomesMove}
 use Rattle.nofs_crashlaw.specs.Maps.Moves.{ClaimsStand, HeldMove}
 use Rattle.nofs_crashlaw.specs.Names.OldEntries.{NameWrites}
 
--- a step that writes the directory d and the inode i alone: its claimed blocks stand, and of both each other block stays
+-- a step that writes the directory d and the inode i alone: its claimed blocks stand, and of both each other block
+-- stays
 pub record NameMoves (W : World) (step : Step) (c : Claims) (given : Given) (s d i : ℕ) (X Y : Image) : Type 0 where
   pub claim : IsClaim W step c
   pub writes : NameWrites s d i X Y
@@ -27,5 +28,6 @@ pub record NameMoves (W : World) (step : Step) (c : Claims) (given : Given) (s d
 
 -- Then each block has its home.
 abbrev pub LawNameHomes : Type 0
-LawNameHomes = (W : World) (step : Step) (c : Claims) (given : Given) (s d i : ℕ) (X Y : Image) → NameMoves W step c given s d i X Y
+LawNameHomes = (W : World) (step : Step) (c : Claims) (given : Given) (s d i : ℕ) (X Y : Image)
+    → NameMoves W step c given s d i X Y
     → HomesMove W.files step c X Y

@@ -1,5 +1,6 @@
 -- What goes on from moment to moment of a step.
-use Rattle.std.specs.Prelude.{◌≡◌, ℕ, ◌⊎◌, Bool, true, false, ◌&&◌, not, List, ◌++◌, length, Option, Some, None, option_to_list, Contains}
+use Rattle.std.specs.Prelude.{◌≡◌, ℕ, ◌⊎◌, Bool, true, false, ◌&&◌, not, List, ◌++◌, length, Option, Some, None}
+use Rattle.std.specs.Prelude.{option_to_list, Contains}
 use Rattle.nofs_disk.specs.Disk.{Picks}
 use Rattle.nofs_crashlaw.specs.Images.Reasons.{Fine, Solid, IsMark, ReadsSince, KeepsSure, KeepsPointers}
 use Rattle.nofs_crashlaw.specs.Images.Proper.{Proper}
@@ -37,12 +38,15 @@ abbrev pub IsTracked : Mark → Image → Type 0
 IsTracked L X = (i g : ℕ) → L.stands i g ≡ true → agreed (files_in X) i ≡ true
 
 abbrev pub LawMoment : Type 0
-LawMoment = (L : Mark) (given : Given) (X : Image) (before after : ℕ → List Cell) → IsMark L → Picks before (length L.image) X → IsTracked L X
-    → AllExplained L before → OnlyProper (during L given) X before after → IsMark (during L given) × AllExplained (during L given) after
+LawMoment = (L : Mark) (given : Given) (X : Image) (before after : ℕ → List Cell) → IsMark L
+    → Picks before (length L.image) X → IsTracked L X
+    → AllExplained L before → OnlyProper (during L given) X before after
+    → IsMark (during L given) × AllExplained (during L given) after
 
 -- what a flush that succeeded leaves
 abbrev pub LawFlush : Type 0
-LawFlush = (L : Mark) (may : ℕ → List Cell) → IsMark L → ((b : ℕ) (c : Cell) → Contains (may b) c → c ≡ cell_at L.image b) → AllExplained L may
+LawFlush = (L : Mark) (may : ℕ → List Cell) → IsMark L
+    → ((b : ℕ) (c : Cell) → Contains (may b) c → c ≡ cell_at L.image b) → AllExplained L may
 
 -- what each image that picks from explained cells says
 pub record Survives (L : Mark) (X : Image) : Type 0 where
@@ -51,4 +55,5 @@ pub record Survives (L : Mark) (X : Image) : Type 0 where
   pub pointers : KeepsPointers L X
 
 abbrev pub LawImages : Type 0
-LawImages = (L : Mark) (may : ℕ → List Cell) (X : Image) → IsMark L → AllExplained L may → Picks may (length L.image) X → Survives L X
+LawImages = (L : Mark) (may : ℕ → List Cell) (X : Image) → IsMark L → AllExplained L may
+    → Picks may (length L.image) X → Survives L X

@@ -4,16 +4,19 @@ use Rattle.nofs_crashlaw.specs.Images.Reasons.{Holes}
 use Rattle.nofs_model.specs.declared.image.path.PathAnswer.TheVariants as answer
 use Rattle.nofs_history.specs.Meta.{meta_of}
 use Rattle.nofs_history.specs.Marks.{Mark}
-use Rattle.nofs_model.specs.Image.{IsSlot, IsFree, Image, cell_at, is_data_block, is_inode, inode, Path, InRecord, Under, slot_of, is_pointer_slot}
+use Rattle.nofs_model.specs.Image.{IsSlot, IsFree, Image, cell_at, is_data_block, is_inode, inode, Path, InRecord}
+use Rattle.nofs_model.specs.Image.{Under, slot_of, is_pointer_slot}
 use Rattle.nofs_model.specs.Image.{record_pointer, find, pointer, AboveHolds}
-use Rattle.nofs_model.specs.Cells.{Cell, Kind, Content, Directory, Leaf, Tag, Pointer, Record, tag_of, is_null, pointer_at, record_at, is_live}
+use Rattle.nofs_model.specs.Cells.{Cell, Kind, Content, Directory, Leaf, Tag, Pointer, Record, tag_of, is_null}
+use Rattle.nofs_model.specs.Cells.{pointer_at, record_at, is_live}
 use Rattle.nofs_model.specs.Cells.{slot_limit}
 use Rattle.nofs_model.specs.declared.image.value.Value.TheVariants.{Hole, Bytes}
 
 -- why a step that began at X, whose givings m has, writes this pointer
 pub data PointerProper (L : Mark) (X : Image) (i g : ℕ) (path : Path) (x : Pointer) : Type 0 where
   -- it is the one before
-  Same : is_live (inode X i) ≡ true → (inode X i).generation ≡ g → AboveHolds X i path → pointer X i path ≡ x → PointerProper L X i g path x
+  Same : is_live (inode X i) ≡ true → (inode X i).generation ≡ g → AboveHolds X i path
+      → pointer X i path ≡ x → PointerProper L X i g path x
   -- it is null, and a hole was given or stood there
   Cut : is_null x ≡ true → Holes L i g path → PointerProper L X i g path x
   -- it is new, and no block stood there
@@ -51,17 +54,20 @@ pub record PointersProper (L : Mark) (X : Image) (b : ℕ) (c : Cell) : Type 0 w
 -- why a step writes this record
 pub data RecordProper (L : Mark) (X : Image) (i : ℕ) (r : Record) : Type 0 where
   Unchanged : r ≡ inode X i → RecordProper L X i r
-  Changed : is_live (inode X i) ≡ true → r.generation ≡ (inode X i).generation → r.kind ≡ (inode X i).kind → Contains (L.metas i r.generation) (meta_of r)
+  Changed : is_live (inode X i) ≡ true → r.generation ≡ (inode X i).generation → r.kind ≡ (inode X i).kind
+      → Contains (L.metas i r.generation) (meta_of r)
       → ((n : ℕ) → n < 10 → PointerProper L X i r.generation (InRecord n) (record_pointer r n)) → RecordProper L X i r
   Freed : is_live r ≡ false → ((g : ℕ) → L.stands i g ≡ false) → RecordProper L X i r
   Made : L.stamps ≤ r.generation → ((g : ℕ) → L.stands i g ≡ false) → Contains (L.metas i r.generation) (meta_of r)
-      → ((n : ℕ) → n < 10 → is_null (record_pointer r n) ≡ true) → ((k : ℕ) → k < slot_limit → Contains (L.since i r.generation k) Hole) → RecordProper L X i r
+      → ((n : ℕ) → n < 10 → is_null (record_pointer r n) ≡ true)
+      → ((k : ℕ) → k < slot_limit → Contains (L.since i r.generation k) Hole) → RecordProper L X i r
 
 -- a table cell
 pub record TableProper (L : Mark) (X : Image) (b : ℕ) (c : Cell) : Type 0 where
   pub not_super : 0 < b
   pub area : is_data_block L.image b ≡ false
-  pub records : (i : ℕ) → is_inode L.image i ≡ true → 1 + (i - 1) / 4 ≡ b → RecordProper L X i (record_at c.payload ((i - 1) % 4))
+  pub records : (i : ℕ)
+      → is_inode L.image i ≡ true → 1 + (i - 1) / 4 ≡ b → RecordProper L X i (record_at c.payload ((i - 1) % 4))
 
 pub data Proper (L : Mark) (X : Image) (b : ℕ) (c : Cell) : Type 0 where
   OfContent : ContentProper L X b c → Proper L X b c

@@ -1,5 +1,6 @@
 -- Examples of steps and their answers, as they were worked by hand.
-use Rattle.std.specs.Prelude.{◌≡◌, ℕ, ◌+◌, ◌^◌, true, false, List, [], ◌∷◌, ◌++◌, Some, None, if◌then◌else◌, map, nat_le, nat_lt, replicate}
+use Rattle.std.specs.Prelude.{◌≡◌, ℕ, ◌+◌, ◌^◌, true, false, List, [], ◌∷◌, ◌++◌, Some, None, if◌then◌else◌, map}
+use Rattle.std.specs.Prelude.{nat_le, nat_lt, replicate}
 use Rattle.nofs_ptrs.specs.Paths.{slot_limit}
 use Rattle.nofs_disk.specs.Pointer.{null}
 use Rattle.nofs_model.specs.Kinds.{File}
@@ -74,7 +75,8 @@ dead = example_world (files (first_slot (cell (spelled_entry 3 S3 a))) label Non
 -- one name twice
 abbrev pub twice : World
 twice = example_world (files (first_slot (cell (spelled_entry 3 S3 a ++ spelled_entry 4 S4 a))) label
-    (Some (file S3 (links (link_to 1 0 1) (link_to 0 0 0)) 1 (λ k. Hole))) (Some (file S4 (links (link_to 1 1 1) (link_to 0 0 0)) 2 (λ k. Hole))))
+    (Some (file S3 (links (link_to 1 0 1) (link_to 0 0 0)) 1 (λ k. Hole)))
+    (Some (file S4 (links (link_to 1 1 1) (link_to 0 0 0)) 2 (λ k. Hole))))
 
 -- a directory /a with the file /a/b in it
 abbrev pub nested : World
@@ -84,11 +86,13 @@ nested = example_world (files (first_slot (cell (spelled_entry 3 S3 a))) label
 
 -- a second back link that no entry has
 abbrev pub stray : World
-stray = example_world (files (first_slot (cell (spelled_entry 3 S3 a))) label (Some (file S3 (links (link_to 1 0 1) (link_to 1 1 1)) 0 (λ k. Hole))) None)
+stray = example_world (files (first_slot (cell (spelled_entry 3 S3 a))) label
+    (Some (file S3 (links (link_to 1 0 1) (link_to 1 1 1)) 0 (λ k. Hole))) None)
 
 -- a file with all four names
 abbrev pub four : World
-four = example_world (files (first_slot (cell (spelled_entry 3 S3 a ++ spelled_entry 3 S3 b ++ spelled_entry 3 S3 c ++ spelled_entry 3 S3 (100 ∷ [])))) label
+four = example_world (files (first_slot (cell (spelled_entry 3 S3 a ++ spelled_entry 3 S3 b ++ spelled_entry 3 S3 c
+    ++ spelled_entry 3 S3 (100 ∷ [])))) label
     (Some (file S3 (link_to 1 0 1 ∷ link_to 1 1 1 ∷ link_to 1 2 1 ∷ link_to 1 3 1 ∷ []) 0 (λ k. Hole))) None)
 
 -- the root's slots are lost
@@ -107,7 +111,8 @@ name_examples =
     ∷ example dead (step.Look 1 1 a) (reply.Refused (refusal.LostEntry 0))
     ∷ example broken (step.Look 1 1 a) (reply.Refused (refusal.LostSlot 0))
     ∷ example twice (step.Look 1 1 a) (reply.Found (record { inode = 3; generation = S3; kind = File }))
-    ∷ example (world_after twice (step.Drop 1 1 a) no_claims) (step.Look 1 1 a) (reply.Found (record { inode = 4; generation = S4; kind = File }))
+    ∷ example (world_after twice (step.Drop 1 1 a) no_claims) (step.Look 1 1 a)
+    (reply.Found (record { inode = 4; generation = S4; kind = File }))
     ∷ example nested (step.Look 3 S3 b) (reply.Found (record { inode = 4; generation = S4; kind = File }))
     ∷ example one (step.Drop 1 1 a) (reply.Dropped true)
     ∷ example stray (step.Drop 1 1 a) (reply.Dropped true)
@@ -116,7 +121,8 @@ name_examples =
     ∷ example one (step.Rename 1 1 a a) (reply.Refused refusal.Exists)
     ∷ example one (step.Rename 1 1 b a) (reply.Refused refusal.Missing)
     ∷ example one (step.Rename 1 1 a (47 ∷ [])) (reply.Refused refusal.BadName)
-    ∷ example (world_after one (step.Rename 1 1 a b) no_claims) (step.Look 1 1 b) (reply.Found (record { inode = 3; generation = S3; kind = File }))
+    ∷ example (world_after one (step.Rename 1 1 a b) no_claims) (step.Look 1 1 b)
+    (reply.Found (record { inode = 3; generation = S3; kind = File }))
     ∷ example one (step.List 1 1 0) (reply.Names 0 (record { name = a; kind = File; dead = false } ∷ []))
     ∷ example dead (step.List 1 1 0) (reply.Names 0 (record { name = a; kind = File; dead = true } ∷ []))
     ∷ example broken (step.List 1 1 3) (reply.LostNames 3)
@@ -137,10 +143,12 @@ new_names =
     }
     ∷ example one (step.Make 1 1 a File) (reply.Refused refusal.Exists)
     ∷ example broken (step.Make 1 1 a File) (reply.Refused refusal.DirectoryFull)
-    ∷ example (record one { known_inodes = λ i. false }) (step.Make 1 1 b File) (reply.Refused (refusal.InodesFull 16 1))
+    ∷ example (record one { known_inodes = λ i. false }) (step.Make 1 1 b File)
+    (reply.Refused (refusal.InodesFull 16 1))
     ∷ example (record one { serial = 2 ^ 40 }) (step.Make 1 1 b File) (reply.Refused refusal.SerialsSpent)
     ∷ example one (step.Link 1 1 b 3 S3) reply.Linked
-    ∷ example (world_after one (step.Link 1 1 b 3 S3) no_claims) (step.Stat 3 S3) (reply.Stat (record { kind = File; size = 0; links = 2 }))
+    ∷ example (world_after one (step.Link 1 1 b 3 S3) no_claims) (step.Stat 3 S3)
+    (reply.Stat (record { kind = File; size = 0; links = 2 }))
     ∷ example one (step.Link 1 1 b 2 2) (reply.Refused refusal.TooManyLinks)
     ∷ example four (step.Link 1 1 (101 ∷ []) 3 S3) (reply.Refused refusal.TooManyLinks)
     ∷ example one (step.Link 1 1 b 1 1) (reply.Refused refusal.IsDirectory)
@@ -166,18 +174,21 @@ contents =
     ∷ example empty (step.Get 1 1 0) (reply.Refused refusal.IsDirectory)
     ∷ example empty (step.Get 2 3 0) (reply.Refused refusal.Stale)
     ∷ example short (step.Put 2 2 0 0 (9 ∷ [])) reply.Stored
-    ∷ example (world_after short (step.Put 2 2 0 0 (9 ∷ [])) no_claims) (step.Get 2 2 0) (reply.Bytes (9 ∷ 2 ∷ 3 ∷ replicate 1021 0))
+    ∷ example (world_after short (step.Put 2 2 0 0 (9 ∷ [])) no_claims) (step.Get 2 2 0)
+    (reply.Bytes (9 ∷ 2 ∷ 3 ∷ replicate 1021 0))
     ∷ example empty (step.Put 2 2 0 1024 (1 ∷ [])) (reply.Refused refusal.BadRange)
     ∷ example empty (step.Put 2 2 0 0 []) (reply.Refused refusal.BadRange)
     ∷ example empty (step.Put 2 2 2 0 (1 ∷ [])) (reply.Refused refusal.PastEnd)
     ∷ example short (step.Put 2 2 2 0 (1 ∷ [])) (reply.Refused refusal.PastEnd)
     ∷ example torn (step.Put 2 2 0 0 (1 ∷ [])) (reply.Refused (refusal.LostSlot 0))
     ∷ example torn (step.Put 2 2 1 0 (1 ∷ [])) reply.Stored
-    ∷ example (record empty { known_blocks = λ p. nat_lt p 8 }) (step.Put 2 2 0 0 (1 ∷ [])) (reply.Refused (refusal.Full 1 0 56 8))
+    ∷ example (record empty { known_blocks = λ p. nat_lt p 8 }) (step.Put 2 2 0 0 (1 ∷ []))
+    (reply.Refused (refusal.Full 1 0 56 8))
     ∷ example short (step.Resize 2 2 73728) reply.Resized
     ∷ example short (step.Resize 2 2 73729) (reply.Refused refusal.TooLarge)
     ∷ example (world_after short (step.Resize 2 2 0) no_claims) (step.Get 2 2 0) reply.Hole
-    ∷ example (world_after (world_after short (step.Resize 2 2 2) no_claims) (step.Resize 2 2 9) no_claims) (step.Get 2 2 0)
+    ∷ example (world_after (world_after short (step.Resize 2 2 2) no_claims) (step.Resize 2 2 9) no_claims)
+    (step.Get 2 2 0)
     (reply.Bytes (1 ∷ 2 ∷ replicate 1022 0))
     ∷ example short (step.Stat 2 2) (reply.Stat (record { kind = File; size = 1025; links = 0 }))
     ∷ []
@@ -192,10 +203,11 @@ large = record empty { version = 2 }
 abbrev pub damaged : World
 damaged = record empty {
   version = 2;
-  files = files (λ k. Hole) (record (file 2 no_links 80000 (λ k. if nat_le 72 k then (if nat_lt k 136 then Lost else Hole) else Hole)) {
-    nodes =
-        first_child_damaged;
-  }) None None;
+  files = files (λ k. Hole)
+      (record (file 2 no_links 80000 (λ k. if nat_le 72 k then (if nat_lt k 136 then Lost else Hole) else Hole)) {
+        nodes =
+            first_child_damaged;
+      }) None None;
 }
 
 abbrev pub large_files : List Example
@@ -234,12 +246,14 @@ FailedRead = Next empty (without_claims (step.Get 2 2 0) (reply.Refused refusal.
 
 -- a flush fails, and the mount is stopped
 abbrev pub FailedFlush : Type 0
-FailedFlush = Next empty (without_claims (step.Flush 0 0) (reply.Refused refusal.WriteFault)) (record empty { stopped = true })
+FailedFlush =
+    Next empty (without_claims (step.Flush 0 0) (reply.Refused refusal.WriteFault)) (record empty { stopped = true })
 
 -- Accepted values
 
 -- a size of 5,000, and a byte at 2,048: a hole and then bytes are given to slot 2
 abbrev pub GivenToSlot : Type 0
 GivenToSlot = values_given empty.files
-    (without_claims (step.Resize 2 2 5000) reply.Resized ∷ without_claims (step.Put 2 2 2 0 (255 ∷ [])) reply.Stored ∷ [])
+    (without_claims (step.Resize 2 2 5000) reply.Resized
+    ∷ without_claims (step.Put 2 2 2 0 (255 ∷ [])) reply.Stored ∷ [])
     2 2 2 ≡ Hole ∷ Bytes (255 ∷ replicate 1023 0) ∷ []

@@ -13,7 +13,8 @@ use Rattle.nofs_history.specs.declared.machine.steps.Step.{Step}
 
 -- in every world each step can be answered, also where no call of the device fails
 abbrev pub LawTotal : Type 0
-LawTotal = (W : World) (step : Step) → (e : Entry1) × (V : World) × (e.step ≡ step) × (is_fault e.reply ≡ false) × Next W e V
+LawTotal = (W : World) (step : Step) → (e : Entry1) × (V : World) × (e.step ≡ step)
+    × (is_fault e.reply ≡ false) × Next W e V
 
 -- the world and the step decide all but claims, faults and what becomes known
 abbrev pub LawFunction : Type 0
@@ -24,7 +25,8 @@ LawFunction = (W : World) (e f : Entry1) (V U : World) → Next W e V → Next W
 
 -- while no write failed, each file is what was accepted last: slot by slot, and in its kind, size and links
 abbrev pub LawAccepted : Type 0
-LawAccepted = (B : Image) (H : List Entry1) → NoWriteFault H → (i : ℕ) (f : FileState) → files_along (agreed_files B) H i ≡ Some f
+LawAccepted = (B : Image) (H : List Entry1) → NoWriteFault H
+    → (i : ℕ) (f : FileState) → files_along (agreed_files B) H i ≡ Some f
     → ((k : ℕ) → last_in (accepted_of B H i f.generation k) ≡ f.values k ∷ [])
     × (last_in (accepted_meta_of B H i f.generation) ≡ Is f.kind f.size f.links ∷ [])
 

@@ -1,5 +1,6 @@
 -- Small worlds for the examples: 64 blocks, 16 inodes, the root, the label file, and two more files.
-use Rattle.std.specs.Prelude.{ℕ, ◌+◌, ◌-◌, true, false, List, [], ◌∷◌, ◌++◌, length, Option, Some, None, if◌then◌else◌, nat_lt, nat_le, ◌==◌, replicate}
+use Rattle.std.specs.Prelude.{ℕ, ◌+◌, ◌-◌, true, false, List, [], ◌∷◌, ◌++◌, length, Option, Some, None, if◌then◌else◌}
+use Rattle.std.specs.Prelude.{nat_lt, nat_le, ◌==◌, replicate}
 use Rattle.nofs_model.specs.Cells.{BackLink}
 use Rattle.nofs_model.specs.Kinds.{File, Directory}
 use Rattle.nofs_model.specs.Image.{Path, InRecord, Under, NodeState, Absent, Present, Damaged, FileState, home_at}
@@ -43,10 +44,12 @@ first_child_damaged (InRecord n) = if n == 9 then Present else Absent
 first_child_damaged (Under above n) = if n == 0 then Damaged else Absent
 
 abbrev pub directory : ℕ → List BackLink → (ℕ → Value) → FileState
-directory g back values = record { generation = g; kind = Directory; size = 0; links = back; values = values; nodes = no_nodes }
+directory g back values =
+    record { generation = g; kind = Directory; size = 0; links = back; values = values; nodes = no_nodes }
 
 abbrev pub file : ℕ → List BackLink → ℕ → (ℕ → Value) → FileState
-file g back size values = record { generation = g; kind = File; size = size; links = back; values = values; nodes = no_nodes }
+file g back size values =
+    record { generation = g; kind = File; size = size; links = back; values = values; nodes = no_nodes }
 
 -- the root with these entries in slot 0, the label file, and inodes 3 and 4
 abbrev pub files : (ℕ → Value) → FileState → Option FileState → Option FileState → ℕ → Option FileState

@@ -1,5 +1,6 @@
 -- The numbers that a step writes: old ones, and those that it claims.
-use Rattle.std.specs.Prelude.{◌≡◌, ◌≢◌, ℕ, ◌+◌, ◌-◌, ◌*◌, ◌/◌, ◌%◌, ◌^◌, ◌<◌, ◌≤◌, ◌⊎◌, true, false, Some, List, IfSome, All, Contains}
+use Rattle.std.specs.Prelude.{◌≡◌, ◌≢◌, ℕ, ◌+◌, ◌-◌, ◌*◌, ◌/◌, ◌%◌, ◌^◌, ◌<◌, ◌≤◌, ◌⊎◌, true, false, Some, List, IfSome}
+use Rattle.std.specs.Prelude.{All, Contains}
 use Rattle.nofs_crashlaw.specs.Untouched.Frames.{OldPointers}
 use Rattle.nofs_history.specs.declared.machine.steps.Step.{Step}
 use Rattle.nofs_history.specs.declared.machine.history.Claims.{Claims}
@@ -9,8 +10,10 @@ use Rattle.nofs_history.specs.World.{World, inodes_needed, blocks_needed}
 use Rattle.nofs_history.specs.Claims.{claimed_blocks, next_stamp}
 use Rattle.nofs_history.specs.Next.{Next}
 use Rattle.nofs_history.specs.Good.{IsFresh}
-use Rattle.nofs_model.specs.Cells.{Cell, Content, Directory, Leaf, Table, Tag, Pointer, Record, tag_of, pointer_at, record_at, is_live, entry_in}
-use Rattle.nofs_model.specs.Image.{Image, cell_at, super_at, is_mountable, is_data_block, is_inode, inode, record_pointer, CellBelow, IsBelow}
+use Rattle.nofs_model.specs.Cells.{Cell, Content, Directory, Leaf, Table, Tag, Pointer, Record, tag_of, pointer_at}
+use Rattle.nofs_model.specs.Cells.{record_at, is_live, entry_in}
+use Rattle.nofs_model.specs.Image.{Image, cell_at, super_at, is_mountable, is_data_block, is_inode, inode}
+use Rattle.nofs_model.specs.Image.{record_pointer, CellBelow, IsBelow}
 
 -- how many a step claims
 abbrev pub needed : World → Step → ℕ
@@ -29,8 +32,10 @@ pub record RecordNumbers (P : ℕ → Type 0) (r : Record) : Type 0 where
 
 -- why each number in a written cell is one that the step may write
 pub data CellNumbers (P : ℕ → Type 0) (X : Image) (b : ℕ) (c : Cell) : Type 0 where
-  InContent : is_data_block X b ≡ true → (t : Tag) → tag_of c.tag ≡ Some t → t.kind ≡ Content → P t.generation → P t.stamp → CellNumbers P X b c
-  InDirectory : is_data_block X b ≡ true → (t : Tag) → tag_of c.tag ≡ Some t → t.kind ≡ Directory → P t.generation → P t.stamp
+  InContent : is_data_block X b ≡ true → (t : Tag) → tag_of c.tag ≡ Some t → t.kind ≡ Content → P t.generation
+      → P t.stamp → CellNumbers P X b c
+  InDirectory : is_data_block X b ≡ true → (t : Tag) → tag_of c.tag ≡ Some t
+      → t.kind ≡ Directory → P t.generation → P t.stamp
       → ((j : ℕ) → j < 16 → IfSome (entry_in c.payload j) (λ e. P e.generation)) → CellNumbers P X b c
   InPointers : is_data_block X b ≡ true → (t : Tag) → tag_of c.tag ≡ Some t → t.kind ≡ Leaf → P t.generation → P t.stamp
       → ((j : ℕ) → j < 64 → P (pointer_at c.payload j).stamp) → CellNumbers P X b c
@@ -40,7 +45,8 @@ pub data CellNumbers (P : ℕ → Type 0) (X : Image) (b : ℕ) (c : Cell) : Typ
 
 -- may has nothing but what it had before the step, and cells with such numbers
 abbrev pub OnlyNumbered : World → Claims → Image → (ℕ → List Cell) → (ℕ → List Cell) → Type 0
-OnlyNumbered W c X before after = (b : ℕ) → b < W.blocks → (d : Cell) → Contains (after b) d → Contains (before b) d ⊎ CellNumbers (Numbered W c) X b d
+OnlyNumbered W c X before after = (b : ℕ) → b < W.blocks → (d : Cell) → Contains (after b) d
+    → Contains (before b) d ⊎ CellNumbers (Numbered W c) X b d
 
 -- every member of may is below a bound
 abbrev pub AllBelow : ℕ → World → Image → (ℕ → List Cell) → Type 0
@@ -48,17 +54,20 @@ AllBelow bound W X may = (b : ℕ) → b < W.blocks → (c : Cell) → Contains 
 
 -- Fresh goes on over each step that has no fault of writing; and with one, all stays below what the step claims.
 abbrev pub LawFresh : Type 0
-LawFresh = (W V : World) (e : Entry1) (X Y : Image) (before after : ℕ → List Cell) → Next W e V → (super_at X).inodes % 4 ≡ 0 → cell_at Y 0 ≡ cell_at X 0
+LawFresh = (W V : World) (e : Entry1) (X Y : Image) (before after : ℕ → List Cell) → Next W e V
+    → (super_at X).inodes % 4 ≡ 0 → cell_at Y 0 ≡ cell_at X 0
     → IsFresh W X before → OnlyNumbered W e.claims X before after
     → (is_write_fault e.reply ≡ false → IsFresh V Y after) × AllBelow (next_stamp W + needed W e.step) W Y after
 
 -- the pointers of what is live are old, as the frame lemmas ask
 abbrev pub LawOld : Type 0
-LawOld = (s : ℕ) (X : Image) (i : ℕ) → 0 < s → is_mountable X ≡ true → IsBelow s X → is_live (inode X i) ≡ true → OldPointers s X i
+LawOld = (s : ℕ) (X : Image) (i : ℕ) → 0 < s → is_mountable X ≡ true → IsBelow s X
+    → is_live (inode X i) ≡ true → OldPointers s X i
 
 -- All stays within the stamps of the mount, in each case and with a fault of writing too.
 abbrev pub LawMountStamps : Type 0
-LawMountStamps = (W V : World) (e : Entry1) (X Y : Image) (before after : ℕ → List Cell) → Next W e V → W.serial ≤ 2 ^ 40 → (super_at X).inodes % 4 ≡ 0
+LawMountStamps = (W V : World) (e : Entry1) (X Y : Image) (before after : ℕ → List Cell) → Next W e V
+    → W.serial ≤ 2 ^ 40 → (super_at X).inodes % 4 ≡ 0
     → cell_at Y 0 ≡ cell_at X 0
     → IsFresh W X before → OnlyNumbered W e.claims X before after
     → (V.serial ≤ 2 ^ 40) × AllBelow ((W.mount + 1) * 2 ^ 40) W Y after

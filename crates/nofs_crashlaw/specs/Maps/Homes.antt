@@ -11,7 +11,8 @@ use Rattle.nofs_history.specs.Claims.{claimed_blocks, claimed_home, homes_after,
 use Rattle.nofs_history.specs.Next.{Keeps, Next}
 use Rattle.nofs_history.specs.Good.{MatchesSuper, IsGood}
 use Rattle.nofs_model.specs.Cells.{Pointer}
-use Rattle.nofs_model.specs.Image.{Image, cell_at, is_data_block, files_in, agreed, Path, slot_of, find, Files, Home, owner, is_used_inode}
+use Rattle.nofs_model.specs.Image.{Image, cell_at, is_data_block, files_in, agreed, Path, slot_of, find, Files, Home}
+use Rattle.nofs_model.specs.Image.{owner, is_used_inode}
 use Rattle.nofs_model.specs.Image.{is_used_block, IsSlot, IsFree}
 
 -- the slot of this home holds block p, and its inode is agreed
@@ -24,7 +25,8 @@ pub record Houses (X : Image) (home : Home) (p : ℕ) : Type 0 where
   pub holds : find X home.inode path ≡ answer.Holds pointer
   pub block : pointer.block ≡ p
 
--- What each step gives: its claimed blocks stand in their slots, and every other slot that holds held the same block before.
+-- What each step gives: its claimed blocks stand in their slots, and every other slot that holds held the same block
+-- before.
 pub record HomesMove (F : Files) (step : Step) (c : Claims) (X Y : Image) : Type 0 where
   pub claimed : (p : ℕ) (home : Home) → claimed_home F step c p ≡ Some home → Houses Y home p
   pub held : (j : ℕ) (a : Path) (y : Pointer) → IsSlot a → agreed (files_in Y) j ≡ true → find Y j a ≡ answer.Holds y
@@ -39,7 +41,8 @@ abbrev pub GoodMaps : World → Image → Type 0
 GoodMaps W X = IsGood W W.known_inodes (λ i. not (uses_inode W i)) W.known_blocks (λ p. not (uses_block W p)) X
 
 abbrev pub LawHomes : Type 0
-LawHomes = (W V : World) (step : Step) (c : Claims) (X Y : Image) → HomesMatch W X → FilesMatch W.files X → HomesMove W.files step c X Y
+LawHomes = (W V : World) (step : Step) (c : Claims) (X Y : Image) → HomesMatch W X → FilesMatch W.files X
+    → HomesMove W.files step c X Y
     → V.blocks ≡ W.blocks → V.homes ≡ homes_after W step c V.files → FilesMatch V.files Y → HomesMatch V Y
 
 -- numbers, files and homes that are those of the image make the world's maps good
@@ -74,10 +77,12 @@ LawGoodKept = (W V : World) (vi fi vb fb : ℕ → Bool) (X : Image) → IsGood 
 
 -- what a step claims is free
 abbrev pub LawClaims : Type 0
-LawClaims = (W : World) (step : Step) (c : Claims) (vi fi vb fb : ℕ → Bool) (X : Image) → IsGood W vi fi vb fb X → IsClaim W step c → ClaimsFree W c X
+LawClaims = (W : World) (step : Step) (c : Claims) (vi fi vb fb : ℕ → Bool) (X : Image) → IsGood W vi fi vb fb X
+    → IsClaim W step c → ClaimsFree W c X
 
 -- Good goes on over each step that has no fault of writing, whatever its case.
 abbrev pub LawGoodNext : Type 0
-LawGoodNext = (W V : World) (e : Entry1) (vi fi vb fb : ℕ → Bool) (X Y : Image) → Next W e V → is_write_fault e.reply ≡ false
+LawGoodNext = (W V : World) (e : Entry1) (vi fi vb fb : ℕ → Bool) (X Y : Image) → Next W e V
+    → is_write_fault e.reply ≡ false
     → IsGood W vi fi vb fb X → cell_at Y 0 ≡ cell_at X 0
     → HomesMove W.files e.step e.claims X Y → FilesMatch V.files Y → GoodMaps V Y

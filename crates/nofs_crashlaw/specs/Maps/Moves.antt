@@ -24,11 +24,13 @@ pub record ClaimsStand (c : Claims) (Y : Image) (at : Home) : Type 0 where
 -- a slot that holds held the same before, or held nothing and has a claimed block
 abbrev pub HeldMove : Claims → Image → Image → ℕ → Type 0
 HeldMove c X Y j = (a : Path) (y : Pointer) → IsSlot a → agreed (files_in Y) j ≡ true → find Y j a ≡ answer.Holds y
-    → ((agreed (files_in X) j ≡ true) × (find X j a ≡ answer.Holds y)) ⊎ (IsClaimed c y × ((x : Pointer) → find X j a ≡ answer.Holds x → ⊥))
+    → ((agreed (files_in X) j ≡ true) × (find X j a ≡ answer.Holds y))
+    ⊎ (IsClaimed c y × ((x : Pointer) → find X j a ≡ answer.Holds x → ⊥))
 
 -- Only the inodes that a step touches need an argument.
 abbrev pub LawHomesMove : Type 0
-LawHomesMove = (W : World) (step : Step) (c : Claims) (s : ℕ) (touched : ℕ → Bool) (X Y : Image) → IsClaim W step c → Touches s touched X Y
+LawHomesMove = (W : World) (step : Step) (c : Claims) (s : ℕ) (touched : ℕ → Bool) (X Y : Image) → IsClaim W step c
+    → Touches s touched X Y
     → ((j : ℕ) → agreed (files_in X) j ≡ true → OldPointers s X j)
     → ((at : Home) → cell_slot W.files step ≡ Some at → ClaimsStand c Y at)
     → ((j : ℕ) → touched j ≡ false → agreed (files_in Y) j ≡ true → agreed (files_in X) j ≡ true)
@@ -40,7 +42,8 @@ abbrev pub LawGrow : Type 0
 LawGrow = (c : Claims) (X Y : Image) (i : ℕ) (p : Path) (at : Path → Pointer) → agreed (files_in X) i ≡ true
     → ((a : Path) → IsAbove a p → find Y i a ≡ answer.Holds (at a))
     → ((a : Path) → IsSlot a → (IsAbove a p → ⊥) → find Y i a ≡ find X i a)
-    → ((a : Path) → IsAbove a p → (find X i a ≡ answer.Holds (at a)) ⊎ (IsClaimed c (at a) × ((x : Pointer) → find X i a ≡ answer.Holds x → ⊥)))
+    → ((a : Path) → IsAbove a p
+    → (find X i a ≡ answer.Holds (at a)) ⊎ (IsClaimed c (at a) × ((x : Pointer) → find X i a ≡ answer.Holds x → ⊥)))
     → HeldMove c X Y i
 
 -- slots are cut off, or stay

@@ -23,17 +23,21 @@ LawPick = (W : World) (X : Image) (may : ℕ → List Cell) → W.blocks ≡ (su
     → ((b : ℕ) → b < W.blocks → Contains (may b) (cell_at X b)) → IsBelow (next_stamp W) X
 
 abbrev pub LawPointers : Type 0
-LawPointers = (W : World) (c : Claims) (X : Image) (i : ℕ) (a : Path) (x : Pointer) → 0 < next_stamp W → is_mountable X ≡ true → IsBelow (next_stamp W) X
+LawPointers = (W : World) (c : Claims) (X : Image) (i : ℕ) (a : Path) (x : Pointer) → 0 < next_stamp W
+    → is_mountable X ≡ true → IsBelow (next_stamp W) X
     → is_live (inode X i) ≡ true → IsSlot a
     → PointerFrom c X i a x → Numbered W c x.stamp
 
 -- the entries of a directory's cell in which one entry was written
 abbrev pub LawEntries : Type 0
-LawEntries = (old : Value) (n : ℕ) (bytes content : List ℕ) → length (bytes_in old) ≡ 1024 → length bytes ≡ 64 → with_entry old n bytes ≡ Bytes content
-    → (entry_in content (n % 16) ≡ entry_of bytes) × ((j : ℕ) → j < 16 → j ≢ n % 16 → entry_in content j ≡ entry_in (bytes_in old) j)
+LawEntries = (old : Value) (n : ℕ) (bytes content : List ℕ)
+    → length (bytes_in old) ≡ 1024 → length bytes ≡ 64 → with_entry old n bytes ≡ Bytes content
+    → (entry_in content (n % 16) ≡ entry_of bytes)
+    × ((j : ℕ) → j < 16 → j ≢ n % 16 → entry_in content j ≡ entry_in (bytes_in old) j)
 
 abbrev pub LawEntryNumbers : Type 0
-LawEntryNumbers = (W : World) (c : Claims) (old : Value) (place : ℕ) (bytes content : List ℕ) → length (bytes_in old) ≡ 1024 → length bytes ≡ 64
+LawEntryNumbers = (W : World) (c : Claims) (old : Value) (place : ℕ) (bytes content : List ℕ)
+    → length (bytes_in old) ≡ 1024 → length bytes ≡ 64
     → with_entry old place bytes ≡ Bytes content
     → IfSome (entry_of bytes) (λ (n : Entry). Numbered W c n.generation)
     → ((j : ℕ) → j < 16 → IfSome (entry_in (bytes_in old) j) (λ (n : Entry). Numbered W c n.generation))

@@ -1,7 +1,10 @@
 -- What a new entry leaves on the disk: its slot holds, or gets a block with or without its leaf.
-use Rattle.std.specs.Prelude.{◌≡◌, ◌≢◌, ℕ, ◌+◌, ◌-◌, ◌/◌, ◌%◌, ◌<◌, ◌≤◌, ◌⊎◌, true, false, List, [], ◌∷◌, length, Some, None, is_some, Contains}
-use Rattle.nofs_model.specs.Cells.{Cell, FileKind, Pointer, BackLink, tag_of, is_null, pointer_at, record_at, spelled_entry, entry_limit, Spells}
-use Rattle.nofs_model.specs.Image.{Image, cell_at, super_at, is_data_block, is_inode, inode, InRecord, Under, leaf, path_of, find, record_pointer}
+use Rattle.std.specs.Prelude.{◌≡◌, ◌≢◌, ℕ, ◌+◌, ◌-◌, ◌/◌, ◌%◌, ◌<◌, ◌≤◌, ◌⊎◌, true, false, List, [], ◌∷◌, length, Some}
+use Rattle.std.specs.Prelude.{None, is_some, Contains}
+use Rattle.nofs_model.specs.Cells.{Cell, FileKind, Pointer, BackLink, tag_of, is_null, pointer_at, record_at}
+use Rattle.nofs_model.specs.Cells.{spelled_entry, entry_limit, Spells}
+use Rattle.nofs_model.specs.Image.{Image, cell_at, super_at, is_data_block, is_inode, inode, InRecord, Under, leaf}
+use Rattle.nofs_model.specs.Image.{path_of, find, record_pointer}
 use Rattle.nofs_model.specs.Image.{FileState, Files, is_folder, is_special}
 use Rattle.nofs_model.specs.declared.image.path.PathAnswer.TheVariants as answer
 use Rattle.nofs_model.specs.declared.image.value.Value.TheVariants.{Hole, Bytes}
@@ -99,15 +102,18 @@ pub record EntryInHole (s : ℕ) (X Y : Image) (d n i : ℕ) (bytes : List ℕ) 
   pub content : Bytes (cell_at Y x.block).payload ≡ with_entry Hole n bytes
 
 abbrev pub LawLinkInPlace : Type 0
-LawLinkInPlace = (F : Files) (X Y : Image) (d g n i of b s : ℕ) (name : List ℕ) (f h : FileState) (x : Pointer) → LinkLies F X Y d g n i of b s name f h
+LawLinkInPlace = (F : Files) (X Y : Image) (d g n i of b s : ℕ) (name : List ℕ) (f h : FileState) (x : Pointer)
+    → LinkLies F X Y d g n i of b s name f h
     → EntryInPlace X Y d n i (spelled_entry i of name) x
-    → ((L : Mark) → is_data_block L.image x.block ≡ true → Proper (during L (link_given F d g name i of n b)) X x.block (cell_at Y x.block))
+    → ((L : Mark) → is_data_block L.image x.block ≡ true
+    → Proper (during L (link_given F d g name i of n b)) X x.block (cell_at Y x.block))
     × ((L : Mark) → super_at L.image ≡ super_at Y → is_data_block L.image (1 + (i - 1) / 4) ≡ false
     → Proper (during L (link_given F d g name i of n b)) X (1 + (i - 1) / 4) (cell_at Y (1 + (i - 1) / 4)))
     × FilesMatch (files_after F (link_given F d g name i of n b)) Y
 
 abbrev pub LawLinkInHole : Type 0
-LawLinkInHole = (F : Files) (X Y : Image) (d g n i of b s : ℕ) (name : List ℕ) (f h : FileState) (x y : Pointer) → LinkLies F X Y d g n i of b s name f h
+LawLinkInHole = (F : Files) (X Y : Image) (d g n i of b s : ℕ) (name : List ℕ) (f h : FileState) (x y : Pointer)
+    → LinkLies F X Y d g n i of b s name f h
     → EntryInHole s X Y d n i (spelled_entry i of name) x y
     → ((L : Mark) → is_data_block L.image x.block ≡ true → (inode Y d).generation ≡ f.generation
     → Proper (during L (link_given F d g name i of n b)) X x.block (cell_at Y x.block))
@@ -115,11 +121,13 @@ LawLinkInHole = (F : Files) (X Y : Image) (d g n i of b s : ℕ) (name : List �
     → ((j : ℕ) → is_inode L.image j ≡ true → 1 + (j - 1) / 4 ≡ t
     → (record_at c.payload ((j - 1) % 4) ≡ inode X j) ⊎ (record_at c.payload ((j - 1) % 4) ≡ inode Y j))
     → Contains (L.metas d (inode X d).generation) (meta_of (inode X d)) → L.stamps ≤ x.stamp
-    → L.stamps ≤ y.stamp ⊎ ((z : Pointer) × (find X d leaf ≡ answer.Holds z)) → Proper (during L (link_given F d g name i of n b)) X t c)
+    → L.stamps ≤ y.stamp ⊎ ((z : Pointer) × (find X d leaf ≡ answer.Holds z))
+    → Proper (during L (link_given F d g name i of n b)) X t c)
     × FilesMatch (files_after F (link_given F d g name i of n b)) Y
 
 -- Make: the claimed inode gets its first record
-pub record MakeLies (F : Files) (X Y : Image) (d g n s : ℕ) (name : List ℕ) (kind : FileKind) (claims : Claims) (f : FileState) : Type 0 where
+pub record MakeLies (F : Files) (X Y : Image) (d g n s : ℕ) (name : List ℕ) (kind : FileKind) (claims : Claims)
+    (f : FileState) : Type 0 where
   pub files : FilesMatch F X
   pub is : F d ≡ Some f
   pub generation : f.generation ≡ g
@@ -129,22 +137,30 @@ pub record MakeLies (F : Files) (X Y : Image) (d g n s : ℕ) (name : List ℕ) 
   pub young : f.generation < claims.generation
   pub range : n < entry_limit
   pub unpaired : is_paired F d n ≡ false
-  pub spells : Spells (spelled_entry claims.inode claims.generation name) (record { inode = claims.inode; generation = claims.generation; name = name })
+  pub spells : Spells (spelled_entry claims.inode claims.generation name)
+      (record { inode = claims.inode; generation = claims.generation; name = name })
   pub made : IsNewRecord Y claims.inode claims.generation kind (first_links d n g)
   pub old : (j : ℕ) → is_some (F j) ≡ true → OldPointers s X j
 
 abbrev pub LawMakeInPlace : Type 0
-LawMakeInPlace = (F : Files) (X Y : Image) (d g n s : ℕ) (name : List ℕ) (kind : FileKind) (claims : Claims) (f : FileState) (x : Pointer)
-    → MakeLies F X Y d g n s name kind claims f → EntryInPlace X Y d n claims.inode (spelled_entry claims.inode claims.generation name) x
-    → ((L : Mark) → is_data_block L.image x.block ≡ true → Proper (during L (make_given F d g name kind claims n)) X x.block (cell_at Y x.block))
-    × ((L : Mark) → super_at L.image ≡ super_at Y → is_data_block L.image (1 + (claims.inode - 1) / 4) ≡ false → L.stamps ≤ claims.generation
+LawMakeInPlace = (F : Files) (X Y : Image) (d g n s : ℕ) (name : List ℕ) (kind : FileKind) (claims : Claims)
+    (f : FileState) (x : Pointer)
+    → MakeLies F X Y d g n s name kind claims f
+    → EntryInPlace X Y d n claims.inode (spelled_entry claims.inode claims.generation name) x
+    → ((L : Mark) → is_data_block L.image x.block ≡ true
+    → Proper (during L (make_given F d g name kind claims n)) X x.block (cell_at Y x.block))
+    × ((L : Mark) → super_at L.image ≡ super_at Y
+    → is_data_block L.image (1 + (claims.inode - 1) / 4) ≡ false → L.stamps ≤ claims.generation
     → ((q : ℕ) → L.stands claims.inode q ≡ false)
-    → Proper (during L (make_given F d g name kind claims n)) X (1 + (claims.inode - 1) / 4) (cell_at Y (1 + (claims.inode - 1) / 4)))
+    → Proper (during L (make_given F d g name kind claims n)) X (1 + (claims.inode - 1) / 4)
+    (cell_at Y (1 + (claims.inode - 1) / 4)))
     × FilesMatch (files_after F (make_given F d g name kind claims n)) Y
 
 abbrev pub LawMakeInHole : Type 0
-LawMakeInHole = (F : Files) (X Y : Image) (d g n s : ℕ) (name : List ℕ) (kind : FileKind) (claims : Claims) (f : FileState) (y : Pointer)
-    → MakeLies F X Y d g n s name kind claims f → EntryInHole s X Y d n claims.inode (spelled_entry claims.inode claims.generation name) claims.cell y
+LawMakeInHole = (F : Files) (X Y : Image) (d g n s : ℕ) (name : List ℕ) (kind : FileKind) (claims : Claims)
+    (f : FileState) (y : Pointer)
+    → MakeLies F X Y d g n s name kind claims f
+    → EntryInHole s X Y d n claims.inode (spelled_entry claims.inode claims.generation name) claims.cell y
     → ((L : Mark) → is_data_block L.image claims.cell.block ≡ true → (inode Y d).generation ≡ f.generation
     → Proper (during L (make_given F d g name kind claims n)) X claims.cell.block (cell_at Y claims.cell.block))
     × ((L : Mark) (t : ℕ) (c : Cell) → 0 < t → is_data_block L.image t ≡ false
@@ -152,5 +168,6 @@ LawMakeInHole = (F : Files) (X Y : Image) (d g n s : ℕ) (name : List ℕ) (kin
     → (record_at c.payload ((j - 1) % 4) ≡ inode X j) ⊎ (record_at c.payload ((j - 1) % 4) ≡ inode Y j))
     → Contains (L.metas d (inode X d).generation) (meta_of (inode X d)) → L.stamps ≤ claims.cell.stamp
     → L.stamps ≤ y.stamp ⊎ ((z : Pointer) × (find X d leaf ≡ answer.Holds z))
-    → L.stamps ≤ claims.generation → ((q : ℕ) → L.stands claims.inode q ≡ false) → Proper (during L (make_given F d g name kind claims n)) X t c)
+    → L.stamps ≤ claims.generation → ((q : ℕ) → L.stands claims.inode q ≡ false)
+    → Proper (during L (make_given F d g name kind claims n)) X t c)
     × FilesMatch (files_after F (make_given F d g name kind claims n)) Y

@@ -1,13 +1,15 @@
 -- What the steps on names leave on the disk where the entry's slot holds.
 use Rattle.std.specs.Prelude.{◌≡◌, ◌≢◌, ℕ, ◌+◌, ◌-◌, ◌/◌, ◌<◌, ◌≤◌, ◌⊎◌, true, false, List, length, Some, None, is_some}
 use Rattle.nofs_model.specs.Cells.{Tag, Pointer, BackLink, Entry, tag_of, spelled_entry, entry_limit, Spells}
-use Rattle.nofs_model.specs.Image.{Image, cell_at, super_at, is_data_block, inode, Path, path_of, find, record_pointer, FileState, Files, is_folder}
+use Rattle.nofs_model.specs.Image.{Image, cell_at, super_at, is_data_block, inode, Path, path_of, find, record_pointer}
+use Rattle.nofs_model.specs.Image.{FileState, Files, is_folder}
 use Rattle.nofs_model.specs.Image.{entry_at, IsFree}
 use Rattle.nofs_model.specs.declared.image.path.PathAnswer.TheVariants as answer
 use Rattle.nofs_model.specs.declared.image.value.Value.TheVariants.{Bytes}
 use Rattle.nofs_history.specs.Meta.{Gone, Is}
 use Rattle.nofs_history.specs.Marks.{Mark}
-use Rattle.nofs_history.specs.Machine.{zero_bytes, is_paired, with_entry, link_to, without_link, drop_meta, drop_given, rename_given, files_after}
+use Rattle.nofs_history.specs.Machine.{zero_bytes, is_paired, with_entry, link_to, without_link, drop_meta, drop_given}
+use Rattle.nofs_history.specs.Machine.{rename_given, files_after}
 use Rattle.nofs_history.specs.History.{FilesMatch}
 use Rattle.nofs_crashlaw.specs.Images.Proper.{Proper}
 use Rattle.nofs_crashlaw.specs.Images.Moments.{during}
@@ -34,29 +36,36 @@ pub record NameWrites (s d i : ℕ) (X Y : Image) : Type 0 where
   pub records : (j : ℕ) → j ≢ d → j ≢ i → inode Y j ≡ inode X j
   pub blocks : (b : ℕ) → is_data_block X b ≡ true → (cell_at Y b ≡ cell_at X b)
       ⊎ ((IsFree X b × ((t : Tag) → tag_of (cell_at Y b).tag ≡ Some t → s ≤ t.stamp))
-      ⊎ ((tag_of (cell_at Y b).tag ≡ tag_of (cell_at X b).tag) × ((path : Path) × (x : Pointer) × (find X d path ≡ answer.Holds x) × (x.block ≡ b))))
+      ⊎ ((tag_of (cell_at Y b).tag ≡ tag_of (cell_at X b).tag)
+      × ((path : Path) × (x : Pointer) × (find X d path ≡ answer.Holds x) × (x.block ≡ b))))
 
 -- Rename: the found entry's name is written in place
-pub record RenameLies (F : Files) (X Y : Image) (d g n s : ℕ) (new : List ℕ) (f : FileState) (x : Pointer) (entry : Entry) : Type 0 where
+pub record RenameLies (F : Files) (X Y : Image) (d g n s : ℕ) (new : List ℕ) (f : FileState) (x : Pointer)
+    (entry : Entry) : Type 0 where
   pub files : FilesMatch F X
   pub is : F d ≡ Some f
   pub generation : f.generation ≡ g
   pub found : entry_at F d n ≡ Some entry
   pub held : find X d (path_of (n / 16)) ≡ answer.Holds x
   pub whole : length (cell_at X x.block).payload ≡ 1024
-  pub spells : Spells (spelled_entry entry.inode entry.generation new) (record { inode = entry.inode; generation = entry.generation; name = new })
-  pub content : Bytes (cell_at Y x.block).payload ≡ with_entry (Bytes (cell_at X x.block).payload) n (spelled_entry entry.inode entry.generation new)
+  pub spells : Spells (spelled_entry entry.inode entry.generation new)
+      (record { inode = entry.inode; generation = entry.generation; name = new })
+  pub content : Bytes (cell_at Y x.block).payload ≡ with_entry (Bytes (cell_at X x.block).payload) n
+      (spelled_entry entry.inode entry.generation new)
   pub writes : InPlace X Y x 0
   pub old : (j : ℕ) → is_some (F j) ≡ true → OldPointers s X j
 
 -- The write is proper, and the machine's files are those of the disk after it.
 abbrev pub LawRename : Type 0
-LawRename = (F : Files) (X Y : Image) (d g n s : ℕ) (new : List ℕ) (f : FileState) (x : Pointer) (entry : Entry) → RenameLies F X Y d g n s new f x entry
-    → ((L : Mark) → is_data_block L.image x.block ≡ true → Proper (during L (rename_given F d g new n)) X x.block (cell_at Y x.block))
+LawRename = (F : Files) (X Y : Image) (d g n s : ℕ) (new : List ℕ) (f : FileState) (x : Pointer) (entry : Entry)
+    → RenameLies F X Y d g n s new f x entry
+    → ((L : Mark)
+    → is_data_block L.image x.block ≡ true → Proper (during L (rename_given F d g new n)) X x.block (cell_at Y x.block))
     × FilesMatch (files_after F (rename_given F d g new n)) Y
 
 -- Drop: the found entry is cleared in place, and the record of its inode loses the link or becomes free
-pub record DropLies (F : Files) (X Y : Image) (d g n s : ℕ) (f h : FileState) (x : Pointer) (entry : Entry) : Type 0 where
+pub record DropLies (F : Files) (X Y : Image) (d g n s : ℕ) (f h : FileState) (x : Pointer)
+    (entry : Entry) : Type 0 where
   pub files : FilesMatch F X
   pub is : F d ≡ Some f
   pub generation : f.generation ≡ g
@@ -73,12 +82,15 @@ pub record DropLies (F : Files) (X Y : Image) (d g n s : ℕ) (f h : FileState) 
 
 -- The directory's cell is proper.
 abbrev pub LawDropEntry : Type 0
-LawDropEntry = (F : Files) (X Y : Image) (d g n s : ℕ) (f h : FileState) (x : Pointer) (entry : Entry) → DropLies F X Y d g n s f h x entry
-    → (L : Mark) → is_data_block L.image x.block ≡ true → Proper (during L (drop_given F d g n)) X x.block (cell_at Y x.block)
+LawDropEntry = (F : Files) (X Y : Image) (d g n s : ℕ) (f h : FileState) (x : Pointer) (entry : Entry)
+    → DropLies F X Y d g n s f h x entry
+    → (L : Mark)
+    → is_data_block L.image x.block ≡ true → Proper (during L (drop_given F d g n)) X x.block (cell_at Y x.block)
 
 -- Where the inode has another name: its record is proper, and the machine's files are those of the disk.
 abbrev pub LawDropName : Type 0
-LawDropName = (F : Files) (X Y : Image) (d g n s : ℕ) (f h : FileState) (x : Pointer) (entry : Entry) → DropLies F X Y d g n s f h x entry
+LawDropName = (F : Files) (X Y : Image) (d g n s : ℕ) (f h : FileState) (x : Pointer) (entry : Entry)
+    → DropLies F X Y d g n s f h x entry
     → drop_meta F entry.inode (link_to d n g) ≡ Is h.kind h.size (without_link (link_to d n g) h.links)
     → Relinked X Y entry.inode (without_link (link_to d n g) h.links)
     → ((L : Mark) → super_at L.image ≡ super_at Y → is_data_block L.image (1 + (entry.inode - 1) / 4) ≡ false
@@ -87,7 +99,8 @@ LawDropName = (F : Files) (X Y : Image) (d g n s : ℕ) (f h : FileState) (x : P
 
 -- Where it has none: so is its free record.
 abbrev pub LawDropFile : Type 0
-LawDropFile = (F : Files) (X Y : Image) (d g n s : ℕ) (f h : FileState) (x : Pointer) (entry : Entry) → DropLies F X Y d g n s f h x entry
+LawDropFile = (F : Files) (X Y : Image) (d g n s : ℕ) (f h : FileState) (x : Pointer) (entry : Entry)
+    → DropLies F X Y d g n s f h x entry
     → drop_meta F entry.inode (link_to d n g) ≡ Gone → (inode Y entry.inode).kind ≡ None
     → ((L : Mark) → super_at L.image ≡ super_at Y → is_data_block L.image (1 + (entry.inode - 1) / 4) ≡ false
     → ((q : ℕ) → L.stands entry.inode q ≡ true → h.generation ≡ q)

@@ -11,11 +11,14 @@ use Rattle.nofs_history.specs.History.{FilesMatch}
 
 -- Into a slot that holds, or into a hole, never into one that is lost; and no pair stands at its place.
 abbrev pub LawEntryPlace : Type 0
-LawEntryPlace = (F : Files) (X : Image) (d n : ℕ) (name : List ℕ) (f : FileState) → FilesMatch F X → F d ≡ Some f → place_for F d name ≡ Some n
-    → (n < entry_limit) × (is_paired F d n ≡ false) × (((x : Pointer) × (find X d (path_of (n / 16)) ≡ answer.Holds x)) ⊎
+LawEntryPlace = (F : Files) (X : Image) (d n : ℕ) (name : List ℕ) (f : FileState) → FilesMatch F X → F d ≡ Some f
+    → place_for F d name ≡ Some n
+    → (n < entry_limit) × (is_paired F d n ≡ false)
+    × (((x : Pointer) × (find X d (path_of (n / 16)) ≡ answer.Holds x)) ⊎
     (find X d (path_of (n / 16)) ≡ answer.Hole))
 
 -- The 64 bytes that spell an entry with a good name are read back as this entry.
 abbrev pub LawSpelledEntry : Type 0
-LawSpelledEntry = (inode generation : ℕ) (name : List ℕ) → 1 ≤ inode → inode < 2 ^ 32 → 1 ≤ generation → generation < 2 ^ 64 → NameOk name
+LawSpelledEntry = (inode generation : ℕ) (name : List ℕ)
+    → 1 ≤ inode → inode < 2 ^ 32 → 1 ≤ generation → generation < 2 ^ 64 → NameOk name
     → Spells (spelled_entry inode generation name) (record { inode = inode; generation = generation; name = name })

@@ -1,8 +1,12 @@
--- Why each number in a written cell is one that the step may write: a cell as before but for one piece, or a claimed one.
-use Rattle.std.specs.Prelude.{◌≡◌, ◌≢◌, ℕ, ◌+◌, ◌-◌, ◌/◌, ◌%◌, ◌<◌, ◌⊎◌, true, false, Some, List, length, IfSome, Contains}
-use Rattle.nofs_model.specs.Cells.{Cell, Content, Directory, Table, Tag, Pointer, BackLink, Record, Entry, tag_of, is_null, is_live, pointer_at}
+-- Why each number in a written cell is one that the step may write: a cell as before but for one piece, or a claimed
+-- one.
+use Rattle.std.specs.Prelude.{◌≡◌, ◌≢◌, ℕ, ◌+◌, ◌-◌, ◌/◌, ◌%◌, ◌<◌, ◌⊎◌, true, false, Some, List, length, IfSome}
+use Rattle.std.specs.Prelude.{Contains}
+use Rattle.nofs_model.specs.Cells.{Cell, Content, Directory, Table, Tag, Pointer, BackLink, Record, Entry, tag_of}
+use Rattle.nofs_model.specs.Cells.{is_null, is_live, pointer_at}
 use Rattle.nofs_model.specs.Cells.{record_at, entry_of}
-use Rattle.nofs_model.specs.Image.{Image, cell_at, is_mountable, is_data_block, is_inode, inode, Path, InRecord, Under, is_pointer_slot, kind_in}
+use Rattle.nofs_model.specs.Image.{Image, cell_at, is_mountable, is_data_block, is_inode, inode, Path, InRecord, Under}
+use Rattle.nofs_model.specs.Image.{is_pointer_slot, kind_in}
 use Rattle.nofs_model.specs.Image.{tag_for, find, record_pointer, IsBelow, IsSlot}
 use Rattle.nofs_model.specs.declared.image.path.PathAnswer.TheVariants as answer
 use Rattle.nofs_model.specs.declared.image.value.Value.{Value}
@@ -38,13 +42,16 @@ pub record CellFor (c : Claims) (X : Image) (i : ℕ) (a : Path) (x : Pointer) (
 
 -- Any content has numbers in its tag alone.
 abbrev pub LawContentNumbers : Type 0
-LawContentNumbers = (W : World) (c : Claims) (X : Image) (i : ℕ) (a : Path) (x : Pointer) (cell : Cell) → OldNumbers W X → CellFor c X i a x cell
+LawContentNumbers = (W : World) (c : Claims) (X : Image) (i : ℕ) (a : Path) (x : Pointer) (cell : Cell) → OldNumbers W X
+    → CellFor c X i a x cell
     → kind_in (inode X i) a ≡ Content → CellNumbers (Numbered W c) X x.block cell
 
 -- A block of pointers: each was there, is null, or is a claimed one.
 abbrev pub LawPointerNumbers : Type 0
-LawPointerNumbers = (W : World) (c : Claims) (X : Image) (i : ℕ) (a : Path) (x : Pointer) (cell : Cell) → OldNumbers W X → CellFor c X i a x cell
-    → is_pointer_slot a ≡ true → ((n : ℕ) → n < 64 → PointerFrom c X i (Under a n) (pointer_at cell.payload n)) → CellNumbers (Numbered W c) X x.block cell
+LawPointerNumbers = (W : World) (c : Claims) (X : Image) (i : ℕ) (a : Path) (x : Pointer) (cell : Cell) → OldNumbers W X
+    → CellFor c X i a x cell
+    → is_pointer_slot a ≡ true → ((n : ℕ) → n < 64 → PointerFrom c X i (Under a n) (pointer_at cell.payload n))
+    → CellNumbers (Numbered W c) X x.block cell
 
 -- what a directory's cell had before one entry is written: the bytes of its slot, or zeros in a claimed block
 pub data EntriesFrom (X : Image) (d : ℕ) (a : Path) (old : Value) : Type 0 where
@@ -53,7 +60,8 @@ pub data EntriesFrom (X : Image) (d : ℕ) (a : Path) (old : Value) : Type 0 whe
   Zeros : old ≡ Hole → EntriesFrom X d a old
 
 -- one entry of a directory's cell is written or cleared
-pub record EntryWritten (W : World) (c : Claims) (X : Image) (d : ℕ) (a : Path) (cell : Cell) (old : Value) (place : ℕ) (bytes : List ℕ) : Type 0 where
+pub record EntryWritten (W : World) (c : Claims) (X : Image) (d : ℕ) (a : Path) (cell : Cell) (old : Value) (place : ℕ)
+    (bytes : List ℕ) : Type 0 where
   pub before : EntriesFrom X d a old
   -- the entry's bytes
   pub whole : length bytes ≡ 64
@@ -64,9 +72,11 @@ pub record EntryWritten (W : World) (c : Claims) (X : Image) (d : ℕ) (a : Path
 
 -- A directory's cell with one entry written.
 abbrev pub LawDirectoryNumbers : Type 0
-LawDirectoryNumbers = (W : World) (c : Claims) (X : Image) (d : ℕ) (a : Path) (x : Pointer) (cell : Cell) (old : Value) (n : ℕ) (bytes : List ℕ)
+LawDirectoryNumbers = (W : World) (c : Claims) (X : Image) (d : ℕ) (a : Path) (x : Pointer) (cell : Cell) (old : Value)
+    (n : ℕ) (bytes : List ℕ)
     → OldNumbers W X → CellFor c X d a x cell
-    → kind_in (inode X d) a ≡ Directory → EntryWritten W c X d a cell old n bytes → CellNumbers (Numbered W c) X x.block cell
+    → kind_in (inode X d) a ≡ Directory → EntryWritten W c X d a cell old n bytes
+    → CellNumbers (Numbered W c) X x.block cell
 
 -- a record that is written in place of a live one
 pub record RecordFrom (W : World) (c : Claims) (X : Image) (j : ℕ) (r : Record) : Type 0 where
@@ -97,12 +107,15 @@ table_tag b = record { kind = Table; inode = 0; generation = 0; slot = b; stamp 
 
 -- A table cell, whichever of its four records a step has written.
 abbrev pub LawTableNumbers : Type 0
-LawTableNumbers = (W : World) (c : Claims) (X : Image) (b : ℕ) (cell : Cell) → OldNumbers W X → tag_of cell.tag ≡ Some (table_tag b)
-    → ((j : ℕ) → is_inode X j ≡ true → 1 + (j - 1) / 4 ≡ b → RecordWritten W c X j (record_at cell.payload ((j - 1) % 4))) → CellNumbers (Numbered W c) X b cell
+LawTableNumbers = (W : World) (c : Claims) (X : Image) (b : ℕ) (cell : Cell) → OldNumbers W X
+    → tag_of cell.tag ≡ Some (table_tag b)
+    → ((j : ℕ) → is_inode X j ≡ true → 1 + (j - 1) / 4 ≡ b
+    → RecordWritten W c X j (record_at cell.payload ((j - 1) % 4))) → CellNumbers (Numbered W c) X b cell
 
 -- At any moment of a step: each record of the cell is the one before it or the one after it, also between two writes.
 abbrev pub LawTableMoment : Type 0
-LawTableMoment = (W : World) (c : Claims) (X Y : Image) (b : ℕ) (cell : Cell) → OldNumbers W X → tag_of cell.tag ≡ Some (table_tag b)
+LawTableMoment = (W : World) (c : Claims) (X Y : Image) (b : ℕ) (cell : Cell) → OldNumbers W X
+    → tag_of cell.tag ≡ Some (table_tag b)
     → ((j : ℕ) → is_inode X j ≡ true → 1 + (j - 1) / 4 ≡ b → (record_at cell.payload ((j - 1) % 4) ≡ inode X j)
     ⊎ (record_at cell.payload ((j - 1) % 4) ≡ inode Y j))
     → ((j : ℕ) → RecordWritten W c X j (inode Y j)) → CellNumbers (Numbered W c) X b cell

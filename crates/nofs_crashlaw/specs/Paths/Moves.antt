@@ -1,8 +1,9 @@
--- The durable move of a file from a name in one directory to a name in another, as it stands among the entries of a history.
+-- The durable move of a file from a name in one directory to a name in another, as it stands among the entries of a
+-- history.
 --
--- A caller looks the file up under its old name, flushes, links the file under its new name, flushes again, and drops the
--- old name. Other callers' entries may stand between these. From the first flush on one of the two names finds the file in
--- every image that a crash may leave.
+-- A caller looks the file up under its old name, flushes, links the file under its new name, flushes again, and drops
+-- the old name. Other callers' entries may stand between these. From the first flush on one of the two names finds the
+-- file in every image that a crash may leave.
 use Rattle.std.specs.Prelude.{◌≡◌, ◌≢◌, ℕ, ◌/◌, ◌<◌, ◌≤◌, ◌⊎◌, List, [], ◌∷◌, ◌++◌, Some, slice_get}
 use Rattle.nofs_model.specs.Cells.{FileKind, Entry}
 use Rattle.nofs_model.specs.Image.{Image, entry_held, entry_at}
@@ -38,9 +39,12 @@ KeepsEntry given d g e entry = (v : Value) → given.slots d g (e / 16) ≡ Some
 abbrev pub named_entry : ℕ → ℕ → List ℕ → Entry
 named_entry i g name = record { inode = i; generation = g; name = name }
 
--- The entries of a move of (i, g) from `name` in (d, dg) to `new` in (d2, dg2): look, flush, link, and, where it came, drop
-pub record IsMove (B : Image) (H : List Entry1) (d dg : ℕ) (name : List ℕ) (d2 dg2 : ℕ) (new : List ℕ) (i g : ℕ) : Type 0 where
-  -- the places of these entries in the history. Where Drop has not come, `drop` is past `last`, to which the move is looked at
+-- The entries of a move of (i, g) from `name` in (d, dg) to `new` in (d2, dg2): look, flush, link, and, where it came,
+-- drop
+pub record IsMove (B : Image) (H : List Entry1) (d dg : ℕ) (name : List ℕ) (d2 dg2 : ℕ) (new : List ℕ)
+    (i g : ℕ) : Type 0 where
+  -- the places of these entries in the history. Where Drop has not come, `drop` is past `last`, to which the move is
+  -- looked at
   pub look : ℕ
   pub flush : ℕ
   pub link : ℕ
@@ -63,9 +67,9 @@ pub record IsMove (B : Image) (H : List Entry1) (d dg : ℕ) (name : List ℕ) (
   pub is_entry : entry_at (files_before B H look) d old_place ≡ Some old_entry
   pub new_place : ℕ
   pub is_new : place_for (files_before B H link) d2 new ≡ Some new_place
-  -- up to the last, no other entry between Look and Drop gives a cell in which the found entry is changed, and none after Link one in
-  -- which the new one is. (What an entry gives counts where it ended in WriteFault, too. Other names of i may come and go: they leave
-  -- the places of these two names in its record.)
+  -- up to the last, no other entry between Look and Drop gives a cell in which the found entry is changed, and none
+  -- after Link one in which the new one is. (What an entry gives counts where it ended in WriteFault, too. Other names
+  -- of i may come and go: they leave the places of these two names in its record.)
   pub old_stays : (p : ℕ) (e : Entry1) → look < p → p ≤ last → p ≢ link → p < drop → slice_get H p ≡ Some e
       → KeepsEntry (given_by (files_before B H p) e) d dg old_place old_entry
   pub new_stays : (p : ℕ) (e : Entry1) → link < p → p ≤ last → p ≢ drop → slice_get H p ≡ Some e
@@ -83,10 +87,12 @@ pub record HasDrop (H : List Entry1) (link drop d dg : ℕ) (name : List ℕ) : 
 abbrev pub DropIsLate : List Entry1 → ℕ → ℕ → ℕ → ℕ → ℕ → List ℕ → Type 0
 DropIsLate H link drop last d dg name = (last < drop) ⊎ HasDrop H link drop d dg name
 
--- From the end of the first flush to the end of the last entry the file is found under its old name or under its new one.
+-- From the end of the first flush to the end of the last entry the file is found under its old name or under its new
+-- one.
 abbrev pub LawMove : Type 0
 LawMove = (B : Image) (H : HistoryState) (d dg : ℕ) (name : List ℕ) (d2 dg2 : ℕ) (new : List ℕ) (i g : ℕ)
-    → IsHistory B H → (move : IsMove B H.entries d dg name d2 dg2 new i g) → DropIsLate H.entries move.link move.drop move.last d dg name
+    → IsHistory B H → (move : IsMove B H.entries d dg name d2 dg2 new i g)
+    → DropIsLate H.entries move.link move.drop move.last d dg name
     → (e : Entry1) → slice_get H.entries move.last ≡ Some e
     → (m : ℕ) → move.flushed.entry.to ≤ m → m ≤ e.to → (X : Image) → IsAllowed B H.entries m X
     → Finds X d dg name i g ⊎ Finds X d2 dg2 new i g
@@ -94,14 +100,16 @@ LawMove = (B : Image) (H : HistoryState) (d dg : ℕ) (name : List ℕ) (d2 dg2 
 -- From the end of the second flush on, and so at the end of Drop, it is found under its new name.
 abbrev pub LawMoved : Type 0
 LawMoved = (B : Image) (H : HistoryState) (d dg : ℕ) (name : List ℕ) (d2 dg2 : ℕ) (new : List ℕ) (i g : ℕ)
-    → IsHistory B H → (move : IsMove B H.entries d dg name d2 dg2 new i g) → (done : HasDrop H.entries move.link move.drop d dg name)
+    → IsHistory B H
+    → (move : IsMove B H.entries d dg name d2 dg2 new i g) → (done : HasDrop H.entries move.link move.drop d dg name)
     → (e : Entry1) → slice_get H.entries move.last ≡ Some e
     → (m : ℕ) → done.flushed.entry.to ≤ m → m ≤ e.to → (X : Image) → IsAllowed B H.entries m X
     → Finds X d2 dg2 new i g
 
 -- these five entries end the history: a move without another entry between its own, whose Look found (i, g), and whose
 -- flushes and Link were accepted
-pub record IsAlone (H : List Entry1) (d dg : ℕ) (name : List ℕ) (d2 dg2 : ℕ) (new : List ℕ) (i g : ℕ) (kind : FileKind) : Type 0 where
+pub record IsAlone (H : List Entry1) (d dg : ℕ) (name : List ℕ) (d2 dg2 : ℕ) (new : List ℕ) (i g : ℕ)
+    (kind : FileKind) : Type 0 where
   pub before : List Entry1
   pub look : Entry1
   pub first : Entry1
@@ -119,6 +127,8 @@ pub record IsAlone (H : List Entry1) (d dg : ℕ) (name : List ℕ) (d2 dg2 : �
 
 -- Such a move is one of which the laws speak: where no other entry comes, nothing is asked of any.
 abbrev pub LawAlone : Type 0
-LawAlone = (B : Image) (H : HistoryState) (d dg : ℕ) (name : List ℕ) (d2 dg2 : ℕ) (new : List ℕ) (i g : ℕ) (kind : FileKind)
+LawAlone = (B : Image) (H : HistoryState) (d dg : ℕ) (name : List ℕ) (d2 dg2 : ℕ) (new : List ℕ) (i g : ℕ)
+    (kind : FileKind)
     → IsHistory B H → (alone : IsAlone H.entries d dg name d2 dg2 new i g kind)
-    → (move : IsMove B H.entries d dg name d2 dg2 new i g) × HasDrop H.entries move.link move.drop d dg name × (slice_get H.entries move.last ≡ Some alone.drop)
+    → (move : IsMove B H.entries d dg name d2 dg2 new i g) × HasDrop H.entries move.link move.drop d dg name
+    × (slice_get H.entries move.last ≡ Some alone.drop)

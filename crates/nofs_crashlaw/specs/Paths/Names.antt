@@ -27,18 +27,23 @@ pub record SureName (B : Image) (H : List Entry1) (m i g b : ℕ) (link : BackLi
   pub sure : SureLink B H m i g b link
   pub open sure use *
   pub entry : (v : Value) → Contains (since B H m link.directory link.generation (link.entry / 16)) v
-      → (content : List ℕ) × (v ≡ Bytes content) × (entry_in content (link.entry % 16) ≡ Some (record { inode = i; generation = g; name = name }))
+      → (content : List ℕ) × (v ≡ Bytes content)
+      × (entry_in content (link.entry % 16) ≡ Some (record { inode = i; generation = g; name = name }))
 
 -- names that every version has lead from the root to this inode
 pub data SureChain (B : Image) (H : List Entry1) (m : ℕ) : ℕ → Type 0 where
-  SureRoot : stands B H m 1 1 ≡ true → ((meta : Meta) → Contains (since_meta B H m 1 1) meta → IsFolderMeta meta) → SureChain B H m 1
-  SureEntry : {i : ℕ} (g b : ℕ) (link : BackLink) → is_special i ≡ false → SureLink B H m i g b link → SureChain B H m link.directory → SureChain B H m i
+  SureRoot : stands B H m 1 1 ≡ true → ((meta : Meta) → Contains (since_meta B H m 1 1) meta → IsFolderMeta meta)
+      → SureChain B H m 1
+  SureEntry : {i : ℕ} (g b : ℕ) (link : BackLink) → is_special i ≡ false → SureLink B H m i g b link
+      → SureChain B H m link.directory → SureChain B H m i
 
 -- Such an inode is agreed in each image that a crash may leave. A directory on the way may get other names.
 abbrev pub LawSureChain : Type 0
-LawSureChain = (B : Image) (H : List Entry1) (m : ℕ) (X : Image) (i : ℕ) → IsAllowed B H m X → SureChain B H m i → agreed (files_in X) i ≡ true
+LawSureChain = (B : Image) (H : List Entry1) (m : ℕ) (X : Image) (i : ℕ) → IsAllowed B H m X → SureChain B H m i
+    → agreed (files_in X) i ≡ true
 
 -- And a name in it that every version has finds its file.
 abbrev pub LawSureName : Type 0
 LawSureName = (B : Image) (H : List Entry1) (m : ℕ) (X : Image) (i g b : ℕ) (link : BackLink) (name : List ℕ)
-    → IsAllowed B H m X → SureChain B H m link.directory → SureName B H m i g b link name → Finds X link.directory link.generation name i g
+    → IsAllowed B H m X → SureChain B H m link.directory → SureName B H m i g b link name
+    → Finds X link.directory link.generation name i g

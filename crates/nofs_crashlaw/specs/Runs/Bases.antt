@@ -18,7 +18,8 @@ pub record IsBase (B : Image) (first : ℕ) : Type 0 where
 
 -- The raise of the mount number of a sound image leaves one, with 0 as the first serial or any up to the last.
 abbrev pub LawMounted : Type 0
-LawMounted = (X Y : Image) (first : ℕ) → IsSound X → Raised X Y → HasSuperCell Y → IsSized Y → (super_at Y).mount < 2 ^ 24 → first ≤ 2 ^ 40 → IsBase Y first
+LawMounted = (X Y : Image) (first : ℕ) → IsSound X → Raised X Y → HasSuperCell Y → IsSized Y
+    → (super_at Y).mount < 2 ^ 24 → first ≤ 2 ^ 40 → IsBase Y first
 
 -- a history of the machine over such a base
 pub record IsHistory (B : Image) (H : HistoryState) : Type 0 where

@@ -2,7 +2,8 @@
 use Rattle.std.specs.Prelude.{◌≡◌, ℕ, ◌<◌, ◌≤◌, ◌⊎◌, Bool, true, false, Some}
 use Rattle.nofs_model.specs.declared.image.path.PathAnswer.TheVariants as answer
 use Rattle.nofs_model.specs.Cells.{Tag, Pointer, tag_of, pointer_at, is_live}
-use Rattle.nofs_model.specs.Image.{Image, cell_at, is_data_block, inode, Path, InRecord, Under, record_pointer, find, pointer, IsSlot, IsFree}
+use Rattle.nofs_model.specs.Image.{Image, cell_at, is_data_block, inode, Path, InRecord, Under, record_pointer, find}
+use Rattle.nofs_model.specs.Image.{pointer, IsSlot, IsFree}
 
 -- each block keeps its tag, or was free and has a stamp of at least s
 pub record Rewrites (s : ℕ) (X Y : Image) : Type 0 where
@@ -33,7 +34,8 @@ pub record Touches (s : ℕ) (touched : ℕ → Bool) (X Y : Image) : Type 0 whe
   pub blocks : (b : ℕ) → is_data_block X b ≡ true → (cell_at Y b ≡ cell_at X b)
       ⊎ ((IsFree X b × ((t : Tag) → tag_of (cell_at Y b).tag ≡ Some t → s ≤ t.stamp))
       ⊎ ((tag_of (cell_at Y b).tag ≡ tag_of (cell_at X b).tag) ×
-      ((i : ℕ) × (path : Path) × (x : Pointer) × (touched i ≡ true) × (find X i path ≡ answer.Holds x) × (x.block ≡ b))))
+      ((i : ℕ) × (path : Path) × (x : Pointer) × (touched i ≡ true) × (find X i path ≡ answer.Holds x)
+      × (x.block ≡ b))))
 
 -- kind, generation, size and links of an inode stay
 pub record SameMeta (X Y : Image) (j : ℕ) : Type 0 where

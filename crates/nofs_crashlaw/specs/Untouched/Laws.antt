@@ -10,11 +10,13 @@ use Rattle.nofs_crashlaw.specs.Files.Growth.{Grows}
 
 -- The file of an agreed inode that a step does not touch stays.
 abbrev pub LawUntouched : Type 0
-LawUntouched = (s : ℕ) (touched : ℕ → Bool) (X Y : Image) (j : ℕ) → Touches s touched X Y → touched j ≡ false → agreed (files_in X) j ≡ true
+LawUntouched = (s : ℕ) (touched : ℕ → Bool) (X Y : Image) (j : ℕ) → Touches s touched X Y
+    → touched j ≡ false → agreed (files_in X) j ≡ true
     → OldPointers s X j → is_live (inode X j) ≡ true
     → SameFile (files_in X j) (files_in Y j)
 
--- Where slot k gets its block, each slot of its path holds, every other is found as before, and so are the other values.
+-- Where slot k gets its block, each slot of its path holds, every other is found as before, and so are the other
+-- values.
 pub record Grown (X Y : Image) (i k : ℕ) (at : Path → Pointer) : Type 0 where
   pub on : (a : Path) → IsAbove a (path_of k) → find Y i a ≡ answer.Holds (at a)
   pub off : (a : Path) → IsSlot a → (IsAbove a (path_of k) → ⊥) → find Y i a ≡ find X i a
@@ -22,6 +24,7 @@ pub record Grown (X Y : Image) (i k : ℕ) (at : Path → Pointer) : Type 0 wher
   pub beside : (l : ℕ) → l < slot_limit → l ≢ k → value Y i l ≡ value X i l
 
 abbrev pub LawGrown : Type 0
-LawGrown = (s : ℕ) (X Y : Image) (i k : ℕ) (at : Path → Pointer) → Rewrites s X Y → agreed (files_in X) i ≡ true → SameIdentity X Y i → OldPointers s X i
+LawGrown = (s : ℕ) (X Y : Image) (i k : ℕ) (at : Path → Pointer) → Rewrites s X Y
+    → agreed (files_in X) i ≡ true → SameIdentity X Y i → OldPointers s X i
     → k < slot_limit → Grows s X Y i (path_of k) at
     → Grown X Y i k at

@@ -1,8 +1,10 @@
 -- What reads give, before and after a write.
-use Rattle.std.proofs.Common.{◌≡◌, ◌≢◌, ◌⊎◌, ℕ, ◌+◌, ◌-◌, ◌*◌, ◌<◌, ◌≤◌, max, List, length, take, drop, set, arith, refl, sym, ap, ◌∙◌, inl, inr}
+use Rattle.std.proofs.Common.{◌≡◌, ◌≢◌, ◌⊎◌, ℕ, ◌+◌, ◌-◌, ◌*◌, ◌<◌, ◌≤◌, max, List, length, take, drop, set, arith}
+use Rattle.std.proofs.Common.{refl, sym, ap, ◌∙◌, inl, inr}
 use Rattle.std.specs.Prelude.{slice_index, slice_range}
 use Rattle.std.proofs.lemmas.Bool.{cases_eq, cases_lt}
-use Rattle.std.proofs.lemmas.List.{ext_get_or, get_or-drop, length-drop, get_or-set_other, get_or-set_same, get_or-take, length-take-le}
+use Rattle.std.proofs.lemmas.List.{ext_get_or, get_or-drop, length-drop, get_or-set_other, get_or-set_same, get_or-take}
+use Rattle.std.proofs.lemmas.List.{length-take-le}
 use Rattle.std.proofs.lemmas.List.FromFn.{get_or-map-range_with_len, length-map-range_with_len}
 use Rattle.nofs_disk.specs.Number.{put_bytes}
 use Rattle.nofs_disk.specs.Parts.{length-put_bytes}
@@ -16,7 +18,8 @@ use Rattle.nofs_filedisk.specs.declared.run.Run.{Run}
 use Rattle.nofs_filedisk.proofs.OnMoving.Bytes.{put-before, put-behind, put-inside}
 
 -- a part of some bytes
-part-is : (bytes part : List ℕ) (at n : ℕ) → length part ≡ n → ((k : ℕ) → k < n → slice_index bytes (at + k) ≡ slice_index part k) → part_of bytes at n ≡ part
+part-is : (bytes part : List ℕ) (at n : ℕ)
+    → length part ≡ n → ((k : ℕ) → k < n → slice_index bytes (at + k) ≡ slice_index part k) → part_of bytes at n ≡ part
 unfolding part_of
 part-is bytes part at n size same =
     let len = length-map-range_with_len (slice_index bytes) at n in
@@ -25,7 +28,8 @@ part-is bytes part at n size same =
     get_or-map-range_with_len (slice_index bytes) at n k (at + k) 0 small refl ∙ same k small)
 
 -- the same bytes at another place
-part-same : (a b : List ℕ) (p q n : ℕ) → ((k : ℕ) → k < n → slice_index a (p + k) ≡ slice_index b (q + k)) → part_of a p n ≡ part_of b q n
+part-same : (a b : List ℕ) (p q n : ℕ) → ((k : ℕ) → k < n → slice_index a (p + k) ≡ slice_index b (q + k))
+    → part_of a p n ≡ part_of b q n
 unfolding part_of
 part-same a b p q n same =
     let one = length-map-range_with_len (slice_index a) p n in
@@ -35,7 +39,8 @@ part-same a b p q n same =
     get_or-map-range_with_len (slice_index a) p n k (p + k) 0 small refl ∙ same k small
     ∙ sym (get_or-map-range_with_len (slice_index b) q n k (q + k) 0 small refl))
 
-pub cell-same : (a b : List ℕ) (i j : ℕ) → ((k : ℕ) → k < 1056 → slice_index a (1056 * i + k) ≡ slice_index b (1056 * j + k)) → cell_in a i ≡ cell_in b j
+pub cell-same : (a b : List ℕ) (i j : ℕ)
+    → ((k : ℕ) → k < 1056 → slice_index a (1056 * i + k) ≡ slice_index b (1056 * j + k)) → cell_in a i ≡ cell_in b j
 unfolding cell_in
 cell-same a b i j same =
     let one = part-same a b (1056 * i) (1056 * j) 1024 (λ k low. same k (omega arith)) in
@@ -46,7 +51,8 @@ cell-same a b i j same =
     λ x. record { payload = one x; tag = two x }
 
 -- the cell that was put at its place
-pub cell-put : (bytes new : List ℕ) (j at : ℕ) (cell : Cell) → at ≡ 1056 * j → at + 1056 ≤ length bytes → length cell.payload ≡ 1024 → length cell.tag ≡ 32
+pub cell-put : (bytes new : List ℕ) (j at : ℕ) (cell : Cell) → at ≡ 1056 * j → at + 1056 ≤ length bytes
+    → length cell.payload ≡ 1024 → length cell.tag ≡ 32
     → new ≡ put_bytes (at + 1024) cell.tag (put_bytes at cell.payload bytes) → cell_in new j ≡ cell
 unfolding cell_in
 cell-put bytes new j at cell is fits payload tag put =
@@ -64,8 +70,10 @@ cell-put bytes new j at cell is fits payload tag put =
     λ x. record { payload = one x; tag = two x }
 
 -- and any other
-pub cell-beside : (bytes new : List ℕ) (j at k : ℕ) (cell : Cell) → at ≡ 1056 * j → at + 1056 ≤ length bytes → length cell.payload ≡ 1024
-    → length cell.tag ≡ 32 → new ≡ put_bytes (at + 1024) cell.tag (put_bytes at cell.payload bytes) → k ≢ j → cell_in new k ≡ cell_in bytes k
+pub cell-beside : (bytes new : List ℕ) (j at k : ℕ) (cell : Cell) → at ≡ 1056 * j → at + 1056 ≤ length bytes
+    → length cell.payload ≡ 1024
+    → length cell.tag ≡ 32 → new ≡ put_bytes (at + 1024) cell.tag (put_bytes at cell.payload bytes)
+    → k ≢ j → cell_in new k ≡ cell_in bytes k
 cell-beside bytes new j at k cell is fits payload tag put other =
     let mid = put_bytes at cell.payload bytes in
     let len : length mid ≡ length bytes = length-put_bytes at cell.payload bytes (omega arith) in
@@ -76,20 +84,23 @@ cell-beside bytes new j at k cell is fits payload tag put other =
           put-before (at + 1024) (1056 * k + x) cell.tag mid (omega arith) (omega arith)
           ∙ put-before at (1056 * k + x) cell.payload bytes (omega arith) (omega arith)
       | inr over ↦
-          let above : j < k = elim (cases_lt j k) [ inl strictly ↦ strictly | inr same ↦ absurd (other (omega arith)) ] in
+          let above : j < k =
+          elim (cases_lt j k) [ inl strictly ↦ strictly | inr same ↦ absurd (other (omega arith)) ] in
           put-behind (at + 1024) (1056 * k + x) cell.tag mid (omega arith) (omega arith)
           ∙ put-behind at (1056 * k + x) cell.payload bytes (omega arith) (omega arith)
     ])
 
 -- reads of a block that the run has, and of another
-pub read-inside : (bytes : List ℕ) (run : Run) (now : List Cell) (block : ℕ) (into : Cell) → run.first ≤ block → block < run.first + run.count
+pub read-inside : (bytes : List ℕ) (run : Run) (now : List Cell) (block : ℕ) (into : Cell)
+    → run.first ≤ block → block < run.first + run.count
     → into ≡ cell_in run.bytes.items (block - run.first) → IsPresent bytes run now → into ≡ cell_at now block
 read-inside bytes run now block into low high is p =
     let e : run.first + (block - run.first) ≡ block = omega arith in
     is ∙ sym (p.inside (block - run.first) (omega arith)) ∙ ap (cell_at now) e
 
 pub read-outside : (bytes : List ℕ) (run : Run) (now : List Cell) (block : ℕ) (into : Cell) → block < 1048576
-    → (block < run.first) ⊎ (run.first + run.count ≤ block) → into ≡ cell_in bytes block → IsPresent bytes run now → into ≡ cell_at now block
+    → (block < run.first) ⊎ (run.first + run.count ≤ block) → into ≡ cell_in bytes block → IsPresent bytes run now
+    → into ≡ cell_at now block
 read-outside bytes run now block into there (inl low) is p = is ∙ sym (p.before block there low)
 read-outside bytes run now block into there (inr high) is p = is ∙ sym (p.behind block there high)
 
@@ -102,12 +113,14 @@ present-first bytes run none = record {
 }
 
 -- the file has every cell where there is no run
-pub present-all : (bytes : List ℕ) (run : Run) (now : List Cell) → run.count ≡ 0 → IsPresent bytes run now → (b : ℕ) → b < 1048576
+pub present-all : (bytes : List ℕ) (run : Run) (now : List Cell) → run.count ≡ 0 → IsPresent bytes run now
+    → (b : ℕ) → b < 1048576
     → cell_at now b ≡ cell_in bytes b
 present-all bytes run now none p b there =
     elim (cases_lt b run.first) [ inl low ↦ p.before b there low | inr high ↦ p.behind b there (omega arith) ]
 
-pub present-none : (bytes : List ℕ) (next : Run) (now : List Cell) → next.count ≡ 0 → ((b : ℕ) → b < 1048576 → cell_at now b ≡ cell_in bytes b)
+pub present-none : (bytes : List ℕ) (next : Run) (now : List Cell)
+    → next.count ≡ 0 → ((b : ℕ) → b < 1048576 → cell_at now b ≡ cell_in bytes b)
     → IsPresent bytes next now
 present-none bytes next now none all = record {
   inside = λ k low. absurd (omega arith);
@@ -116,7 +129,8 @@ present-none bytes next now none all = record {
 }
 
 -- the run was put into the file
-pub present-out : (a b : List ℕ) (run : Run) (now : List Cell) → IsPut (1056 * run.first) (take (1056 * run.count) run.bytes.items) a b → IsPresent a run now
+pub present-out : (a b : List ℕ) (run : Run) (now : List Cell)
+    → IsPut (1056 * run.first) (take (1056 * run.count) run.bytes.items) a b → IsPresent a run now
     → (block : ℕ) → block < 1048576 → cell_at now block ≡ cell_in b block
 present-out a b run now put p block there =
     let part = take (1056 * run.count) run.bytes.items in
@@ -124,7 +138,8 @@ present-out a b run now put p block there =
     let few = run.few in
     let len : length part ≡ 1056 * run.count = length-take-le (1056 * run.count) run.bytes.items (omega arith) in
     elim (cases_lt block run.first) [
-      | inl low ↦ p.before block there low ∙ cell-same a b block block (λ x small. sym (put.before (1056 * block + x) (omega arith)))
+      | inl low ↦ p.before block there low
+          ∙ cell-same a b block block (λ x small. sym (put.before (1056 * block + x) (omega arith)))
       | inr high ↦ elim (cases_lt block (run.first + run.count)) [
         | inl inside ↦
             let k : ℕ = block - run.first in
@@ -134,12 +149,14 @@ present-out a b run now put p block there =
             let place : 1056 * run.first + (1056 * (block - run.first) + x) ≡ 1056 * block + x = omega arith in
             sym (get_or-take (1056 * run.count) run.bytes.items (1056 * (block - run.first) + x) 0 (omega arith))
             ∙ sym (put.inside (1056 * (block - run.first) + x) (omega arith)) ∙ ap (slice_index b) place)
-        | inr behind ↦ p.behind block there behind ∙ cell-same a b block block (λ x small. sym (put.behind (1056 * block + x) (omega arith)))
+        | inr behind ↦ p.behind block there behind
+            ∙ cell-same a b block block (λ x small. sym (put.behind (1056 * block + x) (omega arith)))
       ]
     ]
 
 -- the run was put into the file in part
-pub present-partly : (a b : List ℕ) (run : Run) (now : List Cell) → IsPartlyPut (1056 * run.first) (take (1056 * run.count) run.bytes.items) a b
+pub present-partly : (a b : List ℕ) (run : Run) (now : List Cell)
+    → IsPartlyPut (1056 * run.first) (take (1056 * run.count) run.bytes.items) a b
     → IsPresent a run now → IsPresent b run now
 present-partly a b run now partly p =
     let part = take (1056 * run.count) run.bytes.items in
@@ -150,14 +167,19 @@ present-partly a b run now partly p =
     let short : length (take partly.count part) ≡ partly.count = length-take-le partly.count part fits in
     record {
       inside = p.inside;
-      before = λ k there low. p.before k there low ∙ cell-same a b k k (λ x small. sym (partly.put.before (1056 * k + x) (omega arith)));
-      behind = λ k there high. p.behind k there high ∙ cell-same a b k k (λ x small. sym (partly.put.behind (1056 * k + x) (omega arith)));
+      before = λ k there low. p.before k there low
+          ∙ cell-same a b k k (λ x small. sym (partly.put.before (1056 * k + x) (omega arith)));
+      behind = λ k there high. p.behind k there high
+          ∙ cell-same a b k k (λ x small. sym (partly.put.behind (1056 * k + x) (omega arith)));
     }
 
 -- a cell was put into the run
-pub present-put : (bytes : List ℕ) (run next : Run) (now : List Cell) (block : ℕ) (cell : Cell) → HasPlace run block → block < 1048576
-    → next.first ≡ run.first → next.count ≡ max run.count (block - run.first + 1) → cell_in next.bytes.items (block - run.first) ≡ cell
-    → ((k : ℕ) → k ≢ block - run.first → cell_in next.bytes.items k ≡ cell_in run.bytes.items k) → length now ≡ 1048576 → IsPresent bytes run now
+pub present-put : (bytes : List ℕ) (run next : Run) (now : List Cell) (block : ℕ) (cell : Cell) → HasPlace run block
+    → block < 1048576
+    → next.first ≡ run.first → next.count ≡ max run.count (block - run.first + 1)
+    → cell_in next.bytes.items (block - run.first) ≡ cell
+    → ((k : ℕ) → k ≢ block - run.first → cell_in next.bytes.items k ≡ cell_in run.bytes.items k)
+    → length now ≡ 1048576 → IsPresent bytes run now
     → IsPresent bytes next (set now block cell)
 present-put bytes run next now block cell has there first count here others size p =
     let low = has.low in
@@ -172,7 +194,8 @@ present-put bytes run next now block cell has there first count here others size
             let place : next.first + k ≡ run.first + k = omega arith in
             let apart : run.first + k ≢ block = λ e. other (omega arith) in
             let within : k < run.count = inside_old k run.count (block - run.first) (omega arith) (omega arith) other in
-            ap (cell_at (set now block cell)) place ∙ get_or-set_other now block (run.first + k) cell no_cell apart ∙ p.inside k within ∙ sym (others k other)
+            ap (cell_at (set now block cell)) place ∙ get_or-set_other now block (run.first + k) cell no_cell apart
+            ∙ p.inside k within ∙ sym (others k other)
       ];
       before = λ b there_b under.
           let apart : b ≢ block = λ e. omega arith in
@@ -195,13 +218,16 @@ range-is bytes at n fits =
     let rest = length-drop at bytes in
     let len : length (take n (drop at bytes)) ≡ n = length-take-le n (drop at bytes) (omega arith) in
     ap (λ k. take k (drop at bytes)) cut
-    ∙ sym (part-is bytes (take n (drop at bytes)) at n len (λ k low. sym (get_or-take n (drop at bytes) k 0 low ∙ get_or-drop at bytes k 0)))
+    ∙ sym (part-is bytes (take n (drop at bytes)) at n len
+    (λ k low. sym (get_or-take n (drop at bytes) k 0 low ∙ get_or-drop at bytes k 0)))
 
-pub cell-taken : (bytes : List ℕ) (j : ℕ) (cell : Cell) → 1056 * j + 1056 ≤ length bytes → cell.payload ≡ slice_range bytes (1056 * j) (1056 * j + 1024)
+pub cell-taken : (bytes : List ℕ) (j : ℕ) (cell : Cell) → 1056 * j + 1056 ≤ length bytes
+    → cell.payload ≡ slice_range bytes (1056 * j) (1056 * j + 1024)
     → cell.tag ≡ slice_range bytes (1056 * j + 1024) (1056 * j + 1056) → cell ≡ cell_in bytes j
 unfolding cell_in
 cell-taken bytes j cell fits payload tag =
     let end : 1056 * j + 1056 ≡ 1056 * j + 1024 + 32 = omega arith in
     let one = payload ∙ range-is bytes (1056 * j) 1024 (omega arith) in
-    let two = tag ∙ ap (λ k. slice_range bytes (1056 * j + 1024) k) end ∙ range-is bytes (1056 * j + 1024) 32 (omega arith) in
+    let two = tag ∙ ap (λ k. slice_range bytes (1056 * j + 1024) k) end
+    ∙ range-is bytes (1056 * j + 1024) 32 (omega arith) in
     λ x. record { payload = one x; tag = two x }

@@ -12,7 +12,8 @@ use Rattle.nofs_versions.proofs.OnMemory.Cells.{after_none, settled_none}
 use Rattle.nofs_versions.proofs.OnMemory.Sizes.{sized_base}
 use Rattle.nofs_filedisk.specs.Bytes.{HostFileState, IsHostFile, IsSynced}
 use Rattle.nofs_filedisk.specs.Cells.{cell_in, part_of}
-use Rattle.nofs_filedisk.specs.Files.{FileSized, LastsWithin, at-cells_in, cells_in, file_held, file_state, length-cells_in}
+use Rattle.nofs_filedisk.specs.Files.{FileSized, LastsWithin, at-cells_in, cells_in, file_held, file_state}
+use Rattle.nofs_filedisk.specs.Files.{length-cells_in}
 use Rattle.nofs_filedisk.specs.Present.{IsPresent}
 use Rattle.nofs_filedisk.specs.declared.run.Run.{Run}
 use Rattle.std.proofs.lemmas.List.FromFn.{get_or-map-range_with_len, length-map-range_with_len}
@@ -47,7 +48,8 @@ sized_part bytes at n small =
 
 sized_in : (bytes : List ℕ) (b : ℕ) → ((k : ℕ) → slice_index bytes k < 256) → IsSizedCell (cell_in bytes b)
 unfolding cell_in
-sized_in bytes b small = record { payload = sized_part bytes (1056 * b) 1024 small; tag = sized_part bytes (1056 * b + 1024) 32 small }
+sized_in bytes b small =
+    record { payload = sized_part bytes (1056 * b) 1024 small; tag = sized_part bytes (1056 * b + 1024) 32 small }
 
 pub start_sized : (file : HostFileState) (calls : List Call) → IsHostFile file → calls ≡ [] → FileSized file calls
 start_sized file calls is none =
@@ -56,25 +58,31 @@ start_sized file calls is none =
     let F : Cell → Type 0 = λ x. IsSizedCell x in
     subst F (sym (at-cells_in file.bytes b (omega arith))) (sized_in file.bytes b is.small))
 
-pub start_now : (file : HostFileState) (calls : List Call) → calls ≡ [] → (file_held file calls).now ≡ cells_in file.bytes
+pub start_now : (file : HostFileState) (calls : List Call)
+    → calls ≡ [] → (file_held file calls).now ≡ cells_in file.bytes
 start_now file calls none = after_none (cells_in file.bytes) calls none
 
-pub start_present : (file : HostFileState) (run : Run) (calls : List Call) → calls ≡ [] → run.count ≡ 0 → IsPresent file.bytes run (file_held file calls).now
+pub start_present : (file : HostFileState) (run : Run) (calls : List Call)
+    → calls ≡ [] → run.count ≡ 0 → IsPresent file.bytes run (file_held file calls).now
 start_present file run calls none empty =
     let F : List Cell → Type 0 = λ l. IsPresent file.bytes run l in
     subst F (sym (start_now file calls none)) (present-first file.bytes run empty)
 
-pub start_settled : (file : HostFileState) (calls : List Call) (spare : ℕ) → calls ≡ [] → IsSettled (file_state file file calls spare)
+pub start_settled : (file : HostFileState) (calls : List Call) (spare : ℕ)
+    → calls ≡ [] → IsSettled (file_state file file calls spare)
 start_settled file calls spare none =
     let len = length-cells_in file.bytes in
     λ b c low has. settled_none 0 (cells_in file.bytes) calls spare file.faults none b c (omega arith) has
 
-pub start_lasting : (file : HostFileState) (calls : List Call) → IsSynced file → calls ≡ [] → LastsWithin file file calls
+pub start_lasting : (file : HostFileState) (calls : List Call) → IsSynced file
+    → calls ≡ [] → LastsWithin file file calls
 start_lasting file calls synced none t b there =
-    ∣ has_present file calls b _ there (synced t b ∙ sym (at-cells_in file.bytes b there) ∙ ap (λ l. cell_at l b) (sym (start_now file calls none))) ∣₁
+    ∣ has_present file calls b _ there
+    (synced t b ∙ sym (at-cells_in file.bytes b there) ∙ ap (λ l. cell_at l b) (sym (start_now file calls none))) ∣₁
 
 -- the durable cells are an image that a crash may leave
-pub durable_left : (file first : HostFileState) (calls : List Call) (spare : ℕ) → LastsWithin file first calls → IsTrue file.tells
+pub durable_left : (file first : HostFileState) (calls : List Call) (spare : ℕ) → LastsWithin file first calls
+    → IsTrue file.tells
     → (file_state file first calls spare).left (file_state file first calls spare).moment (cells_in file.durable)
 durable_left file first calls spare lasting t =
     let len = length-cells_in first.bytes in
@@ -82,8 +90,10 @@ durable_left file first calls spare lasting t =
     rest_leaves file first calls spare (cells_in file.durable) (record {
       len = length-cells_in file.durable;
       each = λ b there.
-          let F : Cell → Type 0 = λ c. Contains (within (length (cells_in first.bytes)) (file_held first calls).may b) c in
+          let F : Cell → Type 0 =
+          λ c. Contains (within (length (cells_in first.bytes)) (file_held first calls).may b) c in
           subst F (sym (at-cells_in file.durable b there))
-          (within_from (length (cells_in first.bytes)) (file_held first calls).may b (cell_in file.durable b) (omega arith)
+          (within_from (length (cells_in first.bytes)) (file_held first calls).may b
+          (cell_in file.durable b) (omega arith)
           (Contains-known ((file_held first calls).may b) (cell_in file.durable b) (lasting t b there)));
     })

@@ -25,14 +25,16 @@ KeepsDurable-trans a b c p q = record {
 }
 
 pub begins : (at : ℕ) (part : List ℕ) (f : HostFileState) → HasPut at part 0 f f
-begins at part f = record { keeps = KeepsDurable-refl f; fits = omega arith; put = λ tells. put-none at f.bytes; no_fault = refl }
+begins at part f =
+    record { keeps = KeepsDurable-refl f; fits = omega arith; put = λ tells. put-none at f.bytes; no_fault = refl }
 
 -- what is left of a part
 rest-is : (done : ℕ) (part : List ℕ) → take (length part - done) (drop done part) ≡ drop done part
 rest-is done part = take_all (length part - done) (drop done part) (omega (arith, length-drop done part))
 
 pub goes-on : (at : ℕ) (part : List ℕ) (done n : ℕ) (old mid new : HostFileState) → HasPut at part done old mid
-    → WritesSome mid new (at + done) (take (length part - done) (drop done part)) (Ok n) → HasPut at part (done + n) old new
+    → WritesSome mid new (at + done) (take (length part - done) (drop done part)) (Ok n)
+    → HasPut at part (done + n) old new
 goes-on at part done n old mid new has writes =
     let w = subst (λ (l : List ℕ). WritesSome mid new (at + done) l (Ok n)) (rest-is done part) writes in
     let fits = w.fits in
@@ -41,16 +43,20 @@ goes-on at part done n old mid new has writes =
     record {
       keeps = KeepsDurable-trans old mid new has.keeps w.keeps;
       fits = omega arith;
-      put = λ tells. put-more at done n part old.bytes mid.bytes new.bytes (omega arith) (has.put tells) (w.put (has.keeps.tells ∙ tells));
+      put = λ tells. put-more at done n part old.bytes mid.bytes new.bytes (omega arith) (has.put tells)
+          (w.put (has.keeps.tells ∙ tells));
       no_fault = w.no_fault ∙ has.no_fault;
     }
 
-pub ends : (at : ℕ) (part : List ℕ) (done : ℕ) (old now : HostFileState) → HasPut at part done old now → length part ≤ done → IsTrue old.tells
+pub ends : (at : ℕ) (part : List ℕ) (done : ℕ) (old now : HostFileState) → HasPut at part done old now
+    → length part ≤ done → IsTrue old.tells
     → IsPut at part old.bytes now.bytes
-ends at part done old now has all tells = subst (λ (l : List ℕ). IsPut at l old.bytes now.bytes) (take_all done part all) (has.put tells)
+ends at part done old now has all tells =
+    subst (λ (l : List ℕ). IsPut at l old.bytes now.bytes) (take_all done part all) (has.put tells)
 
 pub fails : (at : ℕ) (part : List ℕ) (done : ℕ) (x : Failed) (old mid new : HostFileState) → HasPut at part done old mid
-    → WritesSome mid new (at + done) (take (length part - done) (drop done part)) (Err x) → IsTrue old.tells → IsPartlyPut at part old.bytes new.bytes
+    → WritesSome mid new (at + done) (take (length part - done) (drop done part)) (Err x) → IsTrue old.tells
+    → IsPartlyPut at part old.bytes new.bytes
 fails at part done x old mid new has writes tells =
     let w = subst (λ (l : List ℕ). WritesSome mid new (at + done) l (Err x)) (rest-is done part) writes in
     let partly = w.err (has.keeps.tells ∙ tells) in

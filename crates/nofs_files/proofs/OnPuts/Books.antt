@@ -1,5 +1,6 @@
 -- The claim of one block, of two and of three, by the books.
-use Rattle.std.proofs.Common.{◌≡◌, ◌≢◌, ℕ, ◌+◌, ◌*◌, ◌^◌, ◌<◌, inl, inr, true, false, eqb, ne_eqb, not, List, length, refl, sym, ap, ◌∙◌, subst, subst₂}
+use Rattle.std.proofs.Common.{◌≡◌, ◌≢◌, ℕ, ◌+◌, ◌*◌, ◌^◌, ◌<◌, inl, inr, true, false, eqb, ne_eqb, not, List, length}
+use Rattle.std.proofs.Common.{refl, sym, ap, ◌∙◌, subst, subst₂}
 use Rattle.std.proofs.Common.{arith}
 use Rattle.std.specs.Prelude.{slice_set}
 use Rattle.nofs_bits.specs.Bits.{is_set}
@@ -26,7 +27,8 @@ pub record IsTaking (d e : DiskState) (k l : Books) (p : Put) (c : Claims) (m : 
   pub takes : Takes k l c m
   pub number : length (claimed_blocks c) ≡ m
   pub safe : IsSafe e k → IsSafe e l
-  pub claim : (H : List Entry1) (q : Past) → IsOpen d k H q → blocks_for q.world.files p.inode p.slot ≡ m → IsClaim q.world (step_of_put p) c
+  pub claim : (H : List Entry1) (q : Past) → IsOpen d k H q
+      → blocks_for q.world.files p.inode p.slot ≡ m → IsClaim q.world (step_of_put p) c
 
 -- the parts of a claim that name a block: one, two that differ, three
 pub record NamesOne (c : Claims) : Type 0 where
@@ -56,22 +58,28 @@ unnamed y s t = let z : is_claimed y ≡ false = ap is_claimed (sym s) in cc (z,
 pub claimed-not-zero : (x : Pointer) → is_claimed x ≡ true → x.block ≢ 0
 claimed-not-zero x t e = let z : is_claimed x ≡ false = rw e refl in cc (z, t)
 
-named : (d : DiskState) (k l : Books) (b : ℕ) → IsSafe d k → is_set k.free_blocks b ≡ true → is_claimed (claimed_pointer l b) ≡ true
-named d k l b safe free = let q = safe.in_area b free in let t : eqb b 0 ≡ false = ne_eqb b 0 (λ e. omega (arith, e, q)) in ap not t
+named : (d : DiskState) (k l : Books) (b : ℕ) → IsSafe d k
+    → is_set k.free_blocks b ≡ true → is_claimed (claimed_pointer l b) ≡ true
+named d k l b safe free = let q = safe.in_area b free in
+    let t : eqb b 0 ≡ false = ne_eqb b 0 (λ e. omega (arith, e, q)) in ap not t
 
 -- a block of the maps is taken in the machine's world, as the first, the second or the third of a claim
-pub taken : (d : DiskState) (k : Books) (H : List Entry1) (q : Past) (b : ℕ) → IsSafe d k → IsOpen d k H q → b < k.at.blocks → is_set k.free_blocks b ≡ true
+pub taken : (d : DiskState) (k : Books) (H : List Entry1) (q : Past) (b : ℕ) → IsSafe d k → IsOpen d k H q
+    → b < k.at.blocks → is_set k.free_blocks b ≡ true
     → IsTaken q.world (next_stamp q.world + 0) (claimed_pointer k b)
 taken d k H q b safe o within free = record {
   free = sym (o.says.free_blocks b within) ∙ free;
   range = (let e = o.says.blocks in omega (arith, within, e));
-  stamp_is = (let e : (claimed_pointer k b).stamp ≡ next_stamp q.world = (let a = o.says.mount in let s = o.says.serial in λ j. sym a j * 2 ^ 40 + sym s j)
+  stamp_is = (let e : (claimed_pointer k b).stamp ≡ next_stamp q.world =
+      (let a = o.says.mount in let s = o.says.serial in λ j. sym a j * 2 ^ 40 + sym s j)
       in omega (arith, e));
   named = named d k k b safe free;
 }
 
-taken-second : (d : DiskState) (k : Books) (H : List Entry1) (q : Past) (b e : ℕ) → IsSafe d k → IsOpen d k H q → e < k.at.blocks
-    → is_set k.free_blocks e ≡ true → IsTaken q.world (next_stamp q.world + 0 + 1) (claimed_pointer (claimed_books k b) e)
+taken-second : (d : DiskState) (k : Books) (H : List Entry1) (q : Past) (b e : ℕ) → IsSafe d k → IsOpen d k H q
+    → e < k.at.blocks
+    → is_set k.free_blocks e ≡ true
+    → IsTaken q.world (next_stamp q.world + 0 + 1) (claimed_pointer (claimed_books k b) e)
 taken-second d k H q b e safe o within free = let t = taken d k H q e safe o within free in record {
   free = t.free;
   range = t.range;
@@ -79,23 +87,27 @@ taken-second d k H q b e safe o within free = let t = taken d k H q e safe o wit
   named = t.named;
 }
 
-taken-third : (d : DiskState) (k : Books) (H : List Entry1) (q : Past) (b e h : ℕ) → IsSafe d k → IsOpen d k H q → h < k.at.blocks
+taken-third : (d : DiskState) (k : Books) (H : List Entry1) (q : Past) (b e h : ℕ) → IsSafe d k → IsOpen d k H q
+    → h < k.at.blocks
     → is_set k.free_blocks h ≡ true → IsTaken q.world (next_stamp q.world + 0 + 2) (claimed_pointer (two_books k b e) h)
 taken-third d k H q b e h safe o within free = let t = taken d k H q h safe o within free in
     record { free = t.free; range = t.range; stamp_is = (let s = t.stamp_is in omega (arith, s)); named = t.named }
 
 -- the books after one claim, after two and after three
-take-one : (k : Books) (b : ℕ) → b < length k.free_blocks → is_claimed (claimed_pointer k b) ≡ true → Takes k (claimed_books k b) (one_claim k b) 1
+take-one : (k : Books) (b : ℕ) → b < length k.free_blocks
+    → is_claimed (claimed_pointer k b) ≡ true → Takes k (claimed_books k b) (one_claim k b) 1
 take-one k b low claimed = record {
   same = refl;
   here = λ y q. elim q.1 [
-    | inl s ↦ subst (λ (n : ℕ). is_set (slice_set k.free_blocks b false) n ≡ false) (ap (λ (z : Pointer). z.block) s) (set-here k.free_blocks b false low)
+    | inl s ↦ subst (λ (n : ℕ). is_set (slice_set k.free_blocks b false) n ≡ false) (ap (λ (z : Pointer). z.block) s)
+        (set-here k.free_blocks b false low)
     | inr r ↦ elim r [ inl s ↦ absurd (unnamed y s q.0) | inr s ↦ absurd (unnamed y s q.0) ]
   ];
   other = λ n off. set-other k.free_blocks b n false (λ s. off (claimed_pointer k b) (claimed, inl refl) s);
 }
 
-take-two : (k : Books) (b e : ℕ) → b < length k.free_blocks → e < length k.free_blocks → b ≢ e → is_claimed (claimed_pointer k b) ≡ true
+take-two : (k : Books) (b e : ℕ) → b < length k.free_blocks → e < length k.free_blocks
+    → b ≢ e → is_claimed (claimed_pointer k b) ≡ true
     → is_claimed (claimed_pointer (claimed_books k b) e) ≡ true → Takes k (two_books k b e) (two_claims k b e) 2
 take-two k b e low low-e ne claimed-b claimed-e = record {
   same = λ j. record k {
@@ -103,22 +115,26 @@ take-two k b e low low-e ne claimed-b claimed-e = record {
     serial = (let e : k.serial + 1 + 1 ≡ k.serial + 2 = omega arith in e) j;
   };
   here = λ y q. elim q.1 [
-    | inl s ↦ at-block y (claimed_pointer k b) s (set-other (slice_set k.free_blocks b false) e b false ne ∙ set-here k.free_blocks b false low)
+    | inl s ↦ at-block y (claimed_pointer k b) s
+        (set-other (slice_set k.free_blocks b false) e b false ne ∙ set-here k.free_blocks b false low)
     | inr r ↦ elim r [
       | inl s ↦ at-block y (claimed_pointer (claimed_books k b) e) s (set-here (slice_set k.free_blocks b false) e false
           (let t = set-length k.free_blocks b false in omega (arith, t, low-e)))
       | inr s ↦ absurd (unnamed y s q.0)
     ]
   ];
-  other = λ n off. set-other (slice_set k.free_blocks b false) e n false (λ s. off (claimed_pointer (claimed_books k b) e) (claimed-e, inr (inl refl)) s)
+  other = λ n off. set-other (slice_set k.free_blocks b false) e n false
+      (λ s. off (claimed_pointer (claimed_books k b) e) (claimed-e, inr (inl refl)) s)
       ∙ set-other k.free_blocks b n false (λ s. off (claimed_pointer k b) (claimed-b, inl refl) s);
 }
   where
     at-block : (y x : Pointer) → x ≡ y → is_set (slice_set (slice_set k.free_blocks b false) e false) x.block ≡ false
         → is_set (slice_set (slice_set k.free_blocks b false) e false) y.block ≡ false
-    at-block y x s t = subst (λ (w : Pointer). is_set (slice_set (slice_set k.free_blocks b false) e false) w.block ≡ false) s t
+    at-block y x s t =
+        subst (λ (w : Pointer). is_set (slice_set (slice_set k.free_blocks b false) e false) w.block ≡ false) s t
 
-take-three : (k : Books) (b e h : ℕ) → b < length k.free_blocks → e < length k.free_blocks → h < length k.free_blocks → b ≢ e → b ≢ h → e ≢ h
+take-three : (k : Books) (b e h : ℕ) → b < length k.free_blocks → e < length k.free_blocks → h < length k.free_blocks
+    → b ≢ e → b ≢ h → e ≢ h
     → is_claimed (claimed_pointer k b) ≡ true → is_claimed (claimed_pointer (claimed_books k b) e) ≡ true
     → is_claimed (claimed_pointer (two_books k b e) h) ≡ true → Takes k (three_books k b e h) (three_claims k b e h) 3
 take-three k b e h low low-e low-h be bh eh claimed-b claimed-e claimed-h = record {
@@ -127,37 +143,48 @@ take-three k b e h low low-e low-h be bh eh claimed-b claimed-e claimed-h = reco
     serial = (let e : k.serial + 1 + 1 + 1 ≡ k.serial + 3 = omega arith in e) j;
   };
   here = λ y q. elim q.1 [
-    | inl s ↦ at-block y (claimed_pointer k b) s (set-other (slice_set (slice_set k.free_blocks b false) e false) h b false bh
+    | inl s ↦ at-block y (claimed_pointer k b) s
+        (set-other (slice_set (slice_set k.free_blocks b false) e false) h b false bh
         ∙ set-other (slice_set k.free_blocks b false) e b false be ∙ set-here k.free_blocks b false low)
     | inr r ↦ elim r [
-      | inl s ↦ at-block y (claimed_pointer (claimed_books k b) e) s (set-other (slice_set (slice_set k.free_blocks b false) e false) h e false eh
-          ∙ set-here (slice_set k.free_blocks b false) e false (let t = set-length k.free_blocks b false in omega (arith, t, low-e)))
-      | inr s ↦ at-block y (claimed_pointer (two_books k b e) h) s (set-here (slice_set (slice_set k.free_blocks b false) e false) h false
-          (let t = set-length k.free_blocks b false in let w = set-length (slice_set k.free_blocks b false) e false in omega (arith, t, w, low-h)))
+      | inl s ↦ at-block y (claimed_pointer (claimed_books k b) e) s
+          (set-other (slice_set (slice_set k.free_blocks b false) e false) h e false eh
+          ∙ set-here (slice_set k.free_blocks b false) e false
+          (let t = set-length k.free_blocks b false in omega (arith, t, low-e)))
+      | inr s ↦ at-block y (claimed_pointer (two_books k b e) h) s
+          (set-here (slice_set (slice_set k.free_blocks b false) e false) h false
+          (let t = set-length k.free_blocks b false in let w = set-length (slice_set k.free_blocks b false) e false in
+          omega (arith, t, w, low-h)))
     ]
   ];
   other = λ n off. set-other (slice_set (slice_set k.free_blocks b false) e false) h n false
       (λ s. off (claimed_pointer (two_books k b e) h) (claimed-h, inr (inr refl)) s)
-      ∙ set-other (slice_set k.free_blocks b false) e n false (λ s. off (claimed_pointer (claimed_books k b) e) (claimed-e, inr (inl refl)) s)
+      ∙ set-other (slice_set k.free_blocks b false) e n false
+      (λ s. off (claimed_pointer (claimed_books k b) e) (claimed-e, inr (inl refl)) s)
       ∙ set-other k.free_blocks b n false (λ s. off (claimed_pointer k b) (claimed-b, inl refl) s);
 }
   where
-    at-block : (y x : Pointer) → x ≡ y → is_set (slice_set (slice_set (slice_set k.free_blocks b false) e false) h false) x.block ≡ false
+    at-block : (y x : Pointer)
+        → x ≡ y → is_set (slice_set (slice_set (slice_set k.free_blocks b false) e false) h false) x.block ≡ false
         → is_set (slice_set (slice_set (slice_set k.free_blocks b false) e false) h false) y.block ≡ false
-    at-block y x s t = subst (λ (w : Pointer). is_set (slice_set (slice_set (slice_set k.free_blocks b false) e false) h false) w.block ≡ false) s t
+    at-block y x s t = subst (λ (w : Pointer).
+        is_set (slice_set (slice_set (slice_set k.free_blocks b false) e false) h false) w.block ≡ false) s t
 
 module _ {d mid : DiskState} {k l : Books} {p : Put} {c : Claims} (safe : IsSafe d k) where
-  pub takes-one : {b : ℕ} → IsOneFree k.free_blocks b → HasRoom k 1 → c ≡ one_claim k b → l ≡ claimed_books k b → IsTaking d mid k l p c 1 × NamesOne c
-  takes-one {b} free room claims books = subst₂ (λ (c : Claims) (l : Books). IsTaking d mid k l p c 1 × NamesOne c) (sym claims) (sym books) (
-    record {
-      takes = take-one k b free.range cell;
-      number = rw cell refl;
-      safe = λ s. claimed-safe mid k b within (let t = room.stamps in omega (arith, t)) s;
-      claim = λ H q o needs. claim-one q.world p.inode p.generation p.slot p.at p.bytes.now (claimed_pointer k b) (taken d k H q b safe o within free.first)
-          needs;
-    },
-    record { cell = cell; leaf = refl; top = refl },
-  )
+  pub takes-one : {b : ℕ} → IsOneFree k.free_blocks b → HasRoom k 1 → c ≡ one_claim k b → l ≡ claimed_books k b
+      → IsTaking d mid k l p c 1 × NamesOne c
+  takes-one {b} free room claims books =
+      subst₂ (λ (c : Claims) (l : Books). IsTaking d mid k l p c 1 × NamesOne c) (sym claims) (sym books) (
+        record {
+          takes = take-one k b free.range cell;
+          number = rw cell refl;
+          safe = λ s. claimed-safe mid k b within (let t = room.stamps in omega (arith, t)) s;
+          claim = λ H q o needs. claim-one q.world p.inode p.generation p.slot p.at p.bytes.now (claimed_pointer k b)
+              (taken d k H q b safe o within free.first)
+              needs;
+        },
+        record { cell = cell; leaf = refl; top = refl },
+      )
     where
       within : b < k.at.blocks
       within = let f = free.range in let s = safe.free_blocks in omega (arith, f, s)
@@ -165,18 +192,23 @@ module _ {d mid : DiskState} {k l : Books} {p : Put} {c : Claims} (safe : IsSafe
       cell : is_claimed (claimed_pointer k b) ≡ true
       cell = named d k k b safe free.first
 
-  pub takes-two : {b e : ℕ} → AreTwoFree k.free_blocks b e → HasRoom k 2 → c ≡ two_claims k b e → l ≡ two_books k b e → IsTaking d mid k l p c 2 × NamesTwo c
-  takes-two {b} {e} free room claims books = subst₂ (λ (c : Claims) (l : Books). IsTaking d mid k l p c 2 × NamesTwo c) (sym claims) (sym books) (
-    record {
-      takes = take-two k b e low free.range apart cell leaf;
-      number = rw (cell, leaf) refl;
-      safe = λ s. let t = room.stamps in
-          claimed-safe mid (claimed_books k b) e within-e (omega (arith, t)) (claimed-safe mid k b within (omega (arith, t)) s);
-      claim = λ H q o needs. claim-two q.world p.inode p.generation p.slot p.at p.bytes.now (claimed_pointer k b) (claimed_pointer (claimed_books k b) e)
-          (taken d k H q b safe o within free.first) (taken-second d k H q b e safe o within-e free.second) apart needs;
-    },
-    record { cell = cell; leaf = leaf; top = refl; apart = apart },
-  )
+  pub takes-two : {b e : ℕ} → AreTwoFree k.free_blocks b e → HasRoom k 2 → c ≡ two_claims k b e → l ≡ two_books k b e
+      → IsTaking d mid k l p c 2 × NamesTwo c
+  takes-two {b} {e} free room claims books =
+      subst₂ (λ (c : Claims) (l : Books). IsTaking d mid k l p c 2 × NamesTwo c) (sym claims) (sym books) (
+        record {
+          takes = take-two k b e low free.range apart cell leaf;
+          number = rw (cell, leaf) refl;
+          safe = λ s. let t = room.stamps in
+              claimed-safe mid (claimed_books k b) e within-e (omega (arith, t))
+              (claimed-safe mid k b within (omega (arith, t)) s);
+          claim = λ H q o needs. claim-two q.world p.inode p.generation p.slot p.at p.bytes.now (claimed_pointer k b)
+              (claimed_pointer (claimed_books k b) e)
+              (taken d k H q b safe o within free.first)
+              (taken-second d k H q b e safe o within-e free.second) apart needs;
+        },
+        record { cell = cell; leaf = leaf; top = refl; apart = apart },
+      )
     where
       low : b < length k.free_blocks
       low = let f = free.order in let g = free.range in omega (arith, f, g)
@@ -196,22 +228,27 @@ module _ {d mid : DiskState} {k l : Books} {p : Put} {c : Claims} (safe : IsSafe
       leaf : is_claimed (claimed_pointer (claimed_books k b) e) ≡ true
       leaf = named d k (claimed_books k b) e safe free.second
 
-  pub takes-three : {b e h : ℕ} → AreThreeFree k.free_blocks b e h → HasRoom k 3 → c ≡ three_claims k b e h → l ≡ three_books k b e h
+  pub takes-three : {b e h : ℕ} → AreThreeFree k.free_blocks b e h → HasRoom k 3 → c ≡ three_claims k b e h
+      → l ≡ three_books k b e h
       → IsTaking d mid k l p c 3 × NamesThree c
-  takes-three {b} {e} {h} free room claims books = subst₂ (λ (c : Claims) (l : Books). IsTaking d mid k l p c 3 × NamesThree c) (sym claims) (sym books) (
-    record {
-      takes = take-three k b e h (omega (arith, be, low-e)) low-e free.range ne-be ne-bh ne-eh cell leaf top;
-      number = rw (cell, leaf, top) refl;
-      safe = λ s. let t = room.stamps in
-          claimed-safe mid (two_books k b e) h (within h free.range) (omega (arith, t))
-          (claimed-safe mid (claimed_books k b) e (within e low-e) (omega (arith, t))
-          (claimed-safe mid k b (within b (omega (arith, be, low-e))) (omega (arith, t)) s));
-      claim = λ H q o needs. claim-three q.world p.inode p.generation p.slot p.at p.bytes.now (claimed_pointer k b) (claimed_pointer (claimed_books k b) e)
-          (taken d k H q b safe o (within b (omega (arith, be, low-e))) two.first) (taken-second d k H q b e safe o (within e low-e) two.second) ne-be
-          (claimed_pointer (two_books k b e) h) (taken-third d k H q b e h safe o (within h free.range) free.third) ne-bh ne-eh needs;
-    },
-    record { cell = cell; leaf = leaf; top = top; cell_leaf = ne-be; cell_top = ne-bh; leaf_top = ne-eh },
-  )
+  takes-three {b} {e} {h} free room claims books =
+      subst₂ (λ (c : Claims) (l : Books). IsTaking d mid k l p c 3 × NamesThree c) (sym claims) (sym books) (
+        record {
+          takes = take-three k b e h (omega (arith, be, low-e)) low-e free.range ne-be ne-bh ne-eh cell leaf top;
+          number = rw (cell, leaf, top) refl;
+          safe = λ s. let t = room.stamps in
+              claimed-safe mid (two_books k b e) h (within h free.range) (omega (arith, t))
+              (claimed-safe mid (claimed_books k b) e (within e low-e) (omega (arith, t))
+              (claimed-safe mid k b (within b (omega (arith, be, low-e))) (omega (arith, t)) s));
+          claim = λ H q o needs. claim-three q.world p.inode p.generation p.slot p.at p.bytes.now (claimed_pointer k b)
+              (claimed_pointer (claimed_books k b) e)
+              (taken d k H q b safe o (within b (omega (arith, be, low-e))) two.first)
+              (taken-second d k H q b e safe o (within e low-e) two.second) ne-be
+              (claimed_pointer (two_books k b e) h)
+              (taken-third d k H q b e h safe o (within h free.range) free.third) ne-bh ne-eh needs;
+        },
+        record { cell = cell; leaf = leaf; top = top; cell_leaf = ne-be; cell_top = ne-bh; leaf_top = ne-eh },
+      )
     where
       two : AreTwoFree k.free_blocks b e
       two = free.two

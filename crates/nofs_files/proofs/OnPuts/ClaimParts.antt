@@ -12,7 +12,8 @@ pub use Rattle.nofs_state.proofs.OnBooks.ClaimedBlocks.{Takes}
 use Rattle.nofs_state.proofs.OnBooks.ClaimedBlocks.{claim-was, home-claimed}
 
 -- a claimed block has a new stamp
-pub stamp-new : (W : World) (s : Step) (c : Claims) (x : Pointer) → IsClaim W s c → IsClaimed c x → next_stamp W ≤ x.stamp
+pub stamp-new : (W : World) (s : Step) (c : Claims) (x : Pointer) → IsClaim W s c → IsClaimed c x
+    → next_stamp W ≤ x.stamp
 stamp-new W s c x claim h = (claim-was W s c x claim h).1
 
 -- a block is claimed and gets its home, or is none of those that are

@@ -1,9 +1,11 @@
 -- How many blocks a Put asks for, and what it claims.
-use Rattle.std.proofs.Common.{◌≡◌, ◌≢◌, ℕ, zero, suc, ◌+◌, ◌<◌, ◌⊎◌, inl, inr, Bool, true, false, cond, ltb, List, [], ◌∷◌}
+use Rattle.std.proofs.Common.{◌≡◌, ◌≢◌, ℕ, zero, suc, ◌+◌, ◌<◌, ◌⊎◌, inl, inr, Bool, true, false, cond, ltb, List, []}
+use Rattle.std.proofs.Common.{◌∷◌}
 use Rattle.std.proofs.Common.{◌++◌, refl, sym, ap, ◌∙◌, subst, arith, Contains}
 use Rattle.nofs_ptrs.specs.Paths.{slot_limit}
 use Rattle.nofs_model.specs.Cells.{Pointer, null}
-use Rattle.nofs_model.specs.Image.{Image, value, Path, InRecord, Under, path_of, is_pointer_slot, find, pointer, files_in, agreed, Files, NodeState}
+use Rattle.nofs_model.specs.Image.{Image, value, Path, InRecord, Under, path_of, is_pointer_slot, find, pointer}
+use Rattle.nofs_model.specs.Image.{files_in, agreed, Files, NodeState}
 use Rattle.nofs_model.specs.Image.{Absent, Present, Damaged, node_in, IsAbove, IsSlot}
 use Rattle.nofs_model.specs.declared.image.path.PathAnswer.TheVariants as answer
 use Rattle.nofs_model.proofs.OnSlots.Find.{find-held}
@@ -11,7 +13,8 @@ use Rattle.nofs_model.proofs.OnSlots.Paths.{above-refl, path_of-slot}
 use Rattle.nofs_history.specs.Meta.{is_bytes}
 use Rattle.nofs_history.specs.Machine.{value_of, node_of}
 use Rattle.nofs_history.specs.World.{World, absent_above, blocks_for, is_free_block}
-use Rattle.nofs_history.specs.Claims.{IsClaim, IsBlockClaim, Claimed, Unclaimed, NoInode, Apart, claimed_blocks, is_claimed, next_stamp, no_claims}
+use Rattle.nofs_history.specs.Claims.{IsClaim, IsBlockClaim, Claimed, Unclaimed, NoInode, Apart, claimed_blocks}
+use Rattle.nofs_history.specs.Claims.{is_claimed, next_stamp, no_claims}
 use Rattle.nofs_history.specs.History.{FilesMatch}
 use Rattle.nofs_history.specs.declared.machine.history.Claims.{Claims}
 use Rattle.nofs_history.specs.declared.machine.steps.Step.TheVariants as step
@@ -22,12 +25,14 @@ use Rattle.nofs_files.proofs.OnPuts.Ways.{IsNew, IsOld}
 use Rattle.nofs_state.proofs.OnBooks.Machine.{agreed-live}
 
 -- above a slot that holds, each slot holds
-pub above-held : (X : Image) (i : ℕ) (a way : Path) (x : Pointer) → IsAbove a way → find X i way ≡ answer.Holds x → find X i a ≡ answer.Holds (pointer X i a)
+pub above-held : (X : Image) (i : ℕ) (a way : Path) (x : Pointer) → IsAbove a way → find X i way ≡ answer.Holds x
+    → find X i a ≡ answer.Holds (pointer X i a)
 above-held X i a (InRecord n) x e held = subst (λ (q : Path). find X i q ≡ answer.Holds (pointer X i q)) (sym e)
     (held ∙ ap answer.Holds (sym (find-held X i (InRecord n) x held).same))
 above-held X i a (Under b n) x (inl e) held = subst (λ (q : Path). find X i q ≡ answer.Holds (pointer X i q)) (sym e)
     (held ∙ ap answer.Holds (sym (find-held X i (Under b n) x held).same))
-above-held X i a (Under b n) x (inr r) held = let up = (find-held X i (Under b n) x held).above in above-held X i a b up.0 r up.1
+above-held X i a (Under b n) x (inr r) held = let up = (find-held X i (Under b n) x held).above in
+    above-held X i a b up.0 r up.1
 
 -- a way of the record has one slot
 abbrev pub Fits : ℕ → Path → Type 0
@@ -57,8 +62,10 @@ module _ (F : Files) (X : Image) (i : ℕ) (match : FilesMatch F X) (agrees : ag
       rw (z, q) refl
 
   -- so many are asked for as get a block
-  pub asks : (m : ℕ) (way : Path) → IsSlot way → Fits (suc m) way → ((a : Path) → IsOld (suc m) way a → (y : Pointer) × (find X i a ≡ answer.Holds y))
-      → ((a : Path) (n : ℕ) → IsNew (suc m) way (Under a n) → IsNew (suc m) way a → find X i a ≡ answer.Hole) → 1 + absent_above F i way ≡ suc m
+  pub asks : (m : ℕ) (way : Path) → IsSlot way → Fits (suc m) way
+      → ((a : Path) → IsOld (suc m) way a → (y : Pointer) × (find X i a ≡ answer.Holds y))
+      → ((a : Path) (n : ℕ) → IsNew (suc m) way (Under a n) → IsNew (suc m) way a → find X i a ≡ answer.Hole)
+      → 1 + absent_above F i way ≡ suc m
   asks m (InRecord n) s fits old hole = let e = fits in omega (arith, e)
   asks zero (Under b n) s fits old hole =
       let up = old b (above-refl b) in
@@ -75,9 +82,11 @@ module _ (F : Files) (X : Image) (i : ℕ) (match : FilesMatch F X) (agrees : ag
       first m (InRecord n) = refl
       first m (Under d n) = inl refl
 
-  pub needs-are : (m slot : ℕ) (way : Path) → path_of slot ≡ way → slot < slot_limit → is_bytes (value X i slot) ≡ false → Fits (suc m) way
+  pub needs-are : (m slot : ℕ) (way : Path)
+      → path_of slot ≡ way → slot < slot_limit → is_bytes (value X i slot) ≡ false → Fits (suc m) way
       → ((a : Path) → IsOld (suc m) way a → (y : Pointer) × (find X i a ≡ answer.Holds y))
-      → ((a : Path) (n : ℕ) → IsNew (suc m) way (Under a n) → IsNew (suc m) way a → find X i a ≡ answer.Hole) → blocks_for F i slot ≡ suc m
+      → ((a : Path) (n : ℕ) → IsNew (suc m) way (Under a n) → IsNew (suc m) way a → find X i a ≡ answer.Hole)
+      → blocks_for F i slot ≡ suc m
   needs-are m slot way path low empty fits old hole =
       let v : is_bytes (value_of F i slot) ≡ false = ap is_bytes (value-is F X i slot match agrees low) ∙ empty in
       rw (v, path) (asks m way (subst (λ (q : Path). IsSlot q) path (path_of-slot slot low)) fits old hole)
@@ -104,7 +113,8 @@ module _ (W : World) (i g slot at : ℕ) (bytes : List ℕ) (x : Pointer) (hx : 
   pub claim-one : blocks_for W.files i slot ≡ 1 → IsClaim W (step.Put i g slot at bytes) (claims_are x null null)
   claim-one needs = record {
     inode = NoInode refl refl;
-    cell = subst (λ (n : ℕ). IsBlockClaim W (next_stamp W + 0) x (ltb 0 n)) (sym needs) (Claimed hx.free hx.range hx.stamp_is);
+    cell = subst (λ (n : ℕ). IsBlockClaim W (next_stamp W + 0) x (ltb 0 n)) (sym needs)
+        (Claimed hx.free hx.range hx.stamp_is);
     leaf = subst (λ (n : ℕ). IsBlockClaim W (next_stamp W + 0 + 1) null (ltb 1 n)) (sym needs) (Unclaimed refl);
     top = subst (λ (n : ℕ). IsBlockClaim W (next_stamp W + 0 + 2) null (ltb 2 n)) (sym needs) (Unclaimed refl);
     apart = apart-one (is_claimed x);
@@ -122,7 +132,8 @@ two-in y z q (zero, lt, e) = inl e
 two-in y z q (suc zero, lt, e) = inr e
 two-in y z q (suc (suc n), lt, e) = absurd (omega (arith, lt))
 
-module _ (W : World) (i g slot at : ℕ) (bytes : List ℕ) (x y : Pointer) (hx : IsTaken W (next_stamp W + 0) x) (hy : IsTaken W (next_stamp W + 0 + 1) y)
+module _ (W : World) (i g slot at : ℕ) (bytes : List ℕ) (x y : Pointer) (hx : IsTaken W (next_stamp W + 0) x)
+    (hy : IsTaken W (next_stamp W + 0 + 1) y)
     (xy : x.block ≢ y.block) where
   apart-two : Apart (claimed_blocks (claims_are x y null))
   apart-two = let a = hx.named in let b = hy.named in rw (a, b) (
@@ -133,24 +144,36 @@ module _ (W : World) (i g slot at : ℕ) (bytes : List ℕ) (x y : Pointer) (hx 
   pub claim-two : blocks_for W.files i slot ≡ 2 → IsClaim W (step.Put i g slot at bytes) (claims_are x y null)
   claim-two needs = record {
     inode = NoInode refl refl;
-    cell = subst (λ (n : ℕ). IsBlockClaim W (next_stamp W + 0) x (ltb 0 n)) (sym needs) (Claimed hx.free hx.range hx.stamp_is);
-    leaf = subst (λ (n : ℕ). IsBlockClaim W (next_stamp W + 0 + 1) y (ltb 1 n)) (sym needs) (Claimed hy.free hy.range hy.stamp_is);
+    cell = subst (λ (n : ℕ). IsBlockClaim W (next_stamp W + 0) x (ltb 0 n)) (sym needs)
+        (Claimed hx.free hx.range hx.stamp_is);
+    leaf = subst (λ (n : ℕ). IsBlockClaim W (next_stamp W + 0 + 1) y (ltb 1 n)) (sym needs)
+        (Claimed hy.free hy.range hy.stamp_is);
     top = subst (λ (n : ℕ). IsBlockClaim W (next_stamp W + 0 + 2) null (ltb 2 n)) (sym needs) (Unclaimed refl);
     apart = apart-two;
   }
 
-  module _ (z : Pointer) (hz : IsTaken W (next_stamp W + 0 + 2) z) (xz : x.block ≢ z.block) (yz : y.block ≢ z.block) where
+  module _ (z : Pointer) (hz : IsTaken W (next_stamp W + 0 + 2) z) (xz : x.block ≢ z.block)
+      (yz : y.block ≢ z.block) where
     apart-three : Apart (claimed_blocks (claims_are x y z))
     apart-three = let a = hx.named in let b = hy.named in let d = hz.named in rw (a, b, d) (
-      (λ q has e. elim (two-in y z q has) [ inl s ↦ xy (e ∙ ap (λ (w : Pointer). w.block) (sym s)) | inr s ↦ xz (e ∙ ap (λ (w : Pointer). w.block) (sym s)) ]),
-      ((λ q has e. yz (e ∙ ap (λ (w : Pointer). w.block) (sym (sole z q has)))), ((λ q has. absurd (empty-list q has)), tt)),
+      (λ q has e. elim (two-in y z q has) [
+        | inl s ↦ xy (e ∙ ap (λ (w : Pointer). w.block) (sym s))
+        | inr s ↦ xz (e ∙ ap (λ (w : Pointer). w.block) (sym s))
+      ]),
+      (
+        (λ q has e. yz (e ∙ ap (λ (w : Pointer). w.block) (sym (sole z q has)))),
+        ((λ q has. absurd (empty-list q has)), tt),
+      ),
     )
 
     pub claim-three : blocks_for W.files i slot ≡ 3 → IsClaim W (step.Put i g slot at bytes) (claims_are x y z)
     claim-three needs = record {
       inode = NoInode refl refl;
-      cell = subst (λ (n : ℕ). IsBlockClaim W (next_stamp W + 0) x (ltb 0 n)) (sym needs) (Claimed hx.free hx.range hx.stamp_is);
-      leaf = subst (λ (n : ℕ). IsBlockClaim W (next_stamp W + 0 + 1) y (ltb 1 n)) (sym needs) (Claimed hy.free hy.range hy.stamp_is);
-      top = subst (λ (n : ℕ). IsBlockClaim W (next_stamp W + 0 + 2) z (ltb 2 n)) (sym needs) (Claimed hz.free hz.range hz.stamp_is);
+      cell = subst (λ (n : ℕ). IsBlockClaim W (next_stamp W + 0) x (ltb 0 n)) (sym needs)
+          (Claimed hx.free hx.range hx.stamp_is);
+      leaf = subst (λ (n : ℕ). IsBlockClaim W (next_stamp W + 0 + 1) y (ltb 1 n)) (sym needs)
+          (Claimed hy.free hy.range hy.stamp_is);
+      top = subst (λ (n : ℕ). IsBlockClaim W (next_stamp W + 0 + 2) z (ltb 2 n)) (sym needs)
+          (Claimed hz.free hz.range hz.stamp_is);
       apart = apart-three;
     }

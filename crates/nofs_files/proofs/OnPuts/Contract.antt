@@ -36,21 +36,27 @@ use Rattle.nofs_files.proofs.OnPuts.Rooms.{IsAsked, rows-pass}
 use Rattle.nofs_files.proofs.OnPuts.Books.{IsTaking}
 
 -- what a Put at any depth owes in an open world
-pub record IsClimb (d : DiskState) (p : Past) (i g slot at : ℕ) (bytes : List ℕ) (r r' : Record) (m : ℕ) (way : Path) (places : Path → Pointer)
+pub record IsClimb (d : DiskState) (p : Past) (i g slot at : ℕ) (bytes : List ℕ) (r r' : Record) (m : ℕ) (way : Path)
+    (places : Path → Pointer)
     (cells : Path → Cell) (c : Claims) (c2 : Cell) : Type 0 where
   pub climbs : Climbs d.now i g slot at bytes r r' m way places cells c c2
   pub needs : blocks_for p.world.files i slot ≡ m
   pub claim : IsClaim p.world (step.Put i g slot at bytes) c
 
-pub climb-goes : (d new : DiskState) (k l' l : Books) (i g slot at : ℕ) (bytes : List ℕ) (r r' : Record) (m : ℕ) (way : Path) (places : Path → Pointer)
+pub climb-goes : (d new : DiskState) (k l' l : Books) (i g slot at : ℕ) (bytes : List ℕ) (r r' : Record) (m : ℕ)
+    (way : Path) (places : Path → Pointer)
     (cells : Path → Cell) (c : Claims) (c2 : Cell) (result : Result (Unit {0}) Refusal) → IsDisk d → IsDisk new
-    → IsSafe d k → IsSafe d l' → k.stopped ≡ false → IsApart (way_writes places cells (table_block i, c2) m way) 0 → Takes k l' c m
+    → IsSafe d k → IsSafe d l' → k.stopped ≡ false → IsApart (way_writes places cells (table_block i, c2) m way) 0
+    → Takes k l' c m
     → path_of slot ≡ way → length (claimed_blocks c) ≡ m
-    → (IsTrue d.tells → (H : List Entry1) (p : Past) → IsOpen d k H p → IsClimb d p i g slot at bytes r r' m way places cells c c2)
-    → RowsPass d k (step.Put i g slot at bytes) → Stores d l' new l (way_writes places cells (table_block i, c2) m way) result
+    → (IsTrue d.tells → (H : List Entry1) (p : Past) → IsOpen d k H p
+    → IsClimb d p i g slot at bytes r r' m way places cells c c2)
+    → RowsPass d k (step.Put i g slot at bytes)
+    → Stores d l' new l (way_writes places cells (table_block i, c2) m way) result
     → Goes d k new l (step.Put i g slot at bytes) c (put_answer result)
 unfolding gives
-climb-goes d new k l' l i g slot at bytes r r' m way places cells c c2 result is_d is_new safe claimed going apart takes path number facts pass stores = go stores
+climb-goes d new k l' l i g slot at bytes r r' m way places cells c c2 result is_d is_new safe claimed going apart takes
+    path number facts pass stores = go stores
   where
     l-at : l'.at ≡ k.at
     l-at = ap (λ (b : Books). b.at) takes.same
@@ -61,31 +67,43 @@ climb-goes d new k l' l i g slot at bytes r r' m way places cells c c2 result is
     l-going : l'.stopped ≡ false
     l-going = ap (λ (b : Books). b.stopped) takes.same ∙ going
 
-    each : IsTrue d.tells → (H : List Entry1) (p : Past) → IsOpen d k H p → HasOneEach (way_writes places cells (table_block i, c2) m way)
+    each : IsTrue d.tells → (H : List Entry1) (p : Past) → IsOpen d k H p
+        → HasOneEach (way_writes places cells (table_block i, c2) m way)
     each tells H p o = let f = facts tells H p o in
-        climb-each d new k l' H p i g slot at bytes r r' m way places cells c c2 is_d tells safe o f.climbs f.needs f.claim takes
+        climb-each d new k l' H p i g slot at bytes r r' m way places cells c c2 is_d tells safe o f.climbs
+        f.needs f.claim takes
 
     count : WritesSoMany (step.Put i g slot at bytes) c (length (way_writes places cells (table_block i, c2) m way))
     count = way-count places cells (table_block i, c2) m way ∙ sym (λ j. 2 + pointers_written (number j) (path j))
 
-    go : Stores d l' new l (way_writes places cells (table_block i, c2) m way) result → Goes d k new l (step.Put i g slot at bytes) c (put_answer result)
-    go (Stored writes same e) = subst₂ (λ (b : Books) (q : Result (Unit {0}) Refusal). Goes d k new b (step.Put i g slot at bytes) c (put_answer q))
+    go : Stores d l' new l (way_writes places cells (table_block i, c2) m way) result
+        → Goes d k new l (step.Put i g slot at bytes) c (put_answer result)
+    go (Stored writes same e) = subst₂
+        (λ (b : Books) (q : Result (Unit {0}) Refusal). Goes d k new b (step.Put i g slot at bytes) c (put_answer q))
         (sym same) (sym e)
-        (goes-done d new k l' (step.Put i g slot at bytes) c reply.Stored (way_writes places cells (table_block i, c2) m way) is_d is_new going l-at l-history
+        (goes-done d new k l' (step.Put i g slot at bytes) c reply.Stored
+        (way_writes places cells (table_block i, c2) m way) is_d is_new going l-at l-history
         l-going
-        (safe-writes d new l' (way_writes places cells (table_block i, c2) m way) (Ok tt) l'.stopped writes apart claimed) refl writes.adds.disk
-        writes.adds.past writes.later (WritesAlone refl (writes-cells k (step.Put i g slot at bytes) c writes count each)) safe
+        (safe-writes d new l' (way_writes places cells (table_block i, c2) m way)
+        (Ok tt) l'.stopped writes apart claimed) refl writes.adds.disk
+        writes.adds.past writes.later
+        (WritesAlone refl (writes-cells k (step.Put i g slot at bytes) c writes count each)) safe
         (λ tells H p o. let f = facts tells H p o in
-        climb-done d new k l' H p i g slot at bytes r r' m way places cells c c2 is_d tells safe o f.climbs f.needs f.claim takes writes (pass tells H p o)))
-    go (NotStored x writes same e) = subst₂ (λ (b : Books) (q : Result (Unit {0}) Refusal). Goes d k new b (step.Put i g slot at bytes) c (put_answer q))
+        climb-done d new k l' H p i g slot at bytes r r' m way places cells c c2 is_d tells safe o f.climbs f.needs
+        f.claim takes writes (pass tells H p o)))
+    go (NotStored x writes same e) = subst₂
+        (λ (b : Books) (q : Result (Unit {0}) Refusal). Goes d k new b (step.Put i g slot at bytes) c (put_answer q))
         (sym same) (sym e)
-        (goes-fault d new k (stopped_books l') (step.Put i g slot at bytes) c is_d going l-at l-history refl writes.adds.disk writes.adds.past writes.cause
+        (goes-fault d new k (stopped_books l')
+        (step.Put i g slot at bytes) c is_d going l-at l-history refl writes.adds.disk writes.adds.past writes.cause
         writes.later (WritesAlone refl (writes-cells k (step.Put i g slot at bytes) c writes count each)) safe
         (safe-writes d new l' (way_writes places cells (table_block i, c2) m way) (Err x) true writes apart claimed)
-        (λ tells H p o. let f = facts tells H p o in climb-numbered d new k l' H p i g slot at bytes r r' m way places cells c c2 is_d tells safe o f.climbs
+        (λ tells H p o. let f = facts tells H p o in
+        climb-numbered d new k l' H p i g slot at bytes r r' m way places cells c c2 is_d tells safe o f.climbs
         f.needs f.claim takes writes.adds)
         (λ tells caller H p o. let f = facts tells H p o in (
-          climb-proper d new k l' H p i g slot at bytes r r' m way places cells c c2 is_d tells safe o f.climbs f.needs f.claim takes
+          climb-proper d new k l' H p i g slot at bytes r r' m way places cells c c2 is_d tells safe o f.climbs
+              f.needs f.claim takes
               (entry caller d new (step.Put i g slot at bytes) c (reply.Refused refusal.WriteFault)) refl writes.adds,
           pass tells H p o (stopped_world p.world),
           refl,
@@ -93,20 +111,28 @@ climb-goes d new k l' l i g slot at bytes r r' m way places cells c c2 result is
         )))
 
 -- the exit of each Put that writes, from the state before its last reads
-pub ways-end : (old mid new : DiskState) (k l' l : Books) (i g slot at : ℕ) (bytes : List ℕ) (r r' : Record) (m : ℕ) (way : Path) (places : Path → Pointer)
-    (cells : Path → Cell) (c : Claims) (c2 : Cell) (result : Result (Unit {0}) Refusal) → IsDisk mid → IsDisk new → StaysButFaults old mid
-    → IsSafe old k → (IsSafe mid k → IsSafe mid l') → k.stopped ≡ false → IsApart (way_writes places cells (table_block i, c2) m way) 0 → Takes k l' c m
+pub ways-end : (old mid new : DiskState) (k l' l : Books) (i g slot at : ℕ) (bytes : List ℕ) (r r' : Record) (m : ℕ)
+    (way : Path) (places : Path → Pointer)
+    (cells : Path → Cell) (c : Claims) (c2 : Cell) (result : Result (Unit {0}) Refusal) → IsDisk mid → IsDisk new
+    → StaysButFaults old mid
+    → IsSafe old k → (IsSafe mid k → IsSafe mid l')
+    → k.stopped ≡ false → IsApart (way_writes places cells (table_block i, c2) m way) 0 → Takes k l' c m
     → path_of slot ≡ way → length (claimed_blocks c) ≡ m
-    → (IsTrue old.tells → (H : List Entry1) (p : Past) → IsOpen old k H p → IsClimb old p i g slot at bytes r r' m way places cells c c2)
-    → RowsPass old k (step.Put i g slot at bytes) → Stores mid l' new l (way_writes places cells (table_block i, c2) m way) result
+    → (IsTrue old.tells → (H : List Entry1) (p : Past) → IsOpen old k H p
+    → IsClimb old p i g slot at bytes r r' m way places cells c c2)
+    → RowsPass old k (step.Put i g slot at bytes)
+    → Stores mid l' new l (way_writes places cells (table_block i, c2) m way) result
     → Goes old k new l (step.Put i g slot at bytes) c (put_answer result)
-ways-end old mid new k l' l i g slot at bytes r r' m way places cells c c2 result is_mid is_new stays safe claimed going apart takes path number facts pass
+ways-end old mid new k l' l i g slot at bytes r r' m way places cells c c2 result is_mid is_new stays safe claimed going
+    apart takes path number facts pass
     stores =
     goes-after old mid keep new k l (step.Put i g slot at bytes) c (put_answer result)
-    (climb-goes mid new k l' l i g slot at bytes r r' m way places cells c c2 result is_mid is_new (safe-keeps old mid keep k safe)
+    (climb-goes mid new k l' l i g slot at bytes r r' m way places cells c c2 result is_mid is_new
+    (safe-keeps old mid keep k safe)
     (claimed (safe-keeps old mid keep k safe)) going apart takes path number
     (λ t H p o. let f = facts (told t) H p (open-back old mid keep k H p o) in record {
-      climbs = subst (λ (X : Image). Climbs X i g slot at bytes r r' m way places cells c c2) (sym stays.cells.now) f.climbs;
+      climbs = subst (λ (X : Image). Climbs X i g slot at bytes r r' m way places cells c c2)
+          (sym stays.cells.now) f.climbs;
       needs = f.needs;
       claim = f.claim;
     })
@@ -119,20 +145,26 @@ ways-end old mid new k l' l i g slot at bytes r r' m way places cells c c2 resul
     told t = subst (λ (q : Bool). IsTrue q) stays.disk.tells t
 
 -- the same for a Put that claims
-pub asked-ends : {old mid new : DiskState} {k l' l : Books} {p : Put} {r r' : Record} {m : ℕ} {c : Claims} {c2 : Cell} {result : Result (Unit {0}) Refusal}
-    (way : Path) (places : Path → Pointer) (cells : Path → Cell) → IsAsked old k p r m → HasRoom k m → IsTaking old mid k l' p c m
-    → IsDisk mid → IsDisk new → StaysButFaults old mid → path_of p.slot ≡ way → IsApart (way_writes places cells (table_block p.inode, c2) m way) 0
+pub asked-ends : {old mid new : DiskState} {k l' l : Books} {p : Put} {r r' : Record} {m : ℕ} {c : Claims} {c2 : Cell}
+    {result : Result (Unit {0}) Refusal}
+    (way : Path) (places : Path → Pointer) (cells : Path → Cell) → IsAsked old k p r m → HasRoom k m
+    → IsTaking old mid k l' p c m
+    → IsDisk mid → IsDisk new → StaysButFaults old mid
+    → path_of p.slot ≡ way → IsApart (way_writes places cells (table_block p.inode, c2) m way) 0
     → (IsTrue old.tells → agreed (files_in old.now) p.inode ≡ true
     → Climbs old.now p.inode p.generation p.slot p.at p.bytes.now r r' m way places cells c c2)
     → {t : ℕ} → t ≡ table_block p.inode → Stores mid l' new l (way_writes places cells (t, c2) m way) result
     → Goes old k new l (step_of_put p) c (put_answer result)
-asked-ends {old} {mid} {new} {k} {l'} {l} {p} {r} {r'} {m} {c} {c2} {result} way places cells a room taking is_mid is_new
+asked-ends {old} {mid} {new} {k} {l'} {l} {p} {r} {r'} {m} {c} {c2} {result} way places cells a room
+    taking is_mid is_new
     stays path apart climbs {t} at-table stores =
-    ways-end old mid new k l' l p.inode p.generation p.slot p.at p.bytes.now r r' m way places cells c c2 result is_mid is_new stays a.safe taking.safe
+    ways-end old mid new k l' l p.inode p.generation p.slot p.at p.bytes.now r r' m way places cells c c2 result is_mid
+    is_new stays a.safe taking.safe
     a.going apart taking.takes path taking.number
     (λ t H q o. record {
       climbs = climbs t (current-agreed old.now p.inode p.generation (a.current t (are-agreed old k H q a.safe o)));
       needs = a.needs t H q o;
       claim = taking.claim H q o (a.needs t H q o);
     })
-    (rows-pass a room) (subst (λ (n : ℕ). Stores mid l' new l (way_writes places cells (n, c2) m way) result) at-table stores)
+    (rows-pass a room)
+    (subst (λ (n : ℕ). Stores mid l' new l (way_writes places cells (n, c2) m way) result) at-table stores)

@@ -1,5 +1,6 @@
 -- A Put in place, and one into a direct slot, are ways with no new slot and with one.
-use Rattle.std.proofs.Common.{◌≡◌, ◌≢◌, ℕ, ◌+◌, ◌*◌, ◌<◌, max, inl, inr, Bool, true, false, cond, eqb, ltb, List, [], ◌∷◌, length, get_or, Some, IsTrue, Result}
+use Rattle.std.proofs.Common.{◌≡◌, ◌≢◌, ℕ, ◌+◌, ◌*◌, ◌<◌, max, inl, inr, Bool, true, false, cond, eqb, ltb, List, []}
+use Rattle.std.proofs.Common.{◌∷◌, length, get_or, Some, IsTrue, Result}
 use Rattle.std.proofs.Common.{refl, sym, ap, ◌∙◌, subst, arith}
 use Rattle.std.proofs.lemmas.Bool.Decides.{nat_tests}
 use Rattle.std.proofs.lemmas.List.{get_or-set_same, get_or-set_other}
@@ -7,7 +8,8 @@ use Rattle.std.specs.Prelude.{slice_set}
 use Rattle.nofs_ptrs.specs.Paths.{slot_limit}
 use Rattle.nofs_disk.specs.Disk.{DiskState, IsDisk, StaysButFaults, cell_at}
 use Rattle.nofs_model.specs.Cells.{Cell, Pointer, Record, null, tag_of}
-use Rattle.nofs_model.specs.Image.{Image, value_in, Path, InRecord, Under, path_of, tag_for, find, pointer, record_pointer, IsAbove}
+use Rattle.nofs_model.specs.Image.{Image, value_in, Path, InRecord, Under, path_of, tag_for, find, pointer}
+use Rattle.nofs_model.specs.Image.{record_pointer, IsAbove}
 use Rattle.nofs_model.specs.declared.image.path.PathAnswer.{PathAnswer}
 use Rattle.nofs_model.specs.declared.image.path.PathAnswer.TheVariants as answer
 use Rattle.nofs_model.specs.declared.image.value.Value.{Value}
@@ -45,13 +47,17 @@ use Rattle.nofs_files.proofs.OnPuts.Books.{IsTaking, NamesOne, claimed-not-zero}
 low-not : (a b : ℕ) → a < b → eqb a b ≡ false
 low-not a b h = grind (arith, nat_tests)
 
-pointed-here : (r : Record) (n slot : ℕ) (x : Pointer) → slot < 8 → length r.direct ≡ 8 → record_pointer (pointed r n slot x) slot ≡ x
-pointed-here r n slot x h len = rw (low-not slot 8 h, low-not slot 9 (omega (arith, h))) (get_or-set_same r.direct slot x null (omega (arith, h, len)))
+pointed-here : (r : Record) (n slot : ℕ) (x : Pointer)
+    → slot < 8 → length r.direct ≡ 8 → record_pointer (pointed r n slot x) slot ≡ x
+pointed-here r n slot x h len = rw (low-not slot 8 h, low-not slot 9 (omega (arith, h)))
+    (get_or-set_same r.direct slot x null (omega (arith, h, len)))
 
-pointed-other : (r : Record) (n slot : ℕ) (x : Pointer) (m : ℕ) → m ≢ slot → record_pointer (pointed r n slot x) m ≡ record_pointer r m
+pointed-other : (r : Record) (n slot : ℕ) (x : Pointer) (m : ℕ)
+    → m ≢ slot → record_pointer (pointed r n slot x) m ≡ record_pointer r m
 pointed-other r n slot x m ne = go (eqb m 8) (eqb m 9)
   where
-    go : (a b : Bool) → cond a r.leaf (cond b r.top (get_or (slice_set r.direct slot x) m null)) ≡ cond a r.leaf (cond b r.top (get_or r.direct m null))
+    go : (a b : Bool) → cond a r.leaf (cond b r.top (get_or (slice_set r.direct slot x) m null)) ≡ cond a r.leaf
+        (cond b r.top (get_or r.direct m null))
     go true b = refl
     go false true = refl
     go false false = get_or-set_other r.direct slot m x null ne
@@ -66,9 +72,12 @@ place-here : (X : Image) (i : ℕ) (way : Path) (x : Pointer) → place_at X i w
 place-here X i way x = let e = same_path-refl way in rw e refl
 
 pub place-climbs : (X : Image) (i g slot at : ℕ) (bytes : List ℕ) (r : Record) (x : Pointer) (c1 c2 : Cell)
-    → IsPutFile X i g slot r (sized r (max r.size (1024 * slot + at + length bytes))) (path_of slot) c2 → find X i (path_of slot) ≡ answer.Holds x
-    → c1.payload ≡ put_content (Bytes (cell_at X x.block).payload) r.size slot at bytes → c1.tag ≡ (cell_at X x.block).tag
-    → Climbs X i g slot at bytes r (sized r (max r.size (1024 * slot + at + length bytes))) 0 (path_of slot) (place_at X i (path_of slot) x) (λ q. c1)
+    → IsPutFile X i g slot r (sized r (max r.size (1024 * slot + at + length bytes))) (path_of slot) c2
+    → find X i (path_of slot) ≡ answer.Holds x
+    → c1.payload ≡ put_content (Bytes (cell_at X x.block).payload) r.size slot at bytes
+    → c1.tag ≡ (cell_at X x.block).tag
+    → Climbs X i g slot at bytes r (sized r (max r.size (1024 * slot + at + length bytes))) 0 (path_of slot)
+    (place_at X i (path_of slot) x) (λ q. c1)
     no_claims c2
 place-climbs X i g slot at bytes r x c1 c2 file held payload tag = record {
   file = file;
@@ -79,7 +88,8 @@ place-climbs X i g slot at bytes r x c1 c2 file held payload tag = record {
   claimed = λ q u. absurd u;
   distinct = λ q w u v e. absurd u;
   tag_new = λ q u. absurd u;
-  tag_old = λ q u v. subst (λ (w : Path). tag_of c1.tag ≡ tag_of (cell_at X (place_at X i (path_of slot) x w).block).tag) (sym u)
+  tag_old = λ q u v.
+      subst (λ (w : Path). tag_of c1.tag ≡ tag_of (cell_at X (place_at X i (path_of slot) x w).block).tag) (sym u)
       (ap tag_of tag ∙ ap (λ (w : Pointer). tag_of (cell_at X w.block).tag) (sym here));
   next = λ q n u. absurd u;
   beside_new = λ q n z u v ne lt. absurd u;
@@ -95,14 +105,19 @@ place-climbs X i g slot at bytes r x c1 c2 file held payload tag = record {
     here : place_at X i (path_of slot) x (path_of slot) ≡ x
     here = place-here X i (path_of slot) x
 
-    go : (q : Path) → IsAbove q (path_of slot) → (t : Bool) → same_path q (path_of slot) ≡ t → find X i q ≡ answer.Holds (place_at X i (path_of slot) x q)
-    go q u true e = let s = same_path-true q (path_of slot) e in subst (λ (w : Path). find X i w ≡ answer.Holds (place_at X i (path_of slot) x w)) (sym s)
+    go : (q : Path) → IsAbove q (path_of slot)
+        → (t : Bool) → same_path q (path_of slot) ≡ t → find X i q ≡ answer.Holds (place_at X i (path_of slot) x q)
+    go q u true e = let s = same_path-true q (path_of slot) e in
+        subst (λ (w : Path). find X i w ≡ answer.Holds (place_at X i (path_of slot) x w)) (sym s)
         (held ∙ ap answer.Holds (sym here))
     go q u false e = above-held X i q (path_of slot) x u held ∙ ap answer.Holds (sym (rw e refl))
 
-pub direct-climbs : (X : Image) (i g slot at : ℕ) (bytes : List ℕ) (r : Record) (n : ℕ) (c : Claims) (c1 c2 : Cell) → n < 8 → length r.direct ≡ 8
-    → ContentFacts X i g slot at bytes r (pointed r (max r.size (1024 * slot + at + length bytes)) n c.cell) (InRecord n) c.cell c1 c2 → NamesOne c
-    → Climbs X i g slot at bytes r (pointed r (max r.size (1024 * slot + at + length bytes)) n c.cell) 1 (InRecord n) (λ q. c.cell) (λ q. c1) c c2
+pub direct-climbs : (X : Image) (i g slot at : ℕ) (bytes : List ℕ) (r : Record) (n : ℕ) (c : Claims) (c1 c2 : Cell)
+    → n < 8 → length r.direct ≡ 8
+    → ContentFacts X i g slot at bytes r (pointed r (max r.size (1024 * slot + at + length bytes)) n c.cell)
+    (InRecord n) c.cell c1 c2 → NamesOne c
+    → Climbs X i g slot at bytes r (pointed r (max r.size (1024 * slot + at + length bytes)) n c.cell) 1 (InRecord n)
+    (λ q. c.cell) (λ q. c1) c c2
 direct-climbs X i g slot at bytes r n c c1 c2 low eight f names = record {
   file = f.file;
   grew = record { kind = refl; generation = refl; links = refl; size = refl };
@@ -117,9 +132,11 @@ direct-climbs X i g slot at bytes r n c c1 c2 low eight f names = record {
   beside_new = λ q j z u v ne lt. absurd (not-under q j u);
   beside_old = λ q j z u v ne lt. absurd v;
   content = f.payload;
-  pointer_new = λ q u. (let s : q ≡ n = cc u in ap (record_pointer (pointed r (max r.size (1024 * slot + at + length bytes)) n c.cell)) s
+  pointer_new = λ q u.
+      (let s : q ≡ n = cc u in ap (record_pointer (pointed r (max r.size (1024 * slot + at + length bytes)) n c.cell)) s
       ∙ pointed-here r (max r.size (1024 * slot + at + length bytes)) n c.cell low eight);
-  pointers_old = λ q off. pointed-other r (max r.size (1024 * slot + at + length bytes)) n c.cell q (λ e. off (ap InRecord e));
+  pointers_old =
+      λ q off. pointed-other r (max r.size (1024 * slot + at + length bytes)) n c.cell q (λ e. off (ap InRecord e));
   cell = λ t. refl;
   leaf = λ t. absurd (let e = names.leaf in cc (e, t));
   top = λ t. absurd (let e = names.top in cc (e, t));
@@ -134,14 +151,16 @@ direct-climbs X i g slot at bytes r n c c1 c2 low eight f names = record {
 take-none : (k : Books) → Takes k k no_claims 0
 take-none k = record {
   same = λ j. record k { serial = (let e : k.serial ≡ k.serial + 0 = omega arith in e) j };
-  here = λ y q. absurd (elim q.1 [ inl s ↦ none y s q.0 | inr r ↦ elim r [ inl s ↦ none y s q.0 | inr s ↦ none y s q.0 ] ]);
+  here = λ y q.
+      absurd (elim q.1 [ inl s ↦ none y s q.0 | inr r ↦ elim r [ inl s ↦ none y s q.0 | inr s ↦ none y s q.0 ] ]);
   other = λ n off. refl;
 }
   where
     none : (y : Pointer) → null ≡ y → is_claimed y ≡ true → ⊥
     none y s t = let z : is_claimed y ≡ false = ap is_claimed (sym s) in cc (z, t)
 
-claim-none : (W : World) (i g slot at : ℕ) (bytes : List ℕ) → blocks_for W.files i slot ≡ 0 → IsClaim W (step.Put i g slot at bytes) no_claims
+claim-none : (W : World) (i g slot at : ℕ) (bytes : List ℕ)
+    → blocks_for W.files i slot ≡ 0 → IsClaim W (step.Put i g slot at bytes) no_claims
 claim-none W i g slot at bytes needs = record {
   inode = NoInode refl refl;
   cell = subst (λ (n : ℕ). IsBlockClaim W (next_stamp W + 0) null (ltb 0 n)) (sym needs) (Unclaimed refl);
@@ -150,18 +169,26 @@ claim-none W i g slot at bytes needs = record {
   apart = tt;
 }
 
-pub place-ends : {old mid new : DiskState} {k l : Books} {p : Put} {r : Record} {last : LastRead} {writes t : ℕ} {x : Pointer} {before c1 c20 c2 : Cell}
-    {result : Result (Unit {0}) Refusal} → IsDisk mid → IsDisk new → StaysButFaults old mid → MayPut old k p r last writes → p.slot < slot_limit
+pub place-ends : {old mid new : DiskState} {k l : Books} {p : Put} {r : Record} {last : LastRead} {writes t : ℕ}
+    {x : Pointer} {before c1 c20 c2 : Cell}
+    {result : Result (Unit {0}) Refusal} → IsDisk mid → IsDisk new → StaysButFaults old mid
+    → MayPut old k p r last writes → p.slot < slot_limit
     → HeldAt old k p.inode (path_of p.slot) x → (IsTrue old.tells → before ≡ cell_at old.now x.block)
     → c1.payload ≡ put_content (Bytes before.payload) r.size p.slot p.at p.bytes.now → c1.tag ≡ before.tag
-    → (IsTrue old.tells → c20 ≡ cell_at old.now (table_block p.inode)) → IsRecordCell c20 p.inode (sized r (size_after p r.size)) c2
-    → RowsPass old k (step_of_put p) → t ≡ table_block p.inode → Stores mid k new l ((x.block, c1) ∷ (t, c2) ∷ []) result
+    → (IsTrue old.tells → c20 ≡ cell_at old.now (table_block p.inode))
+    → IsRecordCell c20 p.inode (sized r (size_after p r.size)) c2
+    → RowsPass old k (step_of_put p) → t ≡ table_block p.inode
+    → Stores mid k new l ((x.block, c1) ∷ (t, c2) ∷ []) result
     → Goes old k new l (step_of_put p) no_claims (put_answer result)
-place-ends {old} {mid} {new} {k} {l} {p} {r} {last} {writes} {t} {x} {before} {c1} {c20} {c2} {result} is_mid is_new stays may low held cell payload tag read
+place-ends {old} {mid} {new} {k} {l} {p} {r} {last} {writes} {t} {x} {before} {c1} {c20} {c2} {result} is_mid is_new
+    stays may low held cell payload tag read
     table pass at-table stores =
-    ways-end old mid new k k l p.inode p.generation p.slot p.at p.bytes.now r (sized r (size_after p r.size)) 0 (path_of p.slot)
-    (place_at old.now p.inode (path_of p.slot) x) (λ q. c1) no_claims c2 result is_mid is_new stays may.safe (λ s. s) may.going
-    (subst (λ (ws : List (ℕ × Cell)). IsApart ws 0) (sym same-writes) ((λ e. let q = held.positive in omega (arith, e, q)), ((λ e. omega (arith, e)), tt)))
+    ways-end old mid new k k l p.inode p.generation p.slot p.at p.bytes.now r (sized r (size_after p r.size)) 0
+    (path_of p.slot)
+    (place_at old.now p.inode (path_of p.slot) x) (λ q. c1) no_claims c2 result is_mid is_new stays may.safe
+    (λ s. s) may.going
+    (subst (λ (ws : List (ℕ × Cell)). IsApart ws 0) (sym same-writes)
+    ((λ e. let q = held.positive in omega (arith, e, q)), ((λ e. omega (arith, e)), tt)))
     (take-none k) refl refl
     (λ t H q o.
     let agrees = current-agreed old.now p.inode p.generation (may.current t (are-agreed old k H q may.safe o)) in
@@ -171,8 +198,10 @@ place-ends {old} {mid} {new} {k} {l} {p} {r} {last} {writes} {t} {x} {before} {c
     let needs : blocks_for q.world.files p.inode p.slot ≡ 0 = rw v refl in
     record {
       climbs = place-climbs old.now p.inode p.generation p.slot p.at p.bytes.now r x c1 c2
-          (put-file old k p r (sized r (size_after p r.size)) (path_of p.slot) c20 c2 t may.file agrees low refl read table) (held.held t)
-          (payload ∙ ap (λ (c : Cell). put_content (Bytes c.payload) r.size p.slot p.at p.bytes.now) (cell t)) (tag ∙ ap (λ (c : Cell). c.tag) (cell t));
+          (put-file old k p r (sized r (size_after p r.size))
+          (path_of p.slot) c20 c2 t may.file agrees low refl read table) (held.held t)
+          (payload ∙ ap (λ (c : Cell). put_content (Bytes c.payload) r.size p.slot p.at p.bytes.now) (cell t))
+          (tag ∙ ap (λ (c : Cell). c.tag) (cell t));
       needs = needs;
       claim = claim-none q.world p.inode p.generation p.slot p.at p.bytes.now needs;
     })
@@ -180,16 +209,23 @@ place-ends {old} {mid} {new} {k} {l} {p} {r} {last} {writes} {t} {x} {before} {c
     (subst (λ (ws : List (ℕ × Cell)). Stores mid k new l ws result) (sym same-writes)
     (subst (λ (n : ℕ). Stores mid k new l ((x.block, c1) ∷ (n, c2) ∷ []) result) at-table stores))
   where
-    same-writes : way_writes (place_at old.now p.inode (path_of p.slot) x) (λ q. c1) (table_block p.inode, c2) 0 (path_of p.slot)
+    same-writes : way_writes (place_at old.now p.inode (path_of p.slot) x) (λ q. c1) (table_block p.inode, c2) 0
+        (path_of p.slot)
         ≡ (x.block, c1) ∷ (table_block p.inode, c2) ∷ []
-    same-writes = ap (λ (w : Pointer). (w.block, c1) ∷ (table_block p.inode, c2) ∷ []) (place-here old.now p.inode (path_of p.slot) x)
+    same-writes = ap (λ (w : Pointer). (w.block, c1) ∷ (table_block p.inode, c2) ∷ [])
+        (place-here old.now p.inode (path_of p.slot) x)
 
-pub direct-ends : {old mid new : DiskState} {k l' l : Books} {p : Put} {r : Record} {c : Claims} {t : ℕ} {c1 c20 c2 : Cell} {result : Result (Unit {0}) Refusal}
-    → IsAsked old k p r 1 → HasRoom k 1 → IsTaking old mid k l' p c 1 × NamesOne c → IsDisk mid → IsDisk new → StaysButFaults old mid → p.slot < 8
-    → length r.direct ≡ 8 → IsContent p r.size c.cell.stamp c1 → (IsTrue old.tells → c20 ≡ cell_at old.now (table_block p.inode))
+pub direct-ends : {old mid new : DiskState} {k l' l : Books} {p : Put} {r : Record} {c : Claims} {t : ℕ}
+    {c1 c20 c2 : Cell} {result : Result (Unit {0}) Refusal}
+    → IsAsked old k p r 1 → HasRoom k 1 → IsTaking old mid k l' p c 1 × NamesOne c → IsDisk mid → IsDisk new
+    → StaysButFaults old mid → p.slot < 8
+    → length r.direct ≡ 8 → IsContent p r.size c.cell.stamp c1
+    → (IsTrue old.tells → c20 ≡ cell_at old.now (table_block p.inode))
     → IsRecordCell c20 p.inode (pointed r (size_after p r.size) p.slot c.cell) c2 → t ≡ table_block p.inode
-    → Stores mid l' new l ((c.cell.block, c1) ∷ (t, c2) ∷ []) result → Goes old k new l (step_of_put p) c (put_answer result)
-direct-ends {old} {mid} {new} {k} {l'} {l} {p} {r} {c} {t} {c1} {c20} {c2} a room taking is_mid is_new stays low eight content read table at-table stores =
+    → Stores mid l' new l ((c.cell.block, c1) ∷ (t, c2) ∷ []) result
+    → Goes old k new l (step_of_put p) c (put_answer result)
+direct-ends {old} {mid} {new} {k} {l'} {l} {p} {r} {c} {t} {c1} {c20} {c2} a room taking is_mid is_new stays low eight
+    content read table at-table stores =
     let names = taking.1 in
     asked-ends (InRecord p.slot) (λ q. c.cell) (λ q. c1) a room taking.0 is_mid is_new stays (path-direct p.slot low)
     ((λ e. claimed-not-zero c.cell names.cell (sym e)), ((λ e. omega (arith, e)), tt))

@@ -7,7 +7,8 @@ use Rattle.nofs_disk.specs.Disk.{DiskState, IsDisk, cell_at}
 use Rattle.nofs_super.specs.Geometry.{IsGeometry}
 use Rattle.nofs_inode.specs.declared.inode.FileKind.TheVariants.{File}
 use Rattle.nofs_model.specs.Cells.{Cell, Pointer, Record, Tag, is_null, pointer_at, tag_of, is_live}
-use Rattle.nofs_model.specs.Image.{Image, super_at, file_from, value, is_data_block, inode, Path, InRecord, Under, path_of, tag_for}
+use Rattle.nofs_model.specs.Image.{Image, super_at, file_from, value, is_data_block, inode, Path, InRecord, Under}
+use Rattle.nofs_model.specs.Image.{path_of, tag_for}
 use Rattle.nofs_model.specs.Image.{find, record_pointer, files_in, agreed, is_folder, IsAbove, IsSlot, IsFree}
 use Rattle.nofs_model.specs.Image.{IsBelow}
 use Rattle.nofs_model.specs.declared.image.path.PathAnswer.TheVariants as answer
@@ -67,7 +68,8 @@ pub record Grew (r r' : Record) (n : ℕ) : Type 0 where
   pub size : r'.size ≡ n
 
 -- what the cells of a Put are, by the image before it: m slots of the way get a block
-pub record Climbs (X : Image) (i g slot at : ℕ) (bytes : List ℕ) (r r' : Record) (m : ℕ) (way : Path) (places : Path → Pointer) (cells : Path → Cell)
+pub record Climbs (X : Image) (i g slot at : ℕ) (bytes : List ℕ) (r r' : Record) (m : ℕ) (way : Path)
+    (places : Path → Pointer) (cells : Path → Cell)
     (c : Claims) (c2 : Cell) : Type 0 where
   pub file : IsPutFile X i g slot r r' way c2
   pub grew : Grew r r' (max r.size (1024 * slot + at + length bytes))
@@ -77,9 +79,11 @@ pub record Climbs (X : Image) (i g slot at : ℕ) (bytes : List ℕ) (r r' : Rec
   pub claimed : (a : Path) → IsNew m way a → IsClaimed c (places a)
   pub distinct : (a b : Path) → IsNew m way a → IsNew m way b → (places a).block ≡ (places b).block → a ≡ b
   pub tag_new : (a : Path) → IsNew m way a → tag_of (cells a).tag ≡ Some (tag_for X i a (places a).stamp)
-  pub tag_old : (a : Path) → IsChanged m way a → IsOld m way a → tag_of (cells a).tag ≡ tag_of (cell_at X (places a).block).tag
+  pub tag_old : (a : Path) → IsChanged m way a → IsOld m way a
+      → tag_of (cells a).tag ≡ tag_of (cell_at X (places a).block).tag
   pub next : (a : Path) (n : ℕ) → IsNew m way (Under a n) → pointer_at (cells a).payload n ≡ places (Under a n)
-  pub beside_new : (a : Path) (n q : ℕ) → IsNew m way (Under a n) → IsNew m way a → q ≢ n → q < 64 → is_null (pointer_at (cells a).payload q) ≡ true
+  pub beside_new : (a : Path) (n q : ℕ) → IsNew m way (Under a n) → IsNew m way a
+      → q ≢ n → q < 64 → is_null (pointer_at (cells a).payload q) ≡ true
   pub beside_old : (a : Path) (n q : ℕ) → IsNew m way (Under a n) → IsOld m way a → q ≢ n → q < 64
       → pointer_at (cells a).payload q ≡ pointer_at (cell_at X (places a).block).payload q
   pub content : (cells way).payload ≡ put_content (value X i slot) r.size slot at bytes
@@ -87,13 +91,16 @@ pub record Climbs (X : Image) (i g slot at : ℕ) (bytes : List ℕ) (r r' : Rec
   pub pointers_old : (n : ℕ) → (IsNew m way (InRecord n) → ⊥) → record_pointer r' n ≡ record_pointer r n
   pub cell : is_claimed c.cell ≡ true → places way ≡ c.cell
   pub leaf : is_claimed c.leaf ≡ true → IsAbove (slot_above way) way × (places (slot_above way) ≡ c.leaf)
-  pub top : is_claimed c.top ≡ true → IsAbove (slot_above (slot_above way)) way × (places (slot_above (slot_above way)) ≡ c.top)
+  pub top : is_claimed c.top ≡ true → IsAbove (slot_above (slot_above way)) way
+      × (places (slot_above (slot_above way)) ≡ c.top)
 
-module _ (old new : DiskState) (k l : Books) (H : List Entry1) (p : Past) (i g slot at : ℕ) (bytes : List ℕ) (r r' : Record) (m : ℕ) (way : Path)
+module _ (old new : DiskState) (k l : Books) (H : List Entry1) (p : Past) (i g slot at : ℕ) (bytes : List ℕ)
+    (r r' : Record) (m : ℕ) (way : Path)
     (places : Path → Pointer) (cells : Path → Cell) (c : Claims) (c2 : Cell)
     (is_old : IsDisk old) (tells : IsTrue old.tells) (safe : IsSafe old k) (o : IsOpen old k H p)
     (h : Climbs old.now i g slot at bytes r r' m way places cells c c2)
-    (needs : blocks_for p.world.files i slot ≡ m) (claim : IsClaim p.world (step.Put i g slot at bytes) c) (takes : Takes k l c m) where
+    (needs : blocks_for p.world.files i slot ≡ m) (claim : IsClaim p.world (step.Put i g slot at bytes) c)
+    (takes : Takes k l c m) where
   abbrev pub W : World
   W = p.world
 
@@ -122,7 +129,8 @@ module _ (old new : DiskState) (k l : Books) (H : List Entry1) (p : Past) (i g s
   same = file-in W.files X i own.file match own.is
 
   pub file-kind : own.file.kind ≡ File
-  file-kind = let e : Some own.file.kind ≡ Some File = sym same.0 ∙ ap (λ (q : Record). q.kind) h.file.rec ∙ h.file.kind in cc e
+  file-kind = let e : Some own.file.kind ≡ Some File = sym same.0 ∙ ap (λ (q : Record). q.kind) h.file.rec
+      ∙ h.file.kind in cc e
 
   pub file : is_folder own.file.kind ≡ false
   file = ap is_folder file-kind
@@ -145,7 +153,8 @@ module _ (old new : DiskState) (k l : Books) (H : List Entry1) (p : Past) (i g s
   -- The claim
 
   pub claims-free : ClaimsFree W c X
-  claims-free = law-claims W (step.Put i g slot at bytes) c W.known_inodes (λ j. not (uses_inode W j)) W.known_blocks (λ q. not (uses_block W q)) X
+  claims-free = law-claims W (step.Put i g slot at bytes) c W.known_inodes (λ j. not (uses_inode W j)) W.known_blocks
+      (λ q. not (uses_block W q)) X
       (law-good W X has-numbers match o.homes) claim
 
   pub free : (a : Path) → IsNew m way a → IsFree X (places a).block
@@ -171,13 +180,15 @@ module _ (old new : DiskState) (k l : Books) (H : List Entry1) (p : Past) (i g s
       go (inl n) (inl q) = h.distinct a b n q e
       go (inl n) (inr d) = absurd (free a n i b (places b) (slot-of-way b v) h.file.agrees (h.old b d) (sym e))
       go (inr d) (inl q) = absurd (free b q i a (places a) (slot-of-way a u) h.file.agrees (h.old a d) e)
-      go (inr d) (inr f) = let w = one-owner X i i a b (places a) (places b) (h.old a d) (h.old b f) e in sym (path_of-slot_of a (slot-of-way a u))
+      go (inr d) (inr f) = let w = one-owner X i i a b (places a) (places b) (h.old a d) (h.old b f) e in
+          sym (path_of-slot_of a (slot-of-way a u))
           ∙ ap path_of w.1 ∙ path_of-slot_of b (slot-of-way b v)
 
   -- The disk after the writes
 
   inside : (1 ≤ i) × (i ≤ (super_at X).inodes)
-  inside = let b = and-both (leb 1 i) (leb i (super_at X).inodes) h.file.has.range in (leb-true 1 i b.0, leb-true i (super_at X).inodes b.1)
+  inside = let b = and-both (leb 1 i) (leb i (super_at X).inodes) h.file.has.range in
+      (leb-true 1 i b.0, leb-true i (super_at X).inodes b.1)
 
   pub table-low : table_block i ≤ (super_at X).inodes / 4
   table-low = let a = inside in let q = geometry.multiple in omega (arith, a, q)
@@ -189,18 +200,22 @@ module _ (old new : DiskState) (k l : Books) (H : List Entry1) (p : Past) (i g s
   off-table : (b : ℕ) → is_data_block X b ≡ true → b ≢ table_block i
   off-table b d e = let q = data-range b d in let t = table-low in omega (arith, q, t, e)
 
-  pub stays : (b : ℕ) → b ≢ table_block i → ((a : Path) → IsChanged m way a → b ≢ (places a).block) → cell_at Y b ≡ cell_at X b
+  pub stays : (b : ℕ) → b ≢ table_block i → ((a : Path) → IsChanged m way a → b ≢ (places a).block)
+      → cell_at Y b ≡ cell_at X b
   stays b ne none = written-apart ws X b (λ d one. elim (one-is places cells (table_block i, c2) m way b d one)
       [ inl e ↦ ne e.0 | inr (a, q, eb, ec) ↦ none a q eb ])
 
-  pub data-stays : (b : ℕ) → is_data_block X b ≡ true → ((a : Path) → IsChanged m way a → b ≢ (places a).block) → cell_at Y b ≡ cell_at X b
+  pub data-stays : (b : ℕ) → is_data_block X b ≡ true → ((a : Path) → IsChanged m way a → b ≢ (places a).block)
+      → cell_at Y b ≡ cell_at X b
   data-stays b d none = stays b (off-table b d) none
 
   low-stays : (b : ℕ) → b ≤ (super_at X).inodes / 4 → b ≢ table_block i → cell_at Y b ≡ cell_at X b
-  low-stays b low ne = stays b ne (λ a q e. let d = data-range (places a).block (area a (changed-above a q)) in omega (arith, d, e, low))
+  low-stays b low ne =
+      stays b ne (λ a q e. let d = data-range (places a).block (area a (changed-above a q)) in omega (arith, d, e, low))
 
   pub cell-here : (a : Path) → IsChanged m way a → cell_at Y (places a).block ≡ cells a
-  cell-here a q = written-here ws X (places a).block (cells a) (let d = data-range (places a).block (area a (changed-above a q)) in let w = whole in omega
+  cell-here a q = written-here ws X (places a).block (cells a)
+      (let d = data-range (places a).block (area a (changed-above a q)) in let w = whole in omega
       (arith, d, w))
       (λ d one. elim (one-is places cells (table_block i, c2) m way (places a).block d one) [
         | inl e ↦ absurd (off-table (places a).block (area a (changed-above a q)) e.0)
@@ -208,7 +223,8 @@ module _ (old new : DiskState) (k l : Books) (H : List Entry1) (p : Past) (i g s
       ]) (inl (changed-one places cells (table_block i, c2) m way a q))
 
   table-here : cell_at Y (table_block i) ≡ c2
-  table-here = written-here ws X (table_block i) c2 (let t = table-low in let w = whole in let g = geometry.table in omega (arith, t, w, g))
+  table-here = written-here ws X (table_block i) c2
+      (let t = table-low in let w = whole in let g = geometry.table in omega (arith, t, w, g))
       (λ d one. elim (one-is places cells (table_block i, c2) m way (table_block i) d one) [
         | inl e ↦ e.1
         | inr (a, qa, ea, ec) ↦ absurd (off-table (places a).block (area a (changed-above a qa)) (sym ea))
@@ -216,10 +232,11 @@ module _ (old new : DiskState) (k l : Books) (H : List Entry1) (p : Past) (i g s
 
   -- each block gets one cell
   pub climb-each : HasOneEach (way_writes places cells (table_block i, c2) m way)
-  climb-each = one-each (way_writes places cells (table_block i, c2) m way) Y (λ b q one. elim (one-is places cells (table_block i, c2) m way b q one) [
-    | inl e ↦ e.1 ∙ sym table-here ∙ ap (cell_at Y) (sym e.0)
-    | inr (a, u, eb, ec) ↦ ec ∙ sym (cell-here a u) ∙ ap (cell_at Y) (sym eb)
-  ])
+  climb-each = one-each (way_writes places cells (table_block i, c2) m way) Y
+      (λ b q one. elim (one-is places cells (table_block i, c2) m way b q one) [
+        | inl e ↦ e.1 ∙ sym table-here ∙ ap (cell_at Y) (sym e.0)
+        | inr (a, u, eb, ec) ↦ ec ∙ sym (cell-here a u) ∙ ap (cell_at Y) (sym eb)
+      ])
 
   pub super-stays : cell_at Y 0 ≡ cell_at X 0
   super-stays = low-stays 0 (omega arith) (λ e. omega (arith, e))
@@ -231,7 +248,8 @@ module _ (old new : DiskState) (k l : Books) (H : List Entry1) (p : Past) (i g s
   record-old j ne = record-other X Y i r' c2 h.file.has geometry.multiple super-stays table-here low-stays j ne
 
   all-below : IsBelow (next_stamp W) X
-  all-below n lt = o.stage.ready.fresh n (cell_at X n) lt (is_old.has_now n tells (let w = is_old.whole tells in let q = whole in omega (arith, lt, w, q)))
+  all-below n lt = o.stage.ready.fresh n (cell_at X n) lt
+      (is_old.has_now n tells (let w = is_old.whole tells in let q = whole in omega (arith, lt, w, q)))
 
   pub old-numbers : OldNumbers W X
   old-numbers = record { positive = o.stage.ready.positive; mountable = o.mountable; below = all-below }
@@ -242,15 +260,18 @@ module _ (old new : DiskState) (k l : Books) (H : List Entry1) (p : Past) (i g s
   pub names : SameNames X Y i
   names = record {
     kind = ap (λ (q : Record). q.kind) here ∙ h.grew.kind ∙ sym (ap (λ (q : Record). q.kind) h.file.rec);
-    generation = ap (λ (q : Record). q.generation) here ∙ h.grew.generation ∙ sym (ap (λ (q : Record). q.generation) h.file.rec);
+    generation = ap (λ (q : Record). q.generation) here
+        ∙ h.grew.generation ∙ sym (ap (λ (q : Record). q.generation) h.file.rec);
     links = ap (λ (q : Record). q.links) here ∙ h.grew.links ∙ sym (ap (λ (q : Record). q.links) h.file.rec);
   }
 
-  pub tag-new : (a : Path) → IsNew m way a → tag_of (cell_at Y (places a).block).tag ≡ Some (tag_for Y i a (places a).stamp)
+  pub tag-new : (a : Path) → IsNew m way a
+      → tag_of (cell_at Y (places a).block).tag ≡ Some (tag_for Y i a (places a).stamp)
   tag-new a n = ap (λ (q : Cell). tag_of q.tag) (cell-here a (new-changed m way a n)) ∙ h.tag_new a n
       ∙ ap Some (sym (tag-same X Y i a (places a).stamp names.kind names.generation))
 
-  pub tag-old : (a : Path) → IsOld m way a → tag_of (cell_at Y (places a).block).tag ≡ tag_of (cell_at X (places a).block).tag
+  pub tag-old : (a : Path) → IsOld m way a
+      → tag_of (cell_at Y (places a).block).tag ≡ tag_of (cell_at X (places a).block).tag
   tag-old a d = elim (meets places m way (places a).block) [
     | inl (b, q, e) ↦
         let s : a ≡ b = same-place a b (old-above m way a d) (changed-above b q) e in
@@ -269,7 +290,8 @@ module _ (old new : DiskState) (k l : Books) (H : List Entry1) (p : Past) (i g s
     ];
   }
     where
-      newer : (a : Path) → IsNew m way a → (t : Tag) → tag_of (cell_at Y (places a).block).tag ≡ Some t → next_stamp W ≤ t.stamp
+      newer : (a : Path) → IsNew m way a → (t : Tag) → tag_of (cell_at Y (places a).block).tag ≡ Some t
+          → next_stamp W ≤ t.stamp
       newer a n t et =
           let w = tag-new a n in
           let e : t ≡ tag_for Y i a (places a).stamp = cc (et, w) in
@@ -277,10 +299,14 @@ module _ (old new : DiskState) (k l : Books) (H : List Entry1) (p : Past) (i g s
 
       written-one : (n : ℕ) (a : Path) → IsChanged m way a → n ≡ (places a).block
           → (IsFree X n × ((t : Tag) → tag_of (cell_at Y n).tag ≡ Some t → next_stamp W ≤ t.stamp))
-          ⊎ ((tag_of (cell_at Y n).tag ≡ tag_of (cell_at X n).tag) × ((j : ℕ) × (b : Path) × (y : Pointer) × (eqb j i ≡ true) × (find X j b ≡ answer.Holds y)
+          ⊎ ((tag_of (cell_at Y n).tag ≡ tag_of (cell_at X n).tag)
+          × ((j : ℕ) × (b : Path) × (y : Pointer) × (eqb j i ≡ true) × (find X j b ≡ answer.Holds y)
           × (y.block ≡ n)))
       written-one n a q e = elim (changed-is m way a q) [
-        | inl w ↦ inl (subst (λ (b : ℕ). IsFree X b) (sym e) (free a w), λ t et. newer a w t (subst (λ (b : ℕ). tag_of (cell_at Y b).tag ≡ Some t) e et))
+        | inl w ↦ inl (
+          subst (λ (b : ℕ). IsFree X b) (sym e) (free a w),
+          λ t et. newer a w t (subst (λ (b : ℕ). tag_of (cell_at Y b).tag ≡ Some t) e et),
+        )
         | inr d ↦ inr (
           subst (λ (b : ℕ). tag_of (cell_at Y b).tag ≡ tag_of (cell_at X b).tag) (sym e) (tag-old a d),
           (i, a, places a, eq-eqb i i refl, h.old a d, sym e),

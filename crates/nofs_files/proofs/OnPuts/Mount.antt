@@ -50,11 +50,13 @@ use Rattle.nofs_files.proofs.OnPuts.Image as image
 use Rattle.nofs_files.proofs.OnPuts.Slots as slots
 use Rattle.nofs_files.proofs.OnPuts.Proper as proper_part
 
-module _ (old new : DiskState) (k l : Books) (H : List Entry1) (p : Past) (i g slot at : ℕ) (bytes : List ℕ) (r r' : Record) (m : ℕ) (way : Path)
+module _ (old new : DiskState) (k l : Books) (H : List Entry1) (p : Past) (i g slot at : ℕ) (bytes : List ℕ)
+    (r r' : Record) (m : ℕ) (way : Path)
     (places : Path → Pointer) (cells : Path → Cell) (c : Claims) (c2 : Cell)
     (is_old : IsDisk old) (tells : IsTrue old.tells) (safe : IsSafe old k) (o : IsOpen old k H p)
     (h : Climbs old.now i g slot at bytes r r' m way places cells c c2)
-    (needs : blocks_for p.world.files i slot ≡ m) (claim : IsClaim p.world (step.Put i g slot at bytes) c) (takes : Takes k l c m) where
+    (needs : blocks_for p.world.files i slot ≡ m) (claim : IsClaim p.world (step.Put i g slot at bytes) c)
+    (takes : Takes k l c m) where
   -- what was shown of them before
   abbrev W : World
   W = image.W old new k l H p i g slot at bytes r r' m way places cells c c2 is_old tells safe o h needs claim takes
@@ -105,7 +107,8 @@ module _ (old new : DiskState) (k l : Books) (H : List Entry1) (p : Past) (i g s
   files = slots.files old new k l H p i g slot at bytes r r' m way places cells c c2 is_old tells safe o h needs claim
       takes
 
-  abbrev numbers : (n : ℕ) (cell : Cell) → OneOf (way_writes places cells (table_block i, c2) m way) n cell → CellNumbers (Numbered W c) X n cell
+  abbrev numbers : (n : ℕ) (cell : Cell) → OneOf (way_writes places cells (table_block i, c2) m way) n cell
+      → CellNumbers (Numbered W c) X n cell
   numbers = slots.numbers old new k l H p i g slot at bytes r r' m way places cells c c2 is_old tells safe o h needs
       claim takes
 
@@ -113,7 +116,8 @@ module _ (old new : DiskState) (k l : Books) (H : List Entry1) (p : Past) (i g s
   M = proper_part.M old new k l H p i g slot at bytes r r' m way places cells c c2 is_old tells safe o h needs claim
       takes
 
-  abbrev same-given : put_given W.files i g slot at bytes ≡ put_given (files_along (agreed_files p.base) H) i g slot at bytes
+  abbrev same-given : put_given W.files i g slot at bytes
+      ≡ put_given (files_along (agreed_files p.base) H) i g slot at bytes
   same-given = proper_part.same-given old new k l H p i g slot at bytes r r' m way places cells c c2 is_old tells safe
       o h needs claim takes
 
@@ -122,7 +126,8 @@ module _ (old new : DiskState) (k l : Books) (H : List Entry1) (p : Past) (i g s
   proper = proper_part.proper old new k l H p i g slot at bytes r r' m way places cells c c2 is_old tells safe o h
       needs claim takes
 
-  abbrev rest : (e : Entry1) → given_by (files_along (agreed_files p.base) H) e ≡ put_given (files_along (agreed_files p.base) H) i g slot at bytes
+  abbrev rest : (e : Entry1) → given_by (files_along (agreed_files p.base) H) e
+      ≡ put_given (files_along (agreed_files p.base) H) i g slot at bytes
       → SteadyRest p.base (H ++ e ∷ []) Y
   rest = proper_part.rest old new k l H p i g slot at bytes r r' m way places cells c c2 is_old tells safe o h needs
       claim takes
@@ -132,20 +137,25 @@ module _ (old new : DiskState) (k l : Books) (H : List Entry1) (p : Past) (i g s
   abbrev V : World
   V = after_world W (step.Put i g slot at bytes) c l
 
-  uses-inode-same : (j : ℕ) → is_some (files_after W.files (put_given W.files i g slot at bytes) j) ≡ is_some (W.files j)
+  uses-inode-same : (j : ℕ)
+      → is_some (files_after W.files (put_given W.files i g slot at bytes) j) ≡ is_some (W.files j)
   uses-inode-same j = uses-inode (files_after W.files (put_given W.files i g slot at bytes)) Y files j
-      ∙ as-before W.files X Y i g slot at bytes own.file (next_stamp W) places lies j ∙ sym (uses-inode W.files X match j)
+      ∙ as-before W.files X Y i g slot at bytes own.file (next_stamp W) places lies j
+      ∙ sym (uses-inode W.files X match j)
 
   V-inode : (j : ℕ) → uses_inode V j ≡ uses_inode W j
   unfolding gives
   V-inode j = ap (λ (t : Bool). is_special j || t) (uses-inode-same j)
 
   homes-other : (n : ℕ) → claimed_home W.files (step.Put i g slot at bytes) c n ≡ None
-      → homes_after W (step.Put i g slot at bytes) c (files_after W.files (put_given W.files i g slot at bytes)) n ≡ W.homes n
+      → homes_after W (step.Put i g slot at bytes) c
+      (files_after W.files (put_given W.files i g slot at bytes)) n ≡ W.homes n
   homes-other n none = rw (none, homes_after) (go (W.homes n) refl)
     where
-      go : (q : Option Home) → W.homes n ≡ q → (elim q as (λ (_ : Option Home). Option Home)
-          [ None ↦ None | Some home ↦ cond (has_block (files_after W.files (put_given W.files i g slot at bytes)) home) (Some home) None ]) ≡ q
+      go : (q : Option Home) → W.homes n ≡ q → (elim q as (λ (_ : Option Home). Option Home) [
+        | None ↦ None
+        | Some home ↦ cond (has_block (files_after W.files (put_given W.files i g slot at bytes)) home) (Some home) None
+      ]) ≡ q
       go None e = refl
       go (Some home) e = rw (put-keeps-block W.files i g slot at bytes own.file own.is generation file home
           (home-has W X match o.homes o.homes_past n home e)) refl
@@ -155,11 +165,13 @@ module _ (old new : DiskState) (k l : Books) (H : List Entry1) (p : Past) (i g s
   V-other n none = ap (λ (q : Option Home). is_fixed W n || is_some q) (homes-other n none)
 
   homes-here : (n : ℕ) → is_some (claimed_home W.files (step.Put i g slot at bytes) c n) ≡ true
-      → is_some (homes_after W (step.Put i g slot at bytes) c (files_after W.files (put_given W.files i g slot at bytes)) n) ≡ true
+      → is_some (homes_after W (step.Put i g slot at bytes) c
+      (files_after W.files (put_given W.files i g slot at bytes)) n) ≡ true
   homes-here n some = go (claimed_home W.files (step.Put i g slot at bytes) c n) refl some
     where
       go : (q : Option Home) → claimed_home W.files (step.Put i g slot at bytes) c n ≡ q → is_some q ≡ true
-          → is_some (homes_after W (step.Put i g slot at bytes) c (files_after W.files (put_given W.files i g slot at bytes)) n) ≡ true
+          → is_some (homes_after W (step.Put i g slot at bytes) c
+          (files_after W.files (put_given W.files i g slot at bytes)) n) ≡ true
       go None e t = cc t
       go (Some home) e t = rw (e, homes_after) refl
 
@@ -209,7 +221,8 @@ module _ (old new : DiskState) (k l : Books) (H : List Entry1) (p : Past) (i g s
     blocks = o.says.blocks ∙ ap (λ (q : SuperBlock). q.blocks) (sym l-at);
     inodes = o.says.inodes ∙ ap (λ (q : SuperBlock). q.inodes) (sym l-at);
     mount = o.says.mount ∙ ap (λ (q : SuperBlock). q.mount) (sym l-at);
-    serial = (let n = needs in let q = o.says.serial in let e = ap (λ (b : Books). b.serial) takes.same in omega (arith, n, q, e));
+    serial = (let n = needs in let q = o.says.serial in let e = ap (λ (b : Books). b.serial) takes.same in
+        omega (arith, n, q, e));
     stopped = o.says.stopped ∙ ap (λ (b : Books). b.stopped) (sym takes.same);
     known_inodes = λ j. refl;
     known_blocks = λ n. refl;
@@ -222,7 +235,8 @@ module _ (old new : DiskState) (k l : Books) (H : List Entry1) (p : Past) (i g s
       | inr (none, home) ↦ takes.other n none ∙ o.says.free_blocks n (subst (λ (q : SuperBlock). n < q.blocks) l-at lt)
           ∙ (λ q. (o.says.known_blocks n ∙ sym (l-block n)) q && not (sym (V-other n home) q))
     ];
-    agreement = λ j a t. uses-inode-same j ∙ o.says.agreement j a (ap (λ (b : Books). known_agreement b.agreement j) (sym takes.same) ∙ t);
+    agreement = λ j a t. uses-inode-same j
+        ∙ o.says.agreement j a (ap (λ (b : Books). known_agreement b.agreement j) (sym takes.same) ∙ t);
   }
     where
       and-false : (t : Bool) → (t && false) ≡ false
@@ -231,12 +245,14 @@ module _ (old new : DiskState) (k l : Books) (H : List Entry1) (p : Past) (i g s
 
   pub climb-done : WritesAll old new (way_writes places cells (table_block i, c2) m way) (Ok tt)
       → ((U : World) → first_of (rows W U (step.Put i g slot at bytes)) ≡ None)
-      → IsDone old new k l H p (step.Put i g slot at bytes) c reply.Stored (way_writes places cells (table_block i, c2) m way)
+      → IsDone old new k l H p (step.Put i g slot at bytes) c reply.Stored
+      (way_writes places cells (table_block i, c2) m way)
   unfolding gives
   climb-done writes none = record {
     adds = writes.adds;
     later = writes.later;
-    proper = λ e es ec ge n cell one. subst (λ (G : Given). Proper (during M G) X n cell) (same-given ∙ sym ge) (proper n cell one);
+    proper = λ e es ec ge n cell one. subst (λ (G : Given). Proper (during M G) X n cell) (same-given ∙ sym ge)
+        (proper n cell one);
     numbers = numbers;
     super = ap (λ (Z : Image). cell_at Z 0) writes.now ∙ super-stays;
     size = writes.adds.disk.blocks;
@@ -246,7 +262,8 @@ module _ (old new : DiskState) (k l : Books) (H : List Entry1) (p : Past) (i g s
     no_flush = refl;
     claim = claim;
     learns = learns;
-    files = subst (λ (Z : Image). FilesMatch (files_after W.files (put_given W.files i g slot at bytes)) Z) (sym writes.now) files;
+    files = subst (λ (Z : Image). FilesMatch (files_after W.files (put_given W.files i g slot at bytes)) Z)
+        (sym writes.now) files;
     move = subst (λ (Z : Image). HomesMove W.files (step.Put i g slot at bytes) c X Z) (sym writes.now)
         (law-put-homes W X Y i g slot at bytes own.file (next_stamp W) places c lies claim placed);
     rest = λ e es ec ge. subst (λ (Z : Image). SteadyRest p.base (H ++ e ∷ []) Z) (sym writes.now) (rest e ge);
@@ -257,11 +274,15 @@ module _ (old new : DiskState) (k l : Books) (H : List Entry1) (p : Past) (i g s
   }
 
   -- whichever write failed
-  pub climb-numbered : Adds (OneOf (way_writes places cells (table_block i, c2) m way)) old new → AddsNumbered W c old new
-  climb-numbered = Adds-map (OneOf (way_writes places cells (table_block i, c2) m way)) (λ n cell. CellNumbers (Numbered W c) X n cell) old new numbers
+  pub climb-numbered : Adds (OneOf (way_writes places cells (table_block i, c2) m way)) old new
+      → AddsNumbered W c old new
+  climb-numbered = Adds-map (OneOf (way_writes places cells (table_block i, c2) m way))
+      (λ n cell. CellNumbers (Numbered W c) X n cell) old new numbers
 
-  pub climb-proper : (e : Entry1) → given_by (files_along (agreed_files p.base) H) e ≡ put_given (files_along (agreed_files p.base) H) i g slot at bytes
-      → Adds (OneOf (way_writes places cells (table_block i, c2) m way)) old new → AddsProper p.base H e p.mark p.stamps old new
+  pub climb-proper : (e : Entry1) → given_by (files_along (agreed_files p.base) H) e
+      ≡ put_given (files_along (agreed_files p.base) H) i g slot at bytes
+      → Adds (OneOf (way_writes places cells (table_block i, c2) m way)) old new
+      → AddsProper p.base H e p.mark p.stamps old new
   climb-proper e ge adds = Adds-map (OneOf (way_writes places cells (table_block i, c2) m way))
       (Proper (during M (given_by (files_along (agreed_files p.base) H) e)) old.now) old new
       (λ n cell one. subst (λ (G : Given). Proper (during M G) X n cell) (same-given ∙ sym ge) (proper n cell one)) adds

@@ -47,11 +47,13 @@ use Rattle.nofs_files.proofs.OnPuts.Image.{Climbs}
 use Rattle.nofs_files.proofs.OnPuts.Image as image
 use Rattle.nofs_files.proofs.OnPuts.Slots as slots
 
-module _ (old new : DiskState) (k l : Books) (H : List Entry1) (p : Past) (i g slot at : ℕ) (bytes : List ℕ) (r r' : Record) (m : ℕ) (way : Path)
+module _ (old new : DiskState) (k l : Books) (H : List Entry1) (p : Past) (i g slot at : ℕ) (bytes : List ℕ)
+    (r r' : Record) (m : ℕ) (way : Path)
     (places : Path → Pointer) (cells : Path → Cell) (c : Claims) (c2 : Cell)
     (is_old : IsDisk old) (tells : IsTrue old.tells) (safe : IsSafe old k) (o : IsOpen old k H p)
     (h : Climbs old.now i g slot at bytes r r' m way places cells c c2)
-    (needs : blocks_for p.world.files i slot ≡ m) (claim : IsClaim p.world (step.Put i g slot at bytes) c) (takes : Takes k l c m) where
+    (needs : blocks_for p.world.files i slot ≡ m) (claim : IsClaim p.world (step.Put i g slot at bytes) c)
+    (takes : Takes k l c m) where
   -- what was shown of them before
   abbrev W : World
   W = image.W old new k l H p i g slot at bytes r r' m way places cells c c2 is_old tells safe o h needs claim takes
@@ -110,7 +112,8 @@ module _ (old new : DiskState) (k l : Books) (H : List Entry1) (p : Past) (i g s
   table-low = image.table-low old new k l H p i g slot at bytes r r' m way places cells c c2 is_old tells safe o h
       needs claim takes
 
-  abbrev stays : (b : ℕ) → b ≢ table_block i → ((a : Path) → IsChanged m way a → b ≢ (places a).block) → cell_at Y b ≡ cell_at X b
+  abbrev stays : (b : ℕ) → b ≢ table_block i → ((a : Path) → IsChanged m way a → b ≢ (places a).block)
+      → cell_at Y b ≡ cell_at X b
   stays = image.stays old new k l H p i g slot at bytes r r' m way places cells c c2 is_old tells safe o h needs claim
       takes
 
@@ -167,7 +170,8 @@ module _ (old new : DiskState) (k l : Books) (H : List Entry1) (p : Past) (i g s
   mark-area : (b : ℕ) → is_data_block X b ≡ true → is_data_block p.mark b ≡ true
   mark-area b d = subst (λ (q : SuperBlock). (leb (1 + q.inodes / 4) b && ltb b q.blocks) ≡ true) (sym mark-super) d
 
-  pub same-given : put_given W.files i g slot at bytes ≡ put_given (files_along (agreed_files p.base) H) i g slot at bytes
+  pub same-given : put_given W.files i g slot at bytes
+      ≡ put_given (files_along (agreed_files p.base) H) i g slot at bytes
   same-given = ap (λ (G : Files). put_given G i g slot at bytes) o.files
 
   newer-mark : (a : Path) → IsNew m way a → p.stamps ≤ (places a).stamp
@@ -184,36 +188,47 @@ module _ (old new : DiskState) (k l : Books) (H : List Entry1) (p : Past) (i g s
     tag = subst (λ (q : Path). tag_of (cells way).tag ≡ Some (tag_for Y i q (places way).stamp)) (sym h.file.path)
         (ap (λ (q : Cell). tag_of q.tag) (sym (cell-here way way-changed-is)) ∙ grows.tag way (above-refl way));
     gives = put-slot W.files i g slot at bytes own.file own.is generation file
-        ∙ ap (λ (v : List ℕ). Some (Bytes v)) (sym (h.content ∙ (λ j. put_content (sym value-here j) (sym size j) slot at bytes)));
-    place = elim (changed-is m way way way-changed-is) [ inl n ↦ inr (free way n) | inr d ↦ inl (h.tag_old way way-changed-is d) ];
+        ∙ ap (λ (v : List ℕ). Some (Bytes v))
+        (sym (h.content ∙ (λ j. put_content (sym value-here j) (sym size j) slot at bytes)));
+    place = elim (changed-is m way way way-changed-is)
+        [ inl n ↦ inr (free way n) | inr d ↦ inl (h.tag_old way way-changed-is d) ];
   })
 
-  pointers-proper : (a : Path) (n : ℕ) → IsAbove (Under a n) way → Proper (during M (put_given W.files i g slot at bytes)) X (places a).block
+  pointers-proper : (a : Path) (n : ℕ) → IsAbove (Under a n) way
+      → Proper (during M (put_given W.files i g slot at bytes)) X (places a).block
       (cell_at Y (places a).block)
-  pointers-proper a n v = law-pointer-block (next_stamp W) M (put_given W.files i g slot at bytes) X Y i a n way places grows (record {
-    area = mark-area (places a).block (area a (above-up a n way v));
-    points = (slot-of-way (Under a n) v).0;
-    slot = slot-of-way a (above-up a n way v);
-    on = v;
-    above = above-up a n way v;
-    live = own.live;
-    generation = names.generation;
-    kind = names.kind;
-    reads = reads;
-    block = elim (new-or-old m way a (above-up a n way v)) [
-      | inl w ↦ inr (elim (new-or-old m way (Under a n) v) [ inl z ↦ h.hole a n z w | inr d ↦ absurd (not-both a w (old-up m way a n d)) ], free a w)
-      | inr d ↦ inl (h.old a d)
-    ];
-    next = elim (new-or-old m way (Under a n) v) [
-      | inl w ↦ inr (newer-mark (Under a n) w, h.empty (Under a n) w)
-      | inr d ↦ inl (h.old (Under a n) d)
-    ];
-  })
+  pointers-proper a n v =
+      law-pointer-block (next_stamp W) M (put_given W.files i g slot at bytes) X Y i a n way places grows (record {
+        area = mark-area (places a).block (area a (above-up a n way v));
+        points = (slot-of-way (Under a n) v).0;
+        slot = slot-of-way a (above-up a n way v);
+        on = v;
+        above = above-up a n way v;
+        live = own.live;
+        generation = names.generation;
+        kind = names.kind;
+        reads = reads;
+        block = elim (new-or-old m way a (above-up a n way v)) [
+          | inl w ↦ inr (
+            elim (new-or-old m way (Under a n) v)
+                [ inl z ↦ h.hole a n z w | inr d ↦ absurd (not-both a w (old-up m way a n d)) ],
+            free a w,
+          )
+          | inr d ↦ inl (h.old a d)
+        ];
+        next = elim (new-or-old m way (Under a n) v) [
+          | inl w ↦ inr (newer-mark (Under a n) w, h.empty (Under a n) w)
+          | inr d ↦ inl (h.old (Under a n) d)
+        ];
+      })
 
-  block-proper : (a : Path) → IsChanged m way a → Proper (during M (put_given W.files i g slot at bytes)) X (places a).block (cells a)
+  block-proper : (a : Path) → IsChanged m way a
+      → Proper (during M (put_given W.files i g slot at bytes)) X (places a).block (cells a)
   block-proper a q = elim (below a (changed-above a q)) [
-    | inl e ↦ subst (λ (b : Path). Proper (during M (put_given W.files i g slot at bytes)) X (places b).block (cells b)) (sym e) content-proper
-    | inr (n, v) ↦ subst (λ (d : Cell). Proper (during M (put_given W.files i g slot at bytes)) X (places a).block d) (cell-here a q) (pointers-proper a n v)
+    | inl e ↦ subst (λ (b : Path). Proper (during M (put_given W.files i g slot at bytes)) X (places b).block (cells b))
+        (sym e) content-proper
+    | inr (n, v) ↦ subst (λ (d : Cell). Proper (during M (put_given W.files i g slot at bytes)) X (places a).block d)
+        (cell-here a q) (pointers-proper a n v)
   ]
 
   record-proper : RecordProper (during M (put_given W.files i g slot at bytes)) X i r'
@@ -226,7 +241,10 @@ module _ (old new : DiskState) (k l : Books) (H : List Entry1) (p : Past) (i g s
     reads = reads;
     pointers = λ n lt. elim (above-or-not (InRecord n) way) [
       | inl u ↦ elim (new-or-old m way (InRecord n) u) [
-        | inl w ↦ inr (inl (subst (λ (q : Pointer). p.stamps ≤ q.stamp) (sym (h.pointer_new n w)) (newer-mark (InRecord n) w), h.empty (InRecord n) w))
+        | inl w ↦ inr (inl (
+          subst (λ (q : Pointer). p.stamps ≤ q.stamp) (sym (h.pointer_new n w)) (newer-mark (InRecord n) w),
+          h.empty (InRecord n) w,
+        ))
         | inr d ↦ inl (kept n (λ w. not-both (InRecord n) w d))
       ]
       | inr off ↦ inl (kept n (λ w. off (new-above m way (InRecord n) w)))
@@ -245,35 +263,49 @@ module _ (old new : DiskState) (k l : Books) (H : List Entry1) (p : Past) (i g s
   table-proper = OfTable (record {
     not_super = omega arith;
     area = ap (λ (q : SuperBlock). leb (1 + q.inodes / 4) (table_block i) && ltb (table_block i) q.blocks) mark-super
-        ∙ (let t : leb (1 + (super_at X).inodes / 4) (table_block i) ≡ false = not-leb (1 + (super_at X).inodes / 4) (table_block i)
+        ∙ (let t : leb (1 + (super_at X).inodes / 4) (table_block i) ≡ false =
+        not-leb (1 + (super_at X).inodes / 4) (table_block i)
         (let l = table-low in omega (arith, l)) in rw t refl);
-    records = λ j e s. elim (table-records X i r' c2 h.file.has j (subst (λ (q : SuperBlock). (leb 1 j && leb j q.inodes) ≡ true) mark-super e) s) [
-      | inl new ↦ subst₂ (λ (q : ℕ) (t : Record). RecordProper (during M (put_given W.files i g slot at bytes)) X q t) (sym new.0) (sym new.1) record-proper
-      | inr was ↦ Unchanged was
-    ];
+    records = λ j e s. elim (table-records X i r' c2 h.file.has j
+        (subst (λ (q : SuperBlock). (leb 1 j && leb j q.inodes) ≡ true) mark-super e) s) [
+          | inl new ↦
+              subst₂ (λ (q : ℕ) (t : Record). RecordProper (during M (put_given W.files i g slot at bytes)) X q t)
+              (sym new.0) (sym new.1) record-proper
+          | inr was ↦ Unchanged was
+        ];
   })
 
   pub proper : (n : ℕ) (cell : Cell) → OneOf (way_writes places cells (table_block i, c2) m way) n cell
       → Proper (during M (put_given W.files i g slot at bytes)) X n cell
   proper n cell one = elim (one-is places cells (table_block i, c2) m way n cell one) [
-    | inl e ↦ subst₂ (λ (q : ℕ) (d : Cell). Proper (during M (put_given W.files i g slot at bytes)) X q d) (sym e.0) (sym e.1) table-proper
-    | inr (a, q, eb, ec) ↦ subst₂ (λ (b : ℕ) (d : Cell). Proper (during M (put_given W.files i g slot at bytes)) X b d) (sym eb) (sym ec) (block-proper a q)
+    | inl e ↦ subst₂ (λ (q : ℕ) (d : Cell). Proper (during M (put_given W.files i g slot at bytes)) X q d) (sym e.0)
+        (sym e.1) table-proper
+    | inr (a, q, eb, ec) ↦ subst₂ (λ (b : ℕ) (d : Cell). Proper (during M (put_given W.files i g slot at bytes)) X b d)
+        (sym eb) (sym ec) (block-proper a q)
   ]
 
-  pub rest : (e : Entry1) → given_by (files_along (agreed_files p.base) H) e ≡ put_given (files_along (agreed_files p.base) H) i g slot at bytes
+  pub rest : (e : Entry1) → given_by (files_along (agreed_files p.base) H) e
+      ≡ put_given (files_along (agreed_files p.base) H) i g slot at bytes
       → SteadyRest p.base (H ++ e ∷ []) Y
-  rest e gives-it = law-rest p.base H e (next_stamp W) (λ j. eqb j i) X Y (files_after W.files (put_given W.files i g slot at bytes)) o.rest (record {
-    before = o.stage.ready.files;
-    after = files;
-    touches = touches;
-    old = old-pointers;
-    owned = λ j t live. subst (λ (q : ℕ). is_some (files_after W.files (put_given W.files i g slot at bytes) q) ≡ true) (sym (eqb-true j i t))
-        (rw (put-new W.files i g slot at bytes own.file own.is generation file) refl);
-    stays = λ j t some. ap is_some (file-stays W.files (put_given W.files i g slot at bytes) j (nothing j t)) ∙ ap (λ (G : Files). is_some (G j)) o.files
-        ∙ some;
-    no_value = λ j h l t some. (λ q. (gives-it q).slots j h l) ∙ (λ q. (sym same-given q).slots j h l) ∙ (nothing j t).slots h l;
-    no_meta = λ j h t some. (λ q. (gives-it q).metas j h) ∙ (λ q. (sym same-given q).metas j h) ∙ (nothing j t).metas h;
-  })
+  rest e gives-it = law-rest p.base H e (next_stamp W) (λ j. eqb j i) X Y
+      (files_after W.files (put_given W.files i g slot at bytes)) o.rest (record {
+        before = o.stage.ready.files;
+        after = files;
+        touches = touches;
+        old = old-pointers;
+        owned = λ j t live.
+            subst (λ (q : ℕ). is_some (files_after W.files (put_given W.files i g slot at bytes) q) ≡ true)
+            (sym (eqb-true j i t))
+            (rw (put-new W.files i g slot at bytes own.file own.is generation file) refl);
+        stays = λ j t some. ap is_some (file-stays W.files (put_given W.files i g slot at bytes) j (nothing j t))
+            ∙ ap (λ (G : Files). is_some (G j)) o.files
+            ∙ some;
+        no_value = λ j h l t some. (λ q. (gives-it q).slots j h l) ∙ (λ q. (sym same-given q).slots j h l)
+            ∙ (nothing j t).slots h l;
+        no_meta = λ j h t some. (λ q. (gives-it q).metas j h) ∙ (λ q. (sym same-given q).metas j h)
+            ∙ (nothing j t).metas h;
+      })
     where
       nothing : (j : ℕ) → eqb j i ≡ false → GivesNothing (put_given W.files i g slot at bytes) j
-      nothing j t = (put-gives W.files i g slot at bytes own.file own.is generation file).elsewhere j (λ e. let q = eq-eqb j i e in cc (q, t))
+      nothing j t = (put-gives W.files i g slot at bytes own.file own.is generation file).elsewhere j
+          (λ e. let q = eq-eqb j i e in cc (q, t))

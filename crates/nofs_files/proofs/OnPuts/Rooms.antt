@@ -1,5 +1,6 @@
 -- The rows of free blocks and stamps for a Put that asks for any number of blocks.
-use Rattle.std.proofs.Common.{◌≡◌, ℕ, ◌+◌, ◌<◌, ◌≤◌, ◌^◌, Bool, true, false, ltb, List, Option, None, Some, IsTrue, refl, sym, ◌∙◌, arith, le_refl, subst}
+use Rattle.std.proofs.Common.{◌≡◌, ℕ, ◌+◌, ◌<◌, ◌≤◌, ◌^◌, Bool, true, false, ltb, List, Option, None, Some, IsTrue}
+use Rattle.std.proofs.Common.{refl, sym, ◌∙◌, arith, le_refl, subst}
 use Rattle.std.specs.Prelude.{IfSome}
 use Rattle.std.proofs.lemmas.Bool.{le-ltb}
 use Rattle.std.proofs.lemmas.Bool.Decides.{nat_tests}
@@ -43,7 +44,8 @@ less a b h = grind (arith, nat_tests)
 -- the count of unknown blocks fits its number
 few-unknown : (d : DiskState) (k : Books) → IsSafe d k → count_set k.unknown_blocks < 2 ^ 64
 few-unknown d k safe =
-    let c = count_by-le-length (λ bit. bit) k.unknown_blocks in let l = safe.unknown_blocks in let m = safe.at.geometry.most_blocks in omega (arith, c, l, m)
+    let c = count_by-le-length (λ bit. bit) k.unknown_blocks in let l = safe.unknown_blocks in
+    let m = safe.at.geometry.most_blocks in omega (arith, c, l, m)
 
 -- where two were found, or three, there are as many
 pub some-two : (bits : List Bool) (found : Option TwoBlocks) → IfSome found (λ x. AreTwoFree bits x.first x.second)
@@ -51,12 +53,15 @@ pub some-two : (bits : List Bool) (found : Option TwoBlocks) → IfSome found (�
 some-two bits None f = tt
 some-two bits (Some x) f = two-free bits x.first x.second f.order f.range f.first f.second
 
-pub some-three : (bits : List Bool) (found : Option ThreeBlocks) → IfSome found (λ x. AreThreeFree bits x.first x.second x.third)
+pub some-three : (bits : List Bool) (found : Option ThreeBlocks)
+    → IfSome found (λ x. AreThreeFree bits x.first x.second x.third)
     → IfSome found (λ x. 3 ≤ count_set bits)
 some-three bits None f = tt
-some-three bits (Some x) f = let t = f.two in three-free bits x.first x.second x.third t.order f.order f.range t.first t.second f.third
+some-three bits (Some x) f = let t = f.two in
+    three-free bits x.first x.second x.third t.order f.order f.range t.first t.second f.third
 
--- a Put of an opened file into a slot without bytes asks for m blocks, and only the rows of blocks and stamps can refuse it
+-- a Put of an opened file into a slot without bytes asks for m blocks, and only the rows of blocks and stamps can
+-- refuse it
 pub record IsAsked (d : DiskState) (k : Books) (p : Put) (r : Record) (m : ℕ) : Type 0 where
   pub disk : IsDisk d
   pub safe : IsSafe d k
@@ -65,7 +70,8 @@ pub record IsAsked (d : DiskState) (k : Books) (p : Put) (r : Record) (m : ℕ) 
   pub current : IsTrue d.tells → AreTrue d.now k.agreement → is_current d.now p.inode p.generation ≡ true
   pub slot : p.slot < slot_limit
   pub empty : IsTrue d.tells → is_bytes (value d.now p.inode p.slot) ≡ false
-  pub needs : IsTrue d.tells → (H : List Entry1) (q : Past) → IsOpen d k H q → blocks_for q.world.files p.inode p.slot ≡ m
+  pub needs : IsTrue d.tells → (H : List Entry1) (q : Past) → IsOpen d k H q
+      → blocks_for q.world.files p.inode p.slot ≡ m
   pub lead : RowsLead d k (step_of_put p)
 
 module _ {d : DiskState} {k : Books} {p : Put} {r : Record} {m : ℕ} (a : IsAsked d k p r m) where
@@ -81,23 +87,28 @@ module _ {d : DiskState} {k : Books} {p : Put} {r : Record} {m : ℕ} (a : IsAsk
 
   -- there are too few of one or the other
   pub goes-no-room : {why : Refusal} → NoRoom k m why → Goes d k d k put no_claims (reply.Refused why)
-  goes-no-room {why} (TooFull lt full) = subst (λ (w : Refusal). Goes d k d k put no_claims (reply.Refused w)) (sym full.same)
+  goes-no-room {why} (TooFull lt full) =
+      subst (λ (w : Refusal). Goes d k d k put no_claims (reply.Refused w)) (sym full.same)
       (goes-row d d k put a.disk a.safe (StaysButFaults-refl d)
-      (refusal.Full m (count_set k.free_blocks) (count_set k.unknown_blocks) full.next) refl (few-unknown d k a.safe) a.going
+      (refusal.Full m (count_set k.free_blocks) (count_set k.unknown_blocks) full.next) refl
+      (few-unknown d k a.safe) a.going
       (λ tells H q o.
       let n = a.needs tells H q o in
       let f : count_set k.free_blocks ≡ free_blocks q.world = free-count d k q.world a.safe o.says in
       let few : ltb (free_blocks q.world) (blocks_for q.world.files p.inode p.slot) ≡ true = less (free_blocks q.world)
       (blocks_for q.world.files p.inode p.slot) (omega (arith, n, f, lt)) in
-      a.lead tells H q o q.world ∙ rw few (λ j. Some (refusal.Full (n j) (sym f j) (sym (unknown-count d k q.world a.safe o.says) j)
+      a.lead tells H q o q.world
+      ∙ rw few (λ j. Some (refusal.Full (n j) (sym f j) (sym (unknown-count d k q.world a.safe o.says) j)
       (sym (full.is_next q.world o.says a.safe.unknown_blocks) j)))))
-  goes-no-room {why} (StampsSpent le spent same) = subst (λ (w : Refusal). Goes d k d k put no_claims (reply.Refused w)) (sym same)
+  goes-no-room {why} (StampsSpent le spent same) =
+      subst (λ (w : Refusal). Goes d k d k put no_claims (reply.Refused w)) (sym same)
       (goes-row d d k put a.disk a.safe (StaysButFaults-refl d) refusal.SerialsSpent refl tt a.going
       (λ tells H q o.
       let n = a.needs tells H q o in
       let e = enough le tells H q o in
       let t : ltb (2 ^ 40) (q.world.serial + 0 + blocks_for q.world.files p.inode p.slot) ≡ true = less (2 ^ 40)
-      (q.world.serial + 0 + blocks_for q.world.files p.inode p.slot) (let s = o.says.serial in omega (arith, n, s, spent)) in
+      (q.world.serial + 0 + blocks_for q.world.files p.inode p.slot)
+      (let s = o.says.serial in omega (arith, n, s, spent)) in
       a.lead tells H q o q.world ∙ rw (e, t) refl))
 
   -- both are there
@@ -107,7 +118,8 @@ module _ {d : DiskState} {k : Books} {p : Put} {r : Record} {m : ℕ} (a : IsAsk
       let left = room.stamps in
       let e = enough room.blocks tells H q o in
       let t : ltb (2 ^ 40) (q.world.serial + 0 + blocks_for q.world.files p.inode p.slot) ≡ false = le-ltb (2 ^ 40)
-      (q.world.serial + 0 + blocks_for q.world.files p.inode p.slot) (let s = o.says.serial in omega (arith, n, s, left)) in
+      (q.world.serial + 0 + blocks_for q.world.files p.inode p.slot)
+      (let s = o.says.serial in omega (arith, n, s, left)) in
       a.lead tells H q o V ∙ rw (e, t) refl
 
   -- and a read fails
@@ -116,20 +128,26 @@ module _ {d : DiskState} {k : Books} {p : Put} {r : Record} {m : ℕ} (a : IsAsk
   goes-unread-late room {new} stays rose = goes-read d new k put a.disk a.safe stays a.going rose
       (λ tells H q o why e. absurd (let n = rows-pass room tells H q o q.world in cc (n, e)))
 
-  pub goes-untabled : HasRoom k m → {mid new : DiskState} {why : Refusal} → StaysButFaults d mid → StaysButFaults mid new
+  pub goes-untabled : HasRoom k m → {mid new : DiskState} {why : Refusal} → StaysButFaults d mid
+      → StaysButFaults mid new
       → (why ≡ refusal.ReadFault) × Rose mid.faults new.faults → Goes d k new k put no_claims (reply.Refused why)
-  goes-untabled room {mid} {new} {why} before after (is, rose) = subst (λ (w : Refusal). Goes d k new k put no_claims (reply.Refused w)) (sym is)
+  goes-untabled room {mid} {new} {why} before after (is, rose) =
+      subst (λ (w : Refusal). Goes d k new k put no_claims (reply.Refused w)) (sym is)
       (goes-unread-late room (StaysButFaults-trans d mid new before after)
       (Rose-within d.faults mid.faults new.faults new.faults before.disk.faults rose (le_refl new.faults)))
 
 -- a Put is met by a mount that goes on
-pub begun : (p : Put) {d : DiskState} {k : Books} → IsDisk d → IsSafe d k → k.stopped ≡ false → IsBegun d k p.inode p.generation p.slot p.at p.bytes.now
+pub begun : (p : Put) {d : DiskState} {k : Books} → IsDisk d → IsSafe d k
+    → k.stopped ≡ false → IsBegun d k p.inode p.generation p.slot p.at p.bytes.now
 begun p disk safe going = record { disk = disk; safe = safe; going = going }
 
 -- after all rows a failed read of the table alone refuses
-pub goes-unpassed : {d new : DiskState} {k : Books} {p : Put} {r : Record} {read : LastRead} {writes : ℕ} {why : Refusal} → IsDisk d
-    → MayPut d k p r read writes → RowsPass d k (step_of_put p) → StaysButFaults d new → (why ≡ refusal.ReadFault) × Rose d.faults new.faults
+pub goes-unpassed : {d new : DiskState} {k : Books} {p : Put} {r : Record} {read : LastRead} {writes : ℕ}
+    {why : Refusal} → IsDisk d
+    → MayPut d k p r read writes → RowsPass d k (step_of_put p) → StaysButFaults d new
+    → (why ≡ refusal.ReadFault) × Rose d.faults new.faults
     → Goes d k new k (step_of_put p) no_claims (reply.Refused why)
 goes-unpassed {d} {new} {k} {p} {r} {read} {writes} {why} disk may pass stays (is, rose) =
     subst (λ (w : Refusal). Goes d k new k (step_of_put p) no_claims (reply.Refused w)) (sym is)
-    (goes-read d new k (step_of_put p) disk may.safe stays may.going rose (λ tells H q o why e. absurd (let n = pass tells H q o q.world in cc (n, e))))
+    (goes-read d new k (step_of_put p) disk may.safe stays may.going rose
+    (λ tells H q o why e. absurd (let n = pass tells H q o q.world in cc (n, e))))

@@ -1,5 +1,6 @@
 -- The rows of a Put up to those of lost blocks above its slot.
-use Rattle.std.proofs.Common.{◌≡◌, ℕ, ◌+◌, ◌<◌, ◌≤◌, Bool, true, false, ltb, eqb, ◌&&◌, ◌||◌, not, is_some, List, [], ◌∷◌, length, Option, Some, None}
+use Rattle.std.proofs.Common.{◌≡◌, ℕ, ◌+◌, ◌<◌, ◌≤◌, Bool, true, false, ltb, eqb, ◌&&◌, ◌||◌, not, is_some, List, []}
+use Rattle.std.proofs.Common.{◌∷◌, length, Option, Some, None}
 use Rattle.std.proofs.Common.{IsTrue, Result, Ok, Err, ◌⊎◌, ◌^◌, inl, inr, refl, sym, ap, ◌∙◌, subst, arith, le_refl}
 use Rattle.std.proofs.lemmas.Bool.Decides.{nat_tests}
 use Rattle.std.proofs.Math.Bool.{and-false, or-false, or-true}
@@ -18,7 +19,8 @@ use Rattle.nofs_history.specs.World.{World, blocks_for, damaged_above, free_bloc
 use Rattle.nofs_history.specs.Claims.{no_claims}
 use Rattle.nofs_history.specs.declared.machine.history.Claims.{Claims}
 use Rattle.nofs_history.specs.Meta.{is_bytes}
-use Rattle.nofs_history.specs.Refusals.{row, rows, stale, is_directory, too_large, past_end, lost_under, full, serials_spent}
+use Rattle.nofs_history.specs.Refusals.{row, rows, stale, is_directory, too_large, past_end, lost_under, full}
+use Rattle.nofs_history.specs.Refusals.{serials_spent}
 use Rattle.nofs_history.specs.declared.machine.history.Entry1.{Entry1}
 use Rattle.nofs_history.specs.declared.machine.steps.Step.{Step}
 use Rattle.nofs_history.specs.declared.machine.steps.Step.TheVariants as step
@@ -50,7 +52,8 @@ use Rattle.nofs_model.proofs.OnSlots.Paths.{path_of-slot}
 skip2 : (a b : Option Refusal) (os : List (Option Refusal)) → a ≡ None → b ≡ None → first_of (a ∷ b ∷ os) ≡ first_of os
 skip2 a b os ea eb = rw (ea, eb) refl
 
-front2 : (a b : Option Refusal) (os : List (Option Refusal)) (w : Refusal) → first_of (a ∷ b ∷ []) ≡ Some w → first_of (a ∷ b ∷ os) ≡ Some w
+front2 : (a b : Option Refusal) (os : List (Option Refusal)) (w : Refusal) → first_of (a ∷ b ∷ []) ≡ Some w
+    → first_of (a ∷ b ∷ os) ≡ Some w
 front2 None None os w e = cc
 front2 None (Some x) os w e = e
 front2 (Some x) b os w e = e
@@ -75,16 +78,21 @@ module _ {old : DiskState} {k : Books} {i g slot at : ℕ} {bytes : List ℕ} (f
   tail W V = stale W i g ∷ is_directory W i ∷ last_rows W V
 
   pub goes-bad : is_bad_range at (length bytes) ≡ true → Goes old k old k put no_claims (reply.Refused refusal.BadRange)
-  goes-bad bad = goes-row old old k put f.disk f.safe (StaysButFaults-refl old) refusal.BadRange refl tt f.going (λ tells H p o. rw bad refl)
+  goes-bad bad = goes-row old old k put f.disk f.safe (StaysButFaults-refl old) refusal.BadRange refl tt f.going
+      (λ tells H p o. rw bad refl)
 
-  pub goes-too-large : is_bad_range at (length bytes) ≡ false → slots_of k.at ≤ slot → Goes old k old k put no_claims (reply.Refused refusal.TooLarge)
-  goes-too-large good high = goes-row old old k put f.disk f.safe (StaysButFaults-refl old) refusal.TooLarge refl tt f.going
+  pub goes-too-large : is_bad_range at (length bytes) ≡ false → slots_of k.at ≤ slot
+      → Goes old k old k put no_claims (reply.Refused refusal.TooLarge)
+  goes-too-large good high =
+      goes-row old old k put f.disk f.safe (StaysButFaults-refl old) refusal.TooLarge refl tt f.going
       (λ tells H p o. rw (good, large-some p.world slot k.at o.says.version high) refl)
 
   module _ (good : is_bad_range at (length bytes) ≡ false) (low : slot < slots_of k.at) where
-    front : (H : List Entry1) (p : Past) → IsOpen old k H p → (V : World) → first_of (rows p.world V put) ≡ first_of (tail p.world V)
+    front : (H : List Entry1) (p : Past) → IsOpen old k H p
+        → (V : World) → first_of (rows p.world V put) ≡ first_of (tail p.world V)
     unfolding tail
-    front H p o V = skip2 (row (is_bad_range at (length bytes)) refusal.BadRange) (too_large p.world slot) (tail p.world V)
+    front H p o V =
+        skip2 (row (is_bad_range at (length bytes)) refusal.BadRange) (too_large p.world slot) (tail p.world V)
         (rw good refl) (large-none p.world slot k.at o.says.version low)
 
     late : (H : List Entry1) (p : Past) → IsOpen old k H p → IsLate (first_of (rows p.world p.world put))
@@ -103,7 +111,8 @@ module _ {old : DiskState} {k : Books} {i g slot at : ℕ} {bytes : List ℕ} (f
               (
                 late-row (damaged_above W.files i (path_of slot) || lost) (refusal.LostSlot slot) refl,
                 (
-                  late-row (ltb (free_blocks W) n) (refusal.Full n (free_blocks W) (unverified_blocks W) (next_block W)) refl,
+                  late-row (ltb (free_blocks W) n)
+                      (refusal.Full n (free_blocks W) (unverified_blocks W) (next_block W)) refl,
                   (late-row (ltb (2 ^ 40) (W.serial + 0 + n)) refusal.SerialsSpent refl, tt),
                 ),
               ),
@@ -114,8 +123,10 @@ module _ {old : DiskState} {k : Books} {i g slot at : ℕ} {bytes : List ℕ} (f
     pub goes-unopened-put : {new : DiskState} {last : LastRead} {res : Result Record Refusal} {why : Refusal}
         → OpensFile old new k i g last res → res ≡ Err why → Goes old k new k put no_claims (reply.Refused why)
     unfolding tail
-    goes-unopened-put {new} {last} {res} {why} opens e = goes-unfiled old new k put i g last res why f.disk f.safe f.going opens e
-        (λ H p o q. front H p o p.world ∙ front2 (stale p.world i g) (is_directory p.world i) (last_rows p.world p.world) why q) late
+    goes-unopened-put {new} {last} {res} {why} opens e =
+        goes-unfiled old new k put i g last res why f.disk f.safe f.going opens e
+        (λ H p o q. front H p o p.world
+        ∙ front2 (stale p.world i g) (is_directory p.world i) (last_rows p.world p.world) why q) late
 
     module _ {mid : DiskState} {last : LastRead} {r : Record} (opens : OpensFile old mid k i g last (Ok r)) where
       rec : IsTrue old.tells → inode old.now i ≡ r
@@ -139,38 +150,50 @@ module _ {old : DiskState} {k : Books} {i g slot at : ℕ} {bytes : List ℕ} (f
           let match = open-files old k H p o in
           let a = agrees H p tells o in
           let kind = ap (λ (q : Record). q.kind) (rec tells) ∙ opens.file.kind in
-          let folder : is_folder_at p.world.files i ≡ false = folder-is p.world.files old.now i match a ∙ ap (λ q. is_kind Directory q) kind in
+          let folder : is_folder_at p.world.files i ≡ false = folder-is p.world.files old.now i match a
+          ∙ ap (λ q. is_kind Directory q) kind in
           front H p o V ∙ skip2 (stale p.world i g) (is_directory p.world i) (last_rows p.world V)
           (stale-none p.world old.now i g match (opens.current tells (are-agreed old k H p f.safe o))) (rw folder refl)
 
-      past-is : (t : Bool) → is_past_end r.size slot ≡ t → (H : List Entry1) (p : Past) → IsTrue old.tells → IsOpen old k H p
+      past-is : (t : Bool) → is_past_end r.size slot ≡ t → (H : List Entry1) (p : Past) → IsTrue old.tells
+          → IsOpen old k H p
           → is_past_end (size_of p.world.files i) slot ≡ t
       past-is t e H p tells o = ap (λ (n : ℕ). is_past_end n slot) (size-is H p tells o) ∙ e
 
-      pub goes-past-end : is_past_end r.size slot ≡ true → Goes old k mid k put no_claims (reply.Refused refusal.PastEnd)
+      pub goes-past-end : is_past_end r.size slot ≡ true
+          → Goes old k mid k put no_claims (reply.Refused refusal.PastEnd)
       goes-past-end past = goes-row old mid k put f.disk f.safe opens.stays refusal.PastEnd refl tt f.going
           (λ tells H p o. opened H p tells o p.world ∙ (let t = past-is true past H p tells o in rw t refl))
 
-      pub goes-unread : {new : DiskState} {next : LastRead} {e : Failed} → FindsSlot mid new k.at (λ X. find X i (path_of slot)) next (Err e)
+      pub goes-unread : {new : DiskState} {next : LastRead} {e : Failed}
+          → FindsSlot mid new k.at (λ X. find X i (path_of slot)) next (Err e)
           → Goes old k new k put no_claims (reply.Refused refusal.ReadFault)
-      goes-unread {new} finds = goes-read old new k put f.disk f.safe (StaysButFaults-trans old mid new opens.stays finds.stays) f.going
-          (Rose-within old.faults mid.faults new.faults new.faults opens.stays.disk.faults finds.cause (le_refl new.faults)) (λ tells H p o. late H p o)
+      goes-unread {new} finds =
+          goes-read old new k put f.disk f.safe (StaysButFaults-trans old mid new opens.stays finds.stays) f.going
+          (Rose-within old.faults mid.faults new.faults new.faults opens.stays.disk.faults finds.cause
+          (le_refl new.faults)) (λ tells H p o. late H p o)
 
       module _ {new : DiskState} {next : LastRead} {a : PathAnswer}
-          (finds : FindsSlot mid new k.at (λ X. find X i (path_of slot)) next (Ok a)) (inside : is_past_end r.size slot ≡ false) where
+          (finds : FindsSlot mid new k.at (λ X. find X i (path_of slot)) next (Ok a))
+          (inside : is_past_end r.size slot ≡ false) where
         found : IsTrue old.tells → a ≡ find old.now i (path_of slot)
-        found tells = subst (λ (X : Image). a ≡ find X i (path_of slot)) opens.stays.cells.now (finds.found (told-on old mid opens.stays tells))
+        found tells = subst (λ (X : Image). a ≡ find X i (path_of slot)) opens.stays.cells.now
+            (finds.found (told-on old mid opens.stays tells))
 
-        value-found : (H : List Entry1) (p : Past) → IsTrue old.tells → IsOpen old k H p → value_of p.world.files i slot ≡ value_in old.now a
+        value-found : (H : List Entry1) (p : Past) → IsTrue old.tells → IsOpen old k H p
+            → value_of p.world.files i slot ≡ value_in old.now a
         value-found H p tells o =
-            value-is p.world.files old.now i slot (open-files old k H p o) (agrees H p tells o) (slots-most k.at slot low)
+            value-is p.world.files old.now i slot (open-files old k H p o) (agrees H p tells o)
+            (slots-most k.at slot low)
             ∙ ap (value_in old.now) (sym (found tells))
 
         within : (H : List Entry1) (p : Past) → IsTrue old.tells → IsOpen old k H p → (V : World)
-            → first_of (rows p.world V put) ≡ first_of (lost_under p.world i slot at bytes ∷ full p.world V put ∷ serials_spent p.world put ∷ [])
+            → first_of (rows p.world V put)
+            ≡ first_of (lost_under p.world i slot at bytes ∷ full p.world V put ∷ serials_spent p.world put ∷ [])
         within H p tells o V = opened H p tells o V ∙ (let t = past-is false inside H p tells o in rw t refl)
 
-        under-is : (t : Bool) → is_lost_under r.size slot at (length bytes) ≡ t → (H : List Entry1) (p : Past) → IsTrue old.tells → IsOpen old k H p
+        under-is : (t : Bool) → is_lost_under r.size slot at (length bytes) ≡ t → (H : List Entry1) (p : Past)
+            → IsTrue old.tells → IsOpen old k H p
             → is_lost_under (size_of p.world.files i) slot at (length bytes) ≡ t
         under-is t e H p tells o = ap (λ (n : ℕ). is_lost_under n slot at (length bytes)) (size-is H p tells o) ∙ e
 
@@ -181,14 +204,17 @@ module _ {old : DiskState} {k : Books} {i g slot at : ℕ} {bytes : List ℕ} (f
             → Goes old k new k put no_claims (reply.Refused (refusal.LostSlot slot))
         goes-lost lost under = goes-row old new k put f.disk f.safe stays (refusal.LostSlot slot) refl tt f.going
             (λ tells H p o.
-            let v : is_lost (value_of p.world.files i slot) ≡ true = ap is_lost (value-found H p tells o ∙ ap (value_in old.now) lost) in
+            let v : is_lost (value_of p.world.files i slot) ≡ true =
+            ap is_lost (value-found H p tells o ∙ ap (value_in old.now) lost) in
             let u = under-is true under H p tells o in
             within H p tells o p.world ∙ rw (v, u, or-true) refl)
 
         -- where the slot is there, or lost and wholly covered
-        rows-reach : (is_lost (value_in old.now a) ≡ false) ⊎ (is_lost_under r.size slot at (length bytes) ≡ false) → RowsReach old k i g slot at bytes
+        rows-reach : (is_lost (value_in old.now a) ≡ false) ⊎ (is_lost_under r.size slot at (length bytes) ≡ false)
+            → RowsReach old k i g slot at bytes
         rows-reach why tells H p o V = within H p tells o V ∙ elim why [
-          | inl here ↦ (let v : is_lost (value_of p.world.files i slot) ≡ false = ap is_lost (value-found H p tells o) ∙ here in rw (v, or-false) refl)
+          | inl here ↦ (let v : is_lost (value_of p.world.files i slot) ≡ false = ap is_lost (value-found H p tells o)
+              ∙ here in rw (v, or-false) refl)
           | inr covered ↦ (let u = under-is false covered H p tells o in rw (u, and-false, or-false) refl)
         ]
 
@@ -198,7 +224,8 @@ module _ {old : DiskState} {k : Books} {i g slot at : ℕ} {bytes : List ℕ} (f
         -- the same at the moment after the reads
         pub reach-after : (is_lost (value_in old.now a) ≡ false) ⊎ (is_lost_under r.size slot at (length bytes) ≡ false)
             → RowsReach new k i g slot at bytes
-        reach-after why tells H p o V = rows-reach why (subst (λ (b : Bool). IsTrue b) keep.disk.tells tells) H p (open-back old new keep k H p o) V
+        reach-after why tells H p o V =
+            rows-reach why (subst (λ (b : Bool). IsTrue b) keep.disk.tells tells) H p (open-back old new keep k H p o) V
 
         pub reach-hole : a ≡ answer.Hole → RowsReach new k i g slot at bytes
         reach-hole e = reach-after (inl (ap (λ (q : PathAnswer). is_lost (value_in old.now q)) e))
@@ -209,15 +236,20 @@ module _ {old : DiskState} {k : Books} {i g slot at : ℕ} {bytes : List ℕ} (f
             let t = subst (λ (b : Bool). IsTrue b) keep.disk.tells tells in
             let q = open-back old new keep k H p o in
             let most = slots-most k.at slot low in
-            let v : is_bytes (value_of p.world.files i slot) ≡ true = ap is_bytes (value-found H p t q ∙ ap (value_in old.now) e) in
+            let v : is_bytes (value_of p.world.files i slot) ≡ true =
+            ap is_bytes (value-found H p t q ∙ ap (value_in old.now) e) in
             let d : damaged_above p.world.files i (path_of slot) ≡ false =
-            held-sound p.world.files old.now i (open-files old k H p q) (agrees H p t q) (path_of slot) (path_of-slot slot most) (sym (found t) ∙ e) in
+            held-sound p.world.files old.now i (open-files old k H p q) (agrees H p t q) (path_of slot)
+            (path_of-slot slot most) (sym (found t) ∙ e) in
             let n : blocks_for p.world.files i slot ≡ 0 = rw v refl in
             let serial = o.says.serial in
             let most-serial = f.safe.serial in
             let few = not-less (free_blocks p.world) (blocks_for p.world.files i slot) (omega (arith, n)) in
-            let left = not-less (2 ^ 40) (p.world.serial + 0 + blocks_for p.world.files i slot) (omega (arith, n, serial, most-serial)) in
-            reach-after (inl (ap (λ (q : PathAnswer). is_lost (value_in old.now q)) e)) tells H p o V ∙ rw (d, few, left) refl
+            let left = not-less (2 ^ 40) (p.world.serial + 0 + blocks_for p.world.files i slot)
+            (omega (arith, n, serial, most-serial)) in
+            reach-after (inl (ap (λ (q : PathAnswer). is_lost (value_in old.now q)) e)) tells H p o V
+            ∙ rw (d, few, left) refl
 
-        pub after : {end : DiskState} {l : Books} {c : Claims} {reply : Reply} → Goes new k end l put c reply → Goes old k end l put c reply
+        pub after : {end : DiskState} {l : Books} {c : Claims} {reply : Reply} → Goes new k end l put c reply
+            → Goes old k end l put c reply
         after {end} {l} {c} {reply} goes = goes-after old new keep end k l put c reply goes

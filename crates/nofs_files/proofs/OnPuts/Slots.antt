@@ -5,7 +5,8 @@ use Rattle.std.proofs.Common.{refl, sym, ap, ◌∙◌, subst, subst₂}
 use Rattle.nofs_ptrs.specs.Paths.{slot_limit}
 use Rattle.nofs_disk.specs.Disk.{DiskState, IsDisk, cell_at}
 use Rattle.nofs_model.specs.Cells.{Cell, Pointer, Record, SuperBlock, is_null, pointer_at, tag_of, is_live}
-use Rattle.nofs_model.specs.Image.{Image, value, is_data_block, inode, Path, InRecord, Under, path_of, is_pointer_slot, tag_for}
+use Rattle.nofs_model.specs.Image.{Image, value, is_data_block, inode, Path, InRecord, Under, path_of, is_pointer_slot}
+use Rattle.nofs_model.specs.Image.{tag_for}
 use Rattle.nofs_model.specs.Image.{find, pointer, record_pointer, is_folder, IsAbove, IsSlot, IsFree}
 use Rattle.nofs_model.specs.declared.image.path.PathAnswer.TheVariants as answer
 use Rattle.nofs_model.proofs.OnSlots.Find.{find-held}
@@ -41,11 +42,13 @@ use Rattle.nofs_files.proofs.OnPuts.Ways.{way-changed, up-changed, step-down, on
 use Rattle.nofs_files.proofs.OnPuts.Image.{Climbs}
 use Rattle.nofs_files.proofs.OnPuts.Image as image
 
-module _ (old new : DiskState) (k l : Books) (H : List Entry1) (p : Past) (i g slot at : ℕ) (bytes : List ℕ) (r r' : Record) (m : ℕ) (way : Path)
+module _ (old new : DiskState) (k l : Books) (H : List Entry1) (p : Past) (i g slot at : ℕ) (bytes : List ℕ)
+    (r r' : Record) (m : ℕ) (way : Path)
     (places : Path → Pointer) (cells : Path → Cell) (c : Claims) (c2 : Cell)
     (is_old : IsDisk old) (tells : IsTrue old.tells) (safe : IsSafe old k) (o : IsOpen old k H p)
     (h : Climbs old.now i g slot at bytes r r' m way places cells c c2)
-    (needs : blocks_for p.world.files i slot ≡ m) (claim : IsClaim p.world (step.Put i g slot at bytes) c) (takes : Takes k l c m) where
+    (needs : blocks_for p.world.files i slot ≡ m) (claim : IsClaim p.world (step.Put i g slot at bytes) c)
+    (takes : Takes k l c m) where
   -- what was shown of them before
   abbrev W : World
   W = image.W old new k l H p i g slot at bytes r r' m way places cells c c2 is_old tells safe o h needs claim takes
@@ -100,7 +103,8 @@ module _ (old new : DiskState) (k l : Books) (H : List Entry1) (p : Past) (i g s
   same-place = image.same-place old new k l H p i g slot at bytes r r' m way places cells c c2 is_old tells safe o h
       needs claim takes
 
-  abbrev data-stays : (b : ℕ) → is_data_block X b ≡ true → ((a : Path) → IsChanged m way a → b ≢ (places a).block) → cell_at Y b ≡ cell_at X b
+  abbrev data-stays : (b : ℕ) → is_data_block X b ≡ true → ((a : Path) → IsChanged m way a → b ≢ (places a).block)
+      → cell_at Y b ≡ cell_at X b
   data-stays = image.data-stays old new k l H p i g slot at bytes r r' m way places cells c c2 is_old tells safe o h
       needs claim takes
 
@@ -128,11 +132,13 @@ module _ (old new : DiskState) (k l : Books) (H : List Entry1) (p : Past) (i g s
   names = image.names old new k l H p i g slot at bytes r r' m way places cells c c2 is_old tells safe o h needs claim
       takes
 
-  abbrev tag-new : (a : Path) → IsNew m way a → tag_of (cell_at Y (places a).block).tag ≡ Some (tag_for Y i a (places a).stamp)
+  abbrev tag-new : (a : Path) → IsNew m way a
+      → tag_of (cell_at Y (places a).block).tag ≡ Some (tag_for Y i a (places a).stamp)
   tag-new = image.tag-new old new k l H p i g slot at bytes r r' m way places cells c c2 is_old tells safe o h needs
       claim takes
 
-  abbrev tag-old : (a : Path) → IsOld m way a → tag_of (cell_at Y (places a).block).tag ≡ tag_of (cell_at X (places a).block).tag
+  abbrev tag-old : (a : Path) → IsOld m way a
+      → tag_of (cell_at Y (places a).block).tag ≡ tag_of (cell_at X (places a).block).tag
   tag-old = image.tag-old old new k l H p i g slot at bytes r r' m way places cells c c2 is_old tells safe o h needs
       claim takes
 
@@ -151,32 +157,40 @@ module _ (old new : DiskState) (k l : Books) (H : List Entry1) (p : Past) (i g s
 
   placed-at : (a : Path) → IsAbove a way → IsNew m way a ⊎ IsOld m way a → IsPlaced Y i places a
   placed-at (InRecord n) u (inl w) = ap (λ (q : Record). record_pointer q n) here ∙ h.pointer_new n w
-  placed-at (InRecord n) u (inr d) = ap (λ (q : Record). record_pointer q n) here ∙ h.pointers_old n (λ w. not-both (InRecord n) w d)
-      ∙ ap (λ (q : Record). record_pointer q n) (sym h.file.rec) ∙ (find-held X i (InRecord n) (places (InRecord n)) (h.old (InRecord n) d)).same
-  placed-at (Under b n) u (inl w) = ap (λ (q : Cell). pointer_at q.payload n) (cell-here b (up-changed m way b n w)) ∙ h.next b n w
+  placed-at (InRecord n) u (inr d) = ap (λ (q : Record). record_pointer q n) here
+      ∙ h.pointers_old n (λ w. not-both (InRecord n) w d)
+      ∙ ap (λ (q : Record). record_pointer q n) (sym h.file.rec)
+      ∙ (find-held X i (InRecord n) (places (InRecord n)) (h.old (InRecord n) d)).same
+  placed-at (Under b n) u (inl w) =
+      ap (λ (q : Cell). pointer_at q.payload n) (cell-here b (up-changed m way b n w)) ∙ h.next b n w
   placed-at (Under b n) u (inr d) =
       let up = h.old b (old-up m way b n d) in
       let e : pointer X i (Under b n) ≡ pointer_at (cell_at X (places b).block).payload n = rw (up, pointer) refl in
-      ap (λ (q : Cell). pointer_at q.payload n) (leads b n d) ∙ sym e ∙ (find-held X i (Under b n) (places (Under b n)) (h.old (Under b n) d)).same
+      ap (λ (q : Cell). pointer_at q.payload n) (leads b n d) ∙ sym e
+      ∙ (find-held X i (Under b n) (places (Under b n)) (h.old (Under b n) d)).same
 
   -- the slot of content has none below
   not-way : (b : Path) (n : ℕ) → IsSlot (Under b n) → b ≡ way → ⊥
-  not-way b n s e = let t : IsSlot (Under (path_of slot) n) = subst (λ (q : Path). IsSlot (Under q n)) (e ∙ sym h.file.path)
+  not-way b n s e =
+      let t : IsSlot (Under (path_of slot) n) = subst (λ (q : Path). IsSlot (Under q n)) (e ∙ sym h.file.path)
       s in content-slot slot h.file.range t.0
     where
       content-slot : (q : ℕ) → q < slot_limit → is_pointer_slot (path_of q) ≡ true → ⊥
       content-slot q lt t = let z = path_of-content q lt in cc (z, t)
 
   beside : (b : Path) (n : ℕ) → IsSlot (Under b n) → IsAbove b way → (IsAbove (Under b n) way → ⊥)
-      → ((find X i b ≡ answer.Holds (places b)) × (pointer_at (cell_at Y (places b).block).payload n ≡ pointer_at (cell_at X (places b).block).payload n))
+      → ((find X i b ≡ answer.Holds (places b))
+      × (pointer_at (cell_at Y (places b).block).payload n ≡ pointer_at (cell_at X (places b).block).payload n))
       ⊎ ((find X i b ≡ answer.Hole) × (is_null (pointer_at (cell_at Y (places b).block).payload n) ≡ true))
   beside b n s u off = elim (step-down b way u) [
     | inl e ↦ absurd (not-way b n s e)
-    | inr (q, v) ↦ go q (λ e. off (subst (λ (t : ℕ). IsAbove (Under b t) way) (sym e) v)) (new-or-old m way (Under b q) v) (new-or-old m way b u)
+    | inr (q, v) ↦ go q (λ e. off (subst (λ (t : ℕ). IsAbove (Under b t) way) (sym e) v))
+        (new-or-old m way (Under b q) v) (new-or-old m way b u)
   ]
     where
       go : (q : ℕ) → n ≢ q → IsNew m way (Under b q) ⊎ IsOld m way (Under b q) → IsNew m way b ⊎ IsOld m way b
-          → ((find X i b ≡ answer.Holds (places b)) × (pointer_at (cell_at Y (places b).block).payload n ≡ pointer_at (cell_at X (places b).block).payload n))
+          → ((find X i b ≡ answer.Holds (places b))
+          × (pointer_at (cell_at Y (places b).block).payload n ≡ pointer_at (cell_at X (places b).block).payload n))
           ⊎ ((find X i b ≡ answer.Hole) × (is_null (pointer_at (cell_at Y (places b).block).payload n) ≡ true))
       go q ne (inl w) (inl z) = inr (
         h.hole b q w z,
@@ -194,22 +208,26 @@ module _ (old new : DiskState) (k l : Books) (H : List Entry1) (p : Past) (i g s
   grows = record {
     placed = λ a u. placed-at a u (new-or-old m way a u);
     not_null = λ a u. not-null X (places a) (area a u);
-    area = λ a u. subst (λ (q : SuperBlock). (leb (1 + q.inodes / 4) (places a).block && ltb (places a).block q.blocks) ≡ true) (sym (supers X Y super-stays))
+    area = λ a u. subst (λ (q : SuperBlock). (leb (1 + q.inodes / 4) (places a).block && ltb (places a).block q.blocks)
+        ≡ true) (sym (supers X Y super-stays))
         (area a u);
     tag = λ a u. elim (new-or-old m way a u) [
       | inl n ↦ tag-new a n
       | inr d ↦ tag-old a d ∙ (find-held X i a (places a) (h.old a d)).agrees.tag
           ∙ ap Some (sym (tag-same X Y i a (places a).stamp names.kind names.generation))
     ];
-    record_stays = λ n off. ap (λ (q : Record). record_pointer q n) here ∙ h.pointers_old n (λ w. off (new-above m way (InRecord n) w))
+    record_stays = λ n off. ap (λ (q : Record). record_pointer q n) here
+        ∙ h.pointers_old n (λ w. off (new-above m way (InRecord n) w))
         ∙ ap (λ (q : Record). record_pointer q n) (sym h.file.rec);
     beside = beside;
-    apart = λ b y s off held. data-stays y.block (find-held X i b y held).agrees.area (λ a q e. elim (changed-is m way a q) [
-      | inl n ↦ free a n i b y s h.file.agrees held e
-      | inr d ↦ (let w = one-owner X i i b a y (places a) held (h.old a d) e in
-          let t : b ≡ a = sym (path_of-slot_of b s) ∙ ap path_of w.1 ∙ path_of-slot_of a (slot-of-way a (old-above m way a d)) in
-          off (subst (λ (v : Path). IsAbove v way) (sym t) (old-above m way a d)))
-    ]);
+    apart = λ b y s off held. data-stays y.block
+        (find-held X i b y held).agrees.area (λ a q e. elim (changed-is m way a q) [
+          | inl n ↦ free a n i b y s h.file.agrees held e
+          | inr d ↦ (let w = one-owner X i i b a y (places a) held (h.old a d) e in
+              let t : b ≡ a = sym (path_of-slot_of b s) ∙ ap path_of w.1
+              ∙ path_of-slot_of a (slot-of-way a (old-above m way a d)) in
+              off (subst (λ (v : Path). IsAbove v way) (sym t) (old-above m way a d)))
+        ]);
   }
 
   pub lies : PutLies W.files X Y i g slot at bytes own.file (next_stamp W) places
@@ -221,9 +239,11 @@ module _ (old new : DiskState) (k l : Books) (H : List Entry1) (p : Past) (i g s
     range = h.file.range;
     touches = touches;
     names = names;
-    size = ap (λ (q : Record). q.size) here ∙ h.grew.size ∙ ap (λ (n : ℕ). max n (1024 * slot + at + length bytes)) (sym size);
+    size = ap (λ (q : Record). q.size) here
+        ∙ h.grew.size ∙ ap (λ (n : ℕ). max n (1024 * slot + at + length bytes)) (sym size);
     grows = subst (λ (q : Path). Grows (next_stamp W) X Y i q places) (sym h.file.path) grows;
-    content = ap (λ (q : Path). (cell_at Y (places q).block).payload) h.file.path ∙ ap (λ (q : Cell). q.payload) (cell-here way (way-changed m way)) ∙ h.content
+    content = ap (λ (q : Path). (cell_at Y (places q).block).payload) h.file.path
+        ∙ ap (λ (q : Cell). q.payload) (cell-here way (way-changed m way)) ∙ h.content
         ∙ (λ j. put_content (sym value-here j) (sym size j) slot at bytes);
     old = λ j some. old-pointers j (matched-file W.files X j match some).live;
   }
@@ -231,8 +251,10 @@ module _ (old new : DiskState) (k l : Books) (H : List Entry1) (p : Past) (i g s
   pub placed : ClaimsPlaced c X i slot places
   placed = record {
     cell = λ t. ap places h.file.path ∙ h.cell t;
-    leaf = λ t. subst (λ (q : Path). IsAbove (slot_above q) q × (places (slot_above q) ≡ c.leaf)) (sym h.file.path) (h.leaf t);
-    top = λ t. subst (λ (q : Path). IsAbove (slot_above (slot_above q)) q × (places (slot_above (slot_above q)) ≡ c.top)) (sym h.file.path) (h.top t);
+    leaf = λ t. subst (λ (q : Path). IsAbove (slot_above q) q × (places (slot_above q) ≡ c.leaf))
+        (sym h.file.path) (h.leaf t);
+    top = λ t. subst (λ (q : Path). IsAbove (slot_above (slot_above q)) q
+        × (places (slot_above (slot_above q)) ≡ c.top)) (sym h.file.path) (h.top t);
     each = λ a u. elim (new-or-old m way a (subst (λ (q : Path). IsAbove a q) h.file.path u))
         [ inl n ↦ inr (h.claimed a n, λ y held. h.empty a n y held) | inr d ↦ inl (h.old a d) ];
   }
@@ -249,21 +271,26 @@ module _ (old new : DiskState) (k l : Books) (H : List Entry1) (p : Past) (i g s
 
   numbers-at : (a : Path) → IsAbove a way → CellNumbers (Numbered W c) X (places a).block (cell_at Y (places a).block)
   numbers-at a u = elim (below a u) [
-    | inl e ↦ subst (λ (q : Path). CellNumbers (Numbered W c) X (places q).block (cell_at Y (places q).block)) (h.file.path ∙ sym e)
+    | inl e ↦ subst (λ (q : Path). CellNumbers (Numbered W c) X (places q).block (cell_at Y (places q).block))
+        (h.file.path ∙ sym e)
         (law-put-cells W X Y i g slot at bytes own.file (next_stamp W) places c old-numbers lies placed).0
-    | inr (n, v) ↦ (law-put-cells W X Y i g slot at bytes own.file (next_stamp W) places c old-numbers lies placed).1 a (to-slot a u)
+    | inr (n, v) ↦ (law-put-cells W X Y i g slot at bytes own.file (next_stamp W) places c old-numbers lies placed).1 a
+        (to-slot a u)
         (let s = slot-of-way (Under a n) v in s.0)
   ]
 
   table-numbers : CellNumbers (Numbered W c) X (table_block i) c2
-  table-numbers = law-table-numbers W c X (table_block i) c2 old-numbers h.file.tag_table (λ j e s. elim (table-records X i r' c2 h.file.has j e s) [
-    | inl new ↦ subst (λ (q : Record). RecordWritten W c X j q) (sym (new.1 ∙ sym here ∙ ap (inode Y) (sym new.0)))
-        ((law-put-record W X Y i g slot at bytes own.file (next_stamp W) places c old-numbers lies placed).1 j)
-    | inr was ↦ AsBefore was
-  ])
+  table-numbers = law-table-numbers W c X (table_block i) c2 old-numbers h.file.tag_table
+      (λ j e s. elim (table-records X i r' c2 h.file.has j e s) [
+        | inl new ↦ subst (λ (q : Record). RecordWritten W c X j q) (sym (new.1 ∙ sym here ∙ ap (inode Y) (sym new.0)))
+            ((law-put-record W X Y i g slot at bytes own.file (next_stamp W) places c old-numbers lies placed).1 j)
+        | inr was ↦ AsBefore was
+      ])
 
-  pub numbers : (n : ℕ) (cell : Cell) → OneOf (way_writes places cells (table_block i, c2) m way) n cell → CellNumbers (Numbered W c) X n cell
+  pub numbers : (n : ℕ) (cell : Cell) → OneOf (way_writes places cells (table_block i, c2) m way) n cell
+      → CellNumbers (Numbered W c) X n cell
   numbers n cell one = elim (one-is places cells (table_block i, c2) m way n cell one) [
     | inl e ↦ subst₂ (λ (q : ℕ) (d : Cell). CellNumbers (Numbered W c) X q d) (sym e.0) (sym e.1) table-numbers
-    | inr (a, q, eb, ec) ↦ subst₂ (λ (b : ℕ) (d : Cell). CellNumbers (Numbered W c) X b d) (sym eb) (cell-here a q ∙ sym ec) (numbers-at a (changed-above a q))
+    | inr (a, q, eb, ec) ↦ subst₂ (λ (b : ℕ) (d : Cell). CellNumbers (Numbered W c) X b d) (sym eb)
+        (cell-here a q ∙ sym ec) (numbers-at a (changed-above a q))
   ]

@@ -1,5 +1,6 @@
 -- What stays over a Put.
-use Rattle.std.proofs.Common.{◌≡◌, ℕ, ◌<◌, inl, inr, Bool, true, false, cond, eqb, leb, ltb, ◌&&◌, List, Option, Some, None, unwrap_or, refl, sym, ap, ◌∙◌}
+use Rattle.std.proofs.Common.{◌≡◌, ℕ, ◌<◌, inl, inr, Bool, true, false, cond, eqb, leb, ltb, ◌&&◌, List, Option, Some}
+use Rattle.std.proofs.Common.{None, unwrap_or, refl, sym, ap, ◌∙◌}
 use Rattle.std.proofs.Common.{subst, arith, zero, suc, ◌-◌, ◌++◌, ◌∷◌, take}
 use Rattle.std.proofs.lemmas.Bool.{cases_eq}
 use Rattle.std.proofs.lemmas.Bool.Decides.{nat_tests}
@@ -8,7 +9,8 @@ use Rattle.nofs_model.specs.Image.{path_of, FileState, Files, is_folder, Home, N
 use Rattle.nofs_model.specs.declared.image.value.Value.{Value}
 use Rattle.nofs_model.specs.declared.image.value.Value.TheVariants.{Hole, Bytes, Lost}
 use Rattle.nofs_history.specs.Meta.{is_bytes}
-use Rattle.nofs_history.specs.Machine.{Given, put_given, put_content, files_after, value_of, size_of, filled, file_after, after_meta, born_file}
+use Rattle.nofs_history.specs.Machine.{Given, put_given, put_content, files_after, value_of, size_of, filled}
+use Rattle.nofs_history.specs.Machine.{file_after, after_meta, born_file}
 use Rattle.nofs_history.specs.Machine.{is_at, lies_above, bytes_in, trimmed, cut_of}
 use Rattle.nofs_history.specs.Claims.{has_block, is_present}
 use Rattle.nofs_history.specs.Gives.{GivesNothing}
@@ -37,11 +39,13 @@ file-stays F given j n = ap (λ (b : Option ℕ). file_after given j (born_file 
           nodes = λ path. unwrap_or (n.nodes f.generation path q) (f.nodes path);
         }))
 
-kept-bytes : (b : Bool) (content : List ℕ) (v : Value) → is_bytes v ≡ true → is_bytes (unwrap_or (cond b (Some (Bytes content)) None) v) ≡ true
+kept-bytes : (b : Bool) (content : List ℕ) (v : Value)
+    → is_bytes v ≡ true → is_bytes (unwrap_or (cond b (Some (Bytes content)) None) v) ≡ true
 kept-bytes true content v e = refl
 kept-bytes false content v e = e
 
-kept-node : (b : Bool) (v : NodeState) → is_present v ≡ true → is_present (unwrap_or (cond b (Some Present) None) v) ≡ true
+kept-node : (b : Bool) (v : NodeState)
+    → is_present v ≡ true → is_present (unwrap_or (cond b (Some Present) None) v) ≡ true
 kept-node true v e = refl
 kept-node false v e = e
 
@@ -51,13 +55,17 @@ block_in o k = cond (ltb k slot_limit) (is_bytes (elim o [ None ↦ Hole | Some 
     (is_present (elim o [ None ↦ Absent | Some f ↦ f.nodes (path_of k) ]))
 
 -- a slot that has its block keeps it over a Put
-pub put-keeps-block : (F : Files) (i g k at : ℕ) (bytes : List ℕ) (f : FileState) (is : F i ≡ Some f) (gen : f.generation ≡ g)
-    (file : is_folder f.kind ≡ false) (home : Home) → has_block F home ≡ true → has_block (files_after F (put_given F i g k at bytes)) home ≡ true
+pub put-keeps-block : (F : Files) (i g k at : ℕ) (bytes : List ℕ) (f : FileState) (is : F i ≡ Some f)
+    (gen : f.generation ≡ g)
+    (file : is_folder f.kind ≡ false) (home : Home)
+    → has_block F home ≡ true → has_block (files_after F (put_given F i g k at bytes)) home ≡ true
 put-keeps-block F i g k at bytes f is gen file home h = elim (cases_eq home.inode i) [
   | inr other ↦ subst (λ (o : Option FileState). block_in o home.slot ≡ true)
-      (sym (file-stays F (put_given F i g k at bytes) home.inode ((put-gives F i g k at bytes f is gen file).elsewhere home.inode other))) h
+      (sym (file-stays F (put_given F i g k at bytes) home.inode
+      ((put-gives F i g k at bytes f is gen file).elsewhere home.inode other))) h
   | inl here ↦
-      let made : files_after F (put_given F i g k at bytes) home.inode ≡ Some (put-made F i g k at bytes f is gen file) = ap
+      let made : files_after F (put_given F i g k at bytes) home.inode
+      ≡ Some (put-made F i g k at bytes f is gen file) = ap
       (files_after F (put_given F i g k at bytes)) here ∙ put-new F i g k at bytes f is gen file in
       subst (λ (o : Option FileState). block_in o home.slot ≡ true) (sym made)
       (go (ltb home.slot slot_limit) (subst (λ (o : Option FileState). block_in o home.slot ≡ true) (ap F here ∙ is) h))
@@ -66,8 +74,10 @@ put-keeps-block F i g k at bytes f is gen file home h = elim (cases_eq home.inod
     go : (b : Bool) → cond b (is_bytes (f.values home.slot)) (is_present (f.nodes (path_of home.slot))) ≡ true
         → cond b (is_bytes ((filled (put_given F i g k at bytes) i f).values home.slot))
         (is_present ((filled (put_given F i g k at bytes) i f).nodes (path_of home.slot))) ≡ true
-    go true e = kept-bytes (is_at i g i f.generation && eqb k home.slot) (put_content (value_of F i k) (size_of F i) k at bytes) (f.values home.slot) e
-    go false e = kept-node (is_at i g i f.generation && lies_above (path_of home.slot) (path_of k)) (f.nodes (path_of home.slot)) e
+    go true e = kept-bytes (is_at i g i f.generation && eqb k home.slot)
+        (put_content (value_of F i k) (size_of F i) k at bytes) (f.values home.slot) e
+    go false e = kept-node (is_at i g i f.generation && lies_above (path_of home.slot) (path_of k))
+        (f.nodes (path_of home.slot)) e
 
 pub not-leb : (a b : ℕ) → b < a → leb a b ≡ false
 not-leb a b h = grind (arith, nat_tests)
@@ -82,7 +92,8 @@ bytes-none (Bytes content) e = cc
 pub same-content : (v : Value) (size slot at : ℕ) (bytes : List ℕ) → is_bytes v ≡ false
     → put_content (Bytes (number.zeros 1024)) size slot at bytes ≡ put_content v size slot at bytes
 unfolding put_content
-same-content v size slot at bytes e = ap (λ (old : List ℕ). put_bytes at bytes (trimmed (cut_of size slot) old)) (sym (bytes-none v e))
+same-content v size slot at bytes e =
+    ap (λ (old : List ℕ). put_bytes at bytes (trimmed (cut_of size slot) old)) (sym (bytes-none v e))
 
 -- zeros from a place on leave zeros as they are
 pub trimmed-zeros : (cut n : ℕ) → take cut (number.zeros n) ++ number.zeros (n - cut) ≡ number.zeros n

@@ -1,5 +1,6 @@
 -- The way to a slot: which of its blocks are claimed, which had their place, and which are written.
-use Rattle.std.proofs.Common.{◌≡◌, ◌≢◌, ℕ, zero, suc, ◌+◌, ◌<◌, ◌≤◌, ◌⊎◌, inl, inr, List, [], ◌∷◌, length, refl, sym, ap, ◌∙◌, subst, subst₂, arith}
+use Rattle.std.proofs.Common.{◌≡◌, ◌≢◌, ℕ, zero, suc, ◌+◌, ◌<◌, ◌≤◌, ◌⊎◌, inl, inr, List, [], ◌∷◌, length, refl, sym}
+use Rattle.std.proofs.Common.{ap, ◌∙◌, subst, subst₂, arith}
 use Rattle.std.specs.Prelude.{slice_set}
 use Rattle.std.proofs.lemmas.Bool.{cases_eq}
 use Rattle.std.proofs.lemmas.List.{get_or-set_same, get_or-set_other, length-set}
@@ -72,7 +73,8 @@ way-changed (suc m) (Under b n) = inl refl
 pub up-changed : (m : ℕ) (way a : Path) (n : ℕ) → IsNew m way (Under a n) → IsChanged m way a
 up-changed zero way a n h = absurd h
 up-changed (suc m) (InRecord q) a n e = cc
-up-changed (suc m) (Under b q) a n (inl e) = let s : a ≡ b = cc in inr (subst (λ (w : Path). IsChanged m b w) (sym s) (way-changed m b))
+up-changed (suc m) (Under b q) a n (inl e) = let s : a ≡ b = cc in
+    inr (subst (λ (w : Path). IsChanged m b w) (sym s) (way-changed m b))
 up-changed (suc m) (Under b q) a n (inr r) = inr (up-changed m b a n r)
 
 abbrev depth : Path → ℕ
@@ -105,7 +107,8 @@ old-up (suc m) (Under b q) a n h = old-up m b a n h
 pub step-down : (a way : Path) → IsAbove a way → (a ≡ way) ⊎ ((n : ℕ) × IsAbove (Under a n) way)
 step-down a (InRecord q) e = inl e
 step-down a (Under b q) (inl e) = inl e
-step-down a (Under b q) (inr r) = elim (step-down a b r) [ inl e ↦ inr (q, inl (ap (λ (w : Path). Under w q) e)) | inr (n, u) ↦ inr (n, inr u) ]
+step-down a (Under b q) (inr r) =
+    elim (step-down a b r) [ inl e ↦ inr (q, inl (ap (λ (w : Path). Under w q) e)) | inr (n, u) ↦ inr (n, inr u) ]
 
 -- a block is that of one that is written, or of none
 pub meets : (at : Path → Pointer) (m : ℕ) (way : Path) (b : ℕ) → ((a : Path) × IsChanged m way a × (b ≡ (at a).block))
@@ -136,9 +139,11 @@ module _ (at : Path → Pointer) (cells : Path → Cell) (t : ℕ × Cell) where
   one-is (suc m) (InRecord n) b c (inr (inl e)) = inl e
   one-is (suc m) (InRecord n) b c (inr (inr none)) = absurd none
   one-is (suc m) (Under d n) b c (inl e) = inr (Under d n, inl refl, e.0, e.1)
-  one-is (suc m) (Under d n) b c (inr r) = elim (one-is m d b c r) [ inl e ↦ inl e | inr (a, h, eb, ec) ↦ inr (a, inr h, eb, ec) ]
+  one-is (suc m) (Under d n) b c (inr r) =
+      elim (one-is m d b c r) [ inl e ↦ inl e | inr (a, h, eb, ec) ↦ inr (a, inr h, eb, ec) ]
 
-  pub changed-one : (m : ℕ) (way a : Path) → IsChanged m way a → OneOf (way_writes at cells t m way) (at a).block (cells a)
+  pub changed-one : (m : ℕ) (way a : Path) → IsChanged m way a
+      → OneOf (way_writes at cells t m way) (at a).block (cells a)
   changed-one zero way a e = inl (ap (λ (q : Path). (at q).block) e, ap cells e)
   changed-one (suc m) (InRecord n) a e = inl (ap (λ (q : Path). (at q).block) e, ap cells e)
   changed-one (suc m) (Under d n) a (inl e) = inl (ap (λ (q : Path). (at q).block) e, ap cells e)
@@ -173,7 +178,8 @@ AllNext P zero way = Unit {0}
 AllNext P (suc m) (InRecord n) = Unit {0}
 AllNext P (suc m) (Under b n) = P b n × AllNext P m b
 
-pub each-next : (P : Path → ℕ → Type 0) (m : ℕ) (way : Path) → AllNext P m way → (a : Path) (n : ℕ) → IsNew m way (Under a n) → P a n
+pub each-next : (P : Path → ℕ → Type 0) (m : ℕ) (way : Path) → AllNext P m way
+    → (a : Path) (n : ℕ) → IsNew m way (Under a n) → P a n
 each-next P zero way all a n h = absurd h
 each-next P (suc m) (InRecord q) all a n e = cc
 each-next P (suc m) (Under b q) all a n (inl e) = subst₂ P (sym (above-is e)) (sym (place-is e)) all.0
@@ -187,18 +193,22 @@ each-next P (suc m) (Under b q) all a n (inr r) = each-next P m b all.1 a n r
 
 -- The image after some writes
 
-pub written-apart : (ws : List (ℕ × Cell)) (X : Image) (b : ℕ) → ((c : Cell) → OneOf ws b c → ⊥) → cell_at (image_after ws X) b ≡ cell_at X b
+pub written-apart : (ws : List (ℕ × Cell)) (X : Image) (b : ℕ) → ((c : Cell) → OneOf ws b c → ⊥)
+    → cell_at (image_after ws X) b ≡ cell_at X b
 written-apart [] X b none = refl
 written-apart (w ∷ ws) X b none = written-apart ws (slice_set X w.0 w.1) b (λ c o. none c (inr o))
     ∙ get_or-set_other X w.0 b w.1 no_cell (λ e. none w.1 (inl (e, refl)))
 
-pub written-here : (ws : List (ℕ × Cell)) (X : Image) (b : ℕ) (c : Cell) → b < length X → ((d : Cell) → OneOf ws b d → d ≡ c)
+pub written-here : (ws : List (ℕ × Cell)) (X : Image) (b : ℕ) (c : Cell) → b < length X
+    → ((d : Cell) → OneOf ws b d → d ≡ c)
     → OneOf ws b c ⊎ (cell_at X b ≡ c) → cell_at (image_after ws X) b ≡ c
 written-here [] X b c low only (inl h) = absurd h
 written-here [] X b c low only (inr e) = e
-written-here (w ∷ ws) X b c low only h = written-here ws (slice_set X w.0 w.1) b c (let e = length-set X w.0 w.1 in omega (arith, e, low))
+written-here (w ∷ ws) X b c low only h =
+    written-here ws (slice_set X w.0 w.1) b c (let e = length-set X w.0 w.1 in omega (arith, e, low))
     (λ d o. only d (inr o)) (elim (cases_eq b w.0) [
-      | inl e ↦ inr (subst (λ (q : ℕ). cell_at (slice_set X q w.1) b ≡ c) e (get_or-set_same X b w.1 no_cell low ∙ only w.1 (inl (e, refl))))
+      | inl e ↦ inr (subst (λ (q : ℕ). cell_at (slice_set X q w.1) b ≡ c) e
+          (get_or-set_same X b w.1 no_cell low ∙ only w.1 (inl (e, refl))))
       | inr ne ↦ pass ne h
     ])
   where

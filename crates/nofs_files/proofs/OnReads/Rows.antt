@@ -1,5 +1,6 @@
 -- The rows of refusals that the steps on files share, in the words of the disk.
-use Rattle.std.proofs.Common.{◌≡◌, ℕ, ◌<◌, ◌≤◌, Bool, true, false, cond, eqb, leb, List, [], ◌∷◌, Option, Some, None, Result, Err, IfErr, refl, sym}
+use Rattle.std.proofs.Common.{◌≡◌, ℕ, ◌<◌, ◌≤◌, Bool, true, false, cond, eqb, leb, List, [], ◌∷◌, Option, Some, None}
+use Rattle.std.proofs.Common.{Result, Err, IfErr, refl, sym}
 use Rattle.std.proofs.Common.{ap, ◌∙◌, subst, arith}
 use Rattle.std.proofs.lemmas.Bool.Decides.{nat_tests}
 use Rattle.nofs_ptrs.specs.Paths.{slot_limit}
@@ -41,7 +42,8 @@ abbrev folder_in : Option FileState → Bool
 folder_in o = elim o [ None ↦ false | Some f ↦ is_folder f.kind ]
 
 -- whether a file is a directory
-pub folder-is : (F : Files) (X : Image) (i : ℕ) → FilesMatch F X → agreed (files_in X) i ≡ true → is_folder_at F i ≡ is_kind Directory (inode X i).kind
+pub folder-is : (F : Files) (X : Image) (i : ℕ) → FilesMatch F X
+    → agreed (files_in X) i ≡ true → is_folder_at F i ≡ is_kind Directory (inode X i).kind
 folder-is F X i match a = go (inode X i).kind (F i) (same-of F X i match a)
   where
     go : (o : Option FileKind) (p : Option FileState) → SameFile p (file_from X i o) → folder_in p ≡ is_kind Directory o
@@ -54,7 +56,8 @@ first-one : (o : Option Refusal) → first_of (o ∷ []) ≡ o
 first-one None = refl
 first-one (Some w) = refl
 
-pub file-row-is : (W : World) (X : Image) (i g : ℕ) → FilesMatch W.files X → first_of (stale W i g ∷ is_directory W i ∷ []) ≡ file_row X i g
+pub file-row-is : (W : World) (X : Image) (i g : ℕ) → FilesMatch W.files X
+    → first_of (stale W i g ∷ is_directory W i ∷ []) ≡ file_row X i g
 file-row-is W X i g match = go (is_current X i g) refl
   where
     go : (b : Bool) → is_current X i g ≡ b → first_of (stale W i g ∷ is_directory W i ∷ [])
@@ -64,13 +67,15 @@ file-row-is W X i g match = go (is_current X i g) refl
         ∙ ap (λ (b : Bool). row b refusal.IsDirectory) (folder-is W.files X i match (current-agreed X i g e)))
 
 -- the value of a slot
-pub value-is : (F : Files) (X : Image) (i k : ℕ) → FilesMatch F X → agreed (files_in X) i ≡ true → k < slot_limit → value_of F i k ≡ value X i k
+pub value-is : (F : Files) (X : Image) (i k : ℕ) → FilesMatch F X
+    → agreed (files_in X) i ≡ true → k < slot_limit → value_of F i k ≡ value X i k
 value-is F X i k match a low =
     let m = matched-agreed F X i match (agreed-live X i a) a in
     rw (m.is, value_of) (m.values k low)
 
 -- a slot beyond those that a file can have
-pub large-some : (W : World) (k : ℕ) (at : SuperBlock) → W.version ≡ at.version → slots_of at ≤ k → too_large W k ≡ Some refusal.TooLarge
+pub large-some : (W : World) (k : ℕ) (at : SuperBlock)
+    → W.version ≡ at.version → slots_of at ≤ k → too_large W k ≡ Some refusal.TooLarge
 large-some W k at v h =
     let s : slots W ≡ slots_of at = ap (λ (n : ℕ). cond (eqb n 1) 72 slot_limit) v in
     let t : leb (slots W) k ≡ true = le-is (slots W) k (omega (arith, s, h)) in rw t refl
@@ -94,16 +99,20 @@ slots-most at k h = go (eqb at.version 1) h
     go false l = l
 
 -- the file was not opened
-pub goes-unfiled : (old new : DiskState) (k : Books) (s : Step) (i g : ℕ) (last : LastRead) (res : Result Record Refusal) (why : Refusal) → IsDisk old
+pub goes-unfiled : (old new : DiskState) (k : Books) (s : Step) (i g : ℕ) (last : LastRead)
+    (res : Result Record Refusal) (why : Refusal) → IsDisk old
     → IsSafe old k → k.stopped ≡ false → OpensFile old new k i g last res → res ≡ Err why
-    → ((H : List Entry1) (p : Past) → IsOpen old k H p → first_of (stale p.world i g ∷ is_directory p.world i ∷ []) ≡ Some why
+    → ((H : List Entry1) (p : Past) → IsOpen old k H p
+    → first_of (stale p.world i g ∷ is_directory p.world i ∷ []) ≡ Some why
     → first_of (rows p.world p.world s) ≡ Some why)
-    → ((H : List Entry1) (p : Past) → IsOpen old k H p → IsLate (first_of (rows p.world p.world s))) → Goes old k new k s no_claims (reply.Refused why)
+    → ((H : List Entry1) (p : Past) → IsOpen old k H p → IsLate (first_of (rows p.world p.world s)))
+    → Goes old k new k s no_claims (reply.Refused why)
 goes-unfiled old new k s i g last res why is safe going opens e comes late = go
     (subst (λ (q : Result Record Refusal). IfErr q (FileFails old new k i g)) e opens.refused)
   where
     go : FileFails old new k i g why → Goes old k new k s no_claims (reply.Refused why)
     go (FailsByRow plain range comes-row) = goes-row old new k s is safe opens.stays why plain range going
-        (λ tells H p o. comes H p o (file-row-is p.world old.now i g (open-files old k H p o) ∙ comes-row tells (are-agreed old k H p safe o)))
+        (λ tells H p o. comes H p o
+        (file-row-is p.world old.now i g (open-files old k H p o) ∙ comes-row tells (are-agreed old k H p safe o)))
     go (FailsByRead same rose) = subst (λ (w : Refusal). Goes old k new k s no_claims (reply.Refused w)) (sym same)
         (goes-read old new k s is safe opens.stays going rose (λ tells H p o. late H p o))

@@ -1,5 +1,6 @@
 -- The count of back links, and what Stat answers.
-use Rattle.std.proofs.Common.{◌≡◌, ℕ, zero, suc, ◌+◌, ◌<◌, ◌≤◌, Bool, true, false, cond, ◌&&◌, not, eqb, is_some, IsTrue, List, [], ◌∷◌, length, take}
+use Rattle.std.proofs.Common.{◌≡◌, ℕ, zero, suc, ◌+◌, ◌<◌, ◌≤◌, Bool, true, false, cond, ◌&&◌, not, eqb, is_some}
+use Rattle.std.proofs.Common.{IsTrue, List, [], ◌∷◌, length, take}
 use Rattle.std.proofs.Common.{get_or, Option, Some, None, Result, Ok, Err, refl, sym, ap, ◌∙◌, subst, arith, le_refl}
 use Rattle.std.specs.List.{count_by}
 use mir.Val.{bool_byte}
@@ -46,55 +47,72 @@ byte-one false n e = sym e
 count-more : (p : BackLink → Bool) (xs : List BackLink) (k : ℕ) (d : BackLink) → k < length xs
     → count_by p (take (k + 1) xs) ≡ count_by p (take k xs) + one (p (get_or xs k d))
 count-more p [] k d low = absurd (omega (arith, low))
-count-more p (x ∷ xs) zero d low = sum_by-cons (λ l. one (p l)) x [] ∙ (let n : one (p x) + 0 ≡ 0 + one (p x) = omega arith in n)
+count-more p (x ∷ xs) zero d low = sum_by-cons (λ l. one (p l)) x []
+    ∙ (let n : one (p x) + 0 ≡ 0 + one (p x) = omega arith in n)
 count-more p (x ∷ xs) (suc k) d low =
     let deep = count-more p xs k d (omega (arith, low)) in
     let more : suc k + 1 ≡ suc (k + 1) = omega arith in
     let a = sum_by-cons (λ l. one (p l)) x (take (k + 1) xs) in
     let b = sum_by-cons (λ l. one (p l)) x (take k xs) in
-    let c : one (p x) + (count_by p (take k xs) + one (p (get_or xs k d))) ≡ (one (p x) + count_by p (take k xs)) + one (p (get_or xs k d)) = omega arith in
-    ap (λ (n : ℕ). count_by p (take n (x ∷ xs))) more ∙ a ∙ ap (λ (n : ℕ). one (p x) + n) deep ∙ c ∙ ap (λ (n : ℕ). n + one (p (get_or xs k d))) (sym b)
+    let c : one (p x) + (count_by p (take k xs) + one (p (get_or xs k d)))
+    ≡ (one (p x) + count_by p (take k xs)) + one (p (get_or xs k d)) = omega arith in
+    ap (λ (n : ℕ). count_by p (take n (x ∷ xs))) more ∙ a ∙ ap (λ (n : ℕ). one (p x) + n) deep
+    ∙ c ∙ ap (λ (n : ℕ). n + one (p (get_or xs k d))) (sym b)
 
-pub record Counted (old now : DiskState) (known : List (Option Bool)) (i : ℕ) (r : Record) (last : LastRead) (place links : ℕ) : Type 0 where
+pub record Counted (old now : DiskState) (known : List (Option Bool)) (i : ℕ) (r : Record) (last : LastRead)
+    (place links : ℕ) : Type 0 where
   pub stays : StaysButFaults old now
   pub kept : IsLast now last
   pub small : links ≤ place
-  pub count : IsTrue old.tells → AreTrue old.now known → links ≡ count_by (is_agreed_link (files_in old.now) i) (take place r.links)
+  pub count : IsTrue old.tells → AreTrue old.now known
+      → links ≡ count_by (is_agreed_link (files_in old.now) i) (take place r.links)
 
-pub counted-begins : (old : DiskState) (known : List (Option Bool)) (i : ℕ) (r : Record) (last : LastRead) → IsLast old last
+pub counted-begins : (old : DiskState) (known : List (Option Bool)) (i : ℕ) (r : Record) (last : LastRead)
+    → IsLast old last
     → Counted old old known i r last 0 0
-counted-begins old known i r last kept = record { stays = StaysButFaults-refl old; kept = kept; small = omega arith; count = λ t a. refl }
+counted-begins old known i r last kept =
+    record { stays = StaysButFaults-refl old; kept = kept; small = omega arith; count = λ t a. refl }
 
-pub counted-goes : (old now new : DiskState) (at : SuperBlock) (known : List (Option Bool)) (i : ℕ) (r : Record) (last next : LastRead) (place links : ℕ)
-    (res : Result Bool Failed) (pair : Bool) → KnowsInode old at i r → Counted old now known i r last place links → place < 4
-    → TellsAgreed now new known (λ X. is_agreed_link (files_in X) i (get_or r.links place no_link)) next res → res ≡ Ok pair
+pub counted-goes : (old now new : DiskState) (at : SuperBlock) (known : List (Option Bool)) (i : ℕ) (r : Record)
+    (last next : LastRead) (place links : ℕ)
+    (res : Result Bool Failed) (pair : Bool) → KnowsInode old at i r
+    → Counted old now known i r last place links → place < 4
+    → TellsAgreed now new known (λ X. is_agreed_link (files_in X) i (get_or r.links place no_link)) next res
+    → res ≡ Ok pair
     → Counted old new known i r next (place + 1) (links + one pair)
 counted-goes old now new at known i r last next place links res pair is c low reads e =
-    let q : TellsAgreed now new known (λ X. is_agreed_link (files_in X) i (get_or r.links place no_link)) next (Ok pair) =
-    subst (λ (w : Result Bool Failed). TellsAgreed now new known (λ X. is_agreed_link (files_in X) i (get_or r.links place no_link)) next w) e reads in
+    let q : TellsAgreed now new known
+    (λ X. is_agreed_link (files_in X) i (get_or r.links place no_link)) next (Ok pair) =
+    subst (λ (w : Result Bool Failed). TellsAgreed now new known
+    (λ X. is_agreed_link (files_in X) i (get_or r.links place no_link)) next w) e reads in
     record {
       stays = StaysButFaults-trans old now new c.stays q.stays;
       kept = q.kept;
       small = (let s = c.small in let b = one-small pair in omega (arith, s, b));
       count = λ t a.
-          let four : length r.links ≡ 4 = subst (λ (q : Record). length q.links ≡ 4) (is.same t) (four-links old.now i) in
+          let four : length r.links ≡ 4 =
+          subst (λ (q : Record). length q.links ≡ 4) (is.same t) (four-links old.now i) in
           let found : pair ≡ is_agreed_link (files_in old.now) i (get_or r.links place no_link) =
           subst (λ (X : Image). pair ≡ is_agreed_link (files_in X) i (get_or r.links place no_link)) c.stays.cells.now
           (q.found (told-on old now c.stays t) (subst (λ (X : Image). AreTrue X known) (sym c.stays.cells.now) a)) in
-          (λ j. c.count t a j + one (found j)) ∙ sym (count-more (is_agreed_link (files_in old.now) i) r.links place no_link (omega (arith, low, four)));
+          (λ j. c.count t a j + one (found j))
+          ∙ sym (count-more (is_agreed_link (files_in old.now) i) r.links place no_link (omega (arith, low, four)));
     }
   where
     one-small : (b : Bool) → one b ≤ 1
     one-small true = omega arith
     one-small false = omega arith
 
-pub counted-ends : (old now : DiskState) (at : SuperBlock) (known : List (Option Bool)) (i : ℕ) (r : Record) (last : LastRead) (place links : ℕ)
-    → KnowsInode old at i r → Counted old now known i r last place links → 4 ≤ place → CountsLinks old now known i r (Ok links)
+pub counted-ends : (old now : DiskState) (at : SuperBlock) (known : List (Option Bool)) (i : ℕ) (r : Record)
+    (last : LastRead) (place links : ℕ)
+    → KnowsInode old at i r → Counted old now known i r last place links
+    → 4 ≤ place → CountsLinks old now known i r (Ok links)
 counted-ends old now at known i r last place links is c all = record {
   stays = c.stays;
   count = λ t a.
       let four : length r.links ≡ 4 = subst (λ (q : Record). length q.links ≡ 4) (is.same t) (four-links old.now i) in
-      c.count t a ∙ ap (λ (xs : List BackLink). count_by (is_agreed_link (files_in old.now) i) xs) (take-whole r.links place (omega (arith, four, all)));
+      c.count t a ∙ ap (λ (xs : List BackLink). count_by (is_agreed_link (files_in old.now) i) xs)
+      (take-whole r.links place (omega (arith, four, all)));
   cause = tt;
 }
   where
@@ -108,18 +126,29 @@ counted-ends old now at known i r last place links is c all = record {
 
 pub reads : (i g : ℕ) → IsReading (step.Stat i g)
 unfolding gives
-reads i g = record { no_inode = refl; no_block = λ F. refl; gives = λ F. refl; no_slot = λ F. refl; sees_no_inode = λ j. refl; sees_no_block = λ p. refl }
+reads i g = record {
+  no_inode = refl;
+  no_block = λ F. refl;
+  gives = λ F. refl;
+  no_slot = λ F. refl;
+  sees_no_inode = λ j. refl;
+  sees_no_block = λ p. refl;
+}
 
 pub stat-late : (W : World) (i g : ℕ) → IsLate (first_of (rows W W (step.Stat i g)))
-stat-late W i g = first-late (rows W W (step.Stat i g)) (late-row (not (is_some (W.files i) && eqb (generation_of W.files i) g)) refusal.Stale refl, tt)
+stat-late W i g = first-late (rows W W (step.Stat i g))
+    (late-row (not (is_some (W.files i) && eqb (generation_of W.files i) g)) refusal.Stale refl, tt)
 
-pub stat-stale : (W : World) (i g : ℕ) → stale W i g ≡ Some refusal.Stale → first_of (rows W W (step.Stat i g)) ≡ Some refusal.Stale
+pub stat-stale : (W : World) (i g : ℕ) → stale W i g ≡ Some refusal.Stale
+    → first_of (rows W W (step.Stat i g)) ≡ Some refusal.Stale
 stat-stale W i g e = rw e refl
 
-pub stat-is : (F : Files) (X : Image) (i n : ℕ) (kind : FileKind) → FilesMatch F X → agreed (files_in X) i ≡ true → (inode X i).kind ≡ Some kind
+pub stat-is : (F : Files) (X : Image) (i n : ℕ) (kind : FileKind) → FilesMatch F X
+    → agreed (files_in X) i ≡ true → (inode X i).kind ≡ Some kind
     → n ≡ count_by (is_agreed_link (files_in X) i) (inode X i).links
     → reply.Stat (record { kind = kind; size = (inode X i).size; links = n }) ≡ stat_reply F i
-stat-is F X i n kind match a ek count = go (F i) refl (subst (λ (o : Option FileKind). SameFile (F i) (file_from X i o)) ek (same-of F X i match a))
+stat-is F X i n kind match a ek count =
+    go (F i) refl (subst (λ (o : Option FileKind). SameFile (F i) (file_from X i o)) ek (same-of F X i match a))
   where
     ours : BackLink → Bool
     ours l = is_pair F i l
@@ -134,14 +163,17 @@ stat-is F X i n kind match a ek count = go (F i) refl (subst (λ (o : Option Fil
         → reply.Stat (record { kind = kind; size = (inode X i).size; links = n }) ≡ stat_file F i o
     go None e s = absurd s
     go (Some f) e s =
-        let c : n ≡ count_by (λ (l : BackLink). is_pair F i l) f.links = count ∙ (λ j. count_by (same-test j) (sym s.links j)) in
+        let c : n ≡ count_by (λ (l : BackLink). is_pair F i l) f.links =
+        count ∙ (λ j. count_by (same-test j) (sym s.links j)) in
         λ j. reply.Stat (record { kind = sym s.kind j; size = sym s.size j; links = c j })
 
-module _ (old mid new : DiskState) (k : Books) (i g : ℕ) (last : LastRead) (it : Opened) (is : IsDisk old) (safe : IsSafe old k) (going : k.stopped ≡ false)
+module _ (old mid new : DiskState) (k : Books) (i g : ℕ) (last : LastRead) (it : Opened) (is : IsDisk old)
+    (safe : IsSafe old k) (going : k.stopped ≡ false)
     (opens : Opens old mid k i g last (Ok it)) where
   -- the links were counted
   pub goes-counted : (links : ℕ) → CountsLinks mid new k.agreement i it.found (Ok links)
-      → Goes old k new k (step.Stat i g) no_claims (reply.Stat (record { kind = it.kind; size = it.found.size; links = links }))
+      → Goes old k new k (step.Stat i g) no_claims
+      (reply.Stat (record { kind = it.kind; size = it.found.size; links = links }))
   goes-counted links counts =
       goes-answer old new k (step.Stat i g) is safe (StaysButFaults-trans old mid new opens.stays counts.stays)
       (reply.Stat (record { kind = it.kind; size = it.found.size; links = links })) refl refl (reads i g) going
@@ -152,10 +184,13 @@ module _ (old mid new : DiskState) (k : Books) (i g : ℕ) (last : LastRead) (it
       let r : inode old.now i ≡ it.found = record-of old mid k.at i it.found opens.stays opens.known.known tells in
       let count : links ≡ count_by (is_agreed_link (files_in old.now) i) it.found.links =
       subst (λ (X : Image). links ≡ count_by (is_agreed_link (files_in X) i) it.found.links) opens.stays.cells.now
-      (counts.count (told-on old mid opens.stays tells) (subst (λ (X : Image). AreTrue X k.agreement) (sym opens.stays.cells.now) known)) in (
+      (counts.count (told-on old mid opens.stays tells)
+      (subst (λ (X : Image). AreTrue X k.agreement) (sym opens.stays.cells.now) known)) in (
         rw (stale-none p.world old.now i g match current) refl,
-        subst (λ (q : Record). reply.Stat (record { kind = it.kind; size = q.size; links = links }) ≡ stat_reply p.world.files i) r
-            (stat-is p.world.files old.now i links it.kind match (and-first (agreed (files_in old.now) i) (eqb (inode old.now i).generation g) current)
+        subst (λ (q : Record). reply.Stat (record { kind = it.kind; size = q.size; links = links })
+            ≡ stat_reply p.world.files i) r
+            (stat-is p.world.files old.now i links it.kind match
+            (and-first (agreed (files_in old.now) i) (eqb (inode old.now i).generation g) current)
             (ap (λ (q : Record). q.kind) r ∙ opens.known.kind)
             (subst (λ (q : Record). links ≡ count_by (is_agreed_link (files_in old.now) i) q.links) (sym r) count)),
       ))
@@ -167,5 +202,7 @@ module _ (old mid new : DiskState) (k : Books) (i g : ℕ) (last : LastRead) (it
   -- a read failed
   pub goes-uncounted : (e : Failed) → CountsLinks mid new k.agreement i it.found (Err e)
       → Goes old k new k (step.Stat i g) no_claims (reply.Refused refusal.ReadFault)
-  goes-uncounted e counts = goes-read old new k (step.Stat i g) is safe (StaysButFaults-trans old mid new opens.stays counts.stays) going
-      (Rose-within old.faults mid.faults new.faults new.faults opens.stays.disk.faults counts.cause (le_refl new.faults)) (λ tells H p o. stat-late p.world i g)
+  goes-uncounted e counts =
+      goes-read old new k (step.Stat i g) is safe (StaysButFaults-trans old mid new opens.stays counts.stays) going
+      (Rose-within old.faults mid.faults new.faults new.faults opens.stays.disk.faults counts.cause
+      (le_refl new.faults)) (λ tells H p o. stat-late p.world i g)

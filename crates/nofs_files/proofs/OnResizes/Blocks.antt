@@ -1,5 +1,6 @@
 -- The blocks of what is cut, and the writes that may come.
-use Rattle.std.proofs.Common.{◌≡◌, ℕ, ◌+◌, ◌^◌, inl, inr, Bool, true, false, List, replicate, Option, Some, Result, Ok, Err, sym, ◌∙◌, subst, subst₂}
+use Rattle.std.proofs.Common.{◌≡◌, ℕ, ◌+◌, ◌^◌, inl, inr, Bool, true, false, List, replicate, Option, Some, Result, Ok}
+use Rattle.std.proofs.Common.{Err, sym, ◌∙◌, subst, subst₂}
 use Rattle.std.proofs.lemmas.List.{length-replicate}
 use Rattle.nofs_ptrs.specs.Paths.{slot_limit}
 use Rattle.nofs_bits.specs.Bits.{is_set}
@@ -16,8 +17,10 @@ use Rattle.nofs_state.proofs.OnWrites.TwoWrites.{first-fails, then-others}
 use Rattle.nofs_files.specs.Resizes.{MarksCut, first_cut, maybe}
 use Rattle.nofs_files.specs.declared.resizes.cuts.NewCell.{NewCell}
 
-pub cut-map-ends : (old mid new : DiskState) (at : SuperBlock) (i m : ℕ) (z b c : List Bool) (last next : LastRead) → z ≡ replicate at.blocks false
-    → MarksAll old mid at i m slot_limit z b last (Ok tt) → MarksAll mid new at i (first_cut m) (2 ^ 32 + 66) b c next (Ok tt)
+pub cut-map-ends : (old mid new : DiskState) (at : SuperBlock) (i m : ℕ) (z b c : List Bool) (last next : LastRead)
+    → z ≡ replicate at.blocks false
+    → MarksAll old mid at i m slot_limit z b last (Ok tt)
+    → MarksAll mid new at i (first_cut m) (2 ^ 32 + 66) b c next (Ok tt)
     → MarksCut old new at i m next (Ok c)
 cut-map-ends old mid new at i m z b c last next ez first second = record {
   stays = StaysButFaults-trans old mid new first.stays second.stays;
@@ -49,20 +52,25 @@ cut-map-ends old mid new at i m z b c last next ez first second = record {
 
     one : Marked new.now new.tells at i m slot_limit (replicate at.blocks false) b
     one = subst (λ (l : List Bool). Marked new.now new.tells at i m slot_limit l b) ez
-        (subst₂ (λ (X : Image) (told : Bool). Marked X told at i m slot_limit z b) (sym now-one) (sym tells-one) first.marked_as)
+        (subst₂ (λ (X : Image) (told : Bool). Marked X told at i m slot_limit z b) (sym now-one)
+        (sym tells-one) first.marked_as)
 
     two : Marked new.now new.tells at i (first_cut m) (2 ^ 32 + 66) b c
-    two = subst₂ (λ (X : Image) (told : Bool). Marked X told at i (first_cut m) (2 ^ 32 + 66) b c) (sym second.stays.cells.now) (sym second.stays.disk.tells)
+    two = subst₂ (λ (X : Image) (told : Bool). Marked X told at i (first_cut m) (2 ^ 32 + 66) b c)
+        (sym second.stays.cells.now) (sym second.stays.disk.tells)
         second.marked_as
 
 -- a write that comes is done, and then the others
-pub maybe-then : (old mid new : DiskState) (w : Option NewCell) (it : NewCell) (ws : List (ℕ × Cell)) (r : Result (Unit {0}) Failed) → IsDisk mid
+pub maybe-then : (old mid new : DiskState) (w : Option NewCell) (it : NewCell) (ws : List (ℕ × Cell))
+    (r : Result (Unit {0}) Failed) → IsDisk mid
     → w ≡ Some it → Writes old mid it.block it.cell (Ok tt) → WritesAll mid new ws r → WritesAll old new (maybe w ws) r
-maybe-then old mid new w it ws r is e one others = subst (λ (q : Option NewCell). WritesAll old new (maybe q ws) r) (sym e)
+maybe-then old mid new w it ws r is e one others =
+    subst (λ (q : Option NewCell). WritesAll old new (maybe q ws) r) (sym e)
     (then-others old mid new it.block it.cell ws r is one others)
 
 -- or it failed
-pub maybe-fails : (old new : DiskState) (w : Option NewCell) (it : NewCell) (ws : List (ℕ × Cell)) (x : Failed) → IsDisk new → w ≡ Some it
+pub maybe-fails : (old new : DiskState) (w : Option NewCell) (it : NewCell) (ws : List (ℕ × Cell)) (x : Failed)
+    → IsDisk new → w ≡ Some it
     → Writes old new it.block it.cell (Err x) → WritesAll old new (maybe w ws) (Err x)
 maybe-fails old new w it ws x is e one = subst (λ (q : Option NewCell). WritesAll old new (maybe q ws) (Err x)) (sym e)
     (first-fails old new it.block it.cell ws x is one)

@@ -11,9 +11,11 @@ pub record Cutting (from to : ℕ) (old now : List ℕ) : Type 0 where
   pub order : from ≤ to
 
 pub cutting-begins : (from : ℕ) (old : List ℕ) → Cutting from from old old
-cutting-begins from old = record { kept = λ n low most. refl; cut = λ n high low. absurd (omega (arith, high, low)); order = le_refl from }
+cutting-begins from old =
+    record { kept = λ n low most. refl; cut = λ n high low. absurd (omega (arith, high, low)); order = le_refl from }
 
-pub cutting-goes : (from place : ℕ) (old now new : List ℕ) → Cutting from place old now → place < 64 → pointer_at new place ≡ null
+pub cutting-goes : (from place : ℕ) (old now new : List ℕ) → Cutting from place old now
+    → place < 64 → pointer_at new place ≡ null
     → ((j : ℕ) → j ≢ place → j < 64 → pointer_at new j ≡ pointer_at now j) → Cutting from (place + 1) old new
 cutting-goes from place old now new c low written others = record {
   kept = λ n lt most. others n (λ e. let o = c.order in omega (arith, e, lt, o)) most ∙ c.kept n lt most;

@@ -1,5 +1,6 @@
 -- The contract of a Resize from the state before its writes.
-use Rattle.std.proofs.Common.{◌≡◌, ℕ, ◌+◌, ◌^◌, ◌≤◌, ◌⊎◌, Bool, true, false, List, [], ◌∷◌, length, Option, Some, None, IsTrue, Result, Ok, Err, refl, sym, ap, ◌∙◌}
+use Rattle.std.proofs.Common.{◌≡◌, ℕ, ◌+◌, ◌^◌, ◌≤◌, ◌⊎◌, Bool, true, false, List, [], ◌∷◌, length, Option, Some, None}
+use Rattle.std.proofs.Common.{IsTrue, Result, Ok, Err, refl, sym, ap, ◌∙◌}
 use Rattle.std.proofs.Common.{subst, subst₂, arith}
 use Rattle.std.specs.Prelude.{IfSome}
 use Rattle.nofs_ptrs.specs.Paths.{slot_limit}
@@ -44,7 +45,8 @@ use Rattle.nofs_files.proofs.OnResizes.Maps.{safe-freed}
 use Rattle.nofs_files.proofs.OnResizes.Proper.{claim}
 use Rattle.nofs_files.proofs.OnResizes.Mount.{resize-done, resize-numbered, resize-proper}
 
-maybe-apart : (at : SuperBlock) (w : Option NewCell) (ws : List (ℕ × Cell)) → IfSome w (CellInData at) → IsApart ws 0 → IsApart (maybe w ws) 0
+maybe-apart : (at : SuperBlock) (w : Option NewCell) (ws : List (ℕ × Cell)) → IfSome w (CellInData at) → IsApart ws 0
+    → IsApart (maybe w ws) 0
 maybe-apart at None ws inside rest = rest
 maybe-apart at (Some it) ws inside rest = ((λ e. let z = inside.0 in omega (arith, e, z)), rest)
 
@@ -53,12 +55,16 @@ maybe-length : (w : Option NewCell) (ws : List (ℕ × Cell)) (n : ℕ) → (1 �
 maybe-length None ws n h = (h.0, (let q = h.1 in omega (arith, q)))
 maybe-length (Some it) ws n h = ((omega arith), (let q = h.1 in omega (arith, q)))
 
-cut-count : (tail : Option NewCell) (edge : Edge) (t : ℕ) (c2 : Cell) → (1 ≤ length (cut_writes tail edge t c2)) × (length (cut_writes tail edge t c2) ≤ 4)
-cut-count tail edge t c2 = maybe-length tail _ 3 (maybe-length edge.below _ 2 (maybe-length edge.above ((t, c2) ∷ []) 1 (omega arith, omega arith)))
+cut-count : (tail : Option NewCell) (edge : Edge) (t : ℕ) (c2 : Cell) → (1 ≤ length (cut_writes tail edge t c2))
+    × (length (cut_writes tail edge t c2) ≤ 4)
+cut-count tail edge t c2 = maybe-length tail _ 3
+    (maybe-length edge.below _ 2 (maybe-length edge.above ((t, c2) ∷ []) 1 (omega arith, omega arith)))
 
-module _ (d new : DiskState) (k : Books) (i g size : ℕ) (r : Record) (tail : Option NewCell) (edge : Edge) (freed : List Bool) (c2 : Cell) (is_d : IsDisk d)
+module _ (d new : DiskState) (k : Books) (i g size : ℕ) (r : Record) (tail : Option NewCell) (edge : Edge)
+    (freed : List Bool) (c2 : Cell) (is_d : IsDisk d)
     (is_new : IsDisk new) (ready : MayCut d k i g size r tail edge freed)
-    (table : IsTrue d.tells → RecordIn (cell_at d.now (table_block i)) i (cut_record r size (kept_slots r.size size)) c2)
+    (table : IsTrue d.tells
+    → RecordIn (cell_at d.now (table_block i)) i (cut_record r size (kept_slots r.size size)) c2)
     (table-tag : tag_of c2.tag ≡ Some (table_tag (table_block i))) where
   apart : IsApart (cut_writes tail edge (table_block i) c2) 0
   apart = maybe-apart k.at tail _ ready.tail_data (maybe-apart k.at edge.below _ ready.edge_data.below
@@ -75,34 +81,46 @@ module _ (d new : DiskState) (k : Books) (i g size : ℕ) (r : Record) (tail : O
     new = ready.new;
     tail_is = ready.tail_is tells;
     edge_is = ready.edge_is tells;
-    has = record { range = (live-stands d.now i (agreed-live d.now i agrees)).range; here = (table tells).here; others = (table tells).others };
+    has = record {
+      range = (live-stands d.now i (agreed-live d.now i agrees)).range;
+      here = (table tells).here;
+      others = (table tells).others;
+    };
     tag_table = table-tag;
   }
     where
       agrees : agreed (files_in d.now) i ≡ true
       agrees = current-agreed d.now i g (ready.current tells (are-agreed d k H p ready.safe o))
 
-  each : IsTrue d.tells → (H : List Entry1) (p : Past) → IsOpen d k H p → HasOneEach (cut_writes tail edge (table_block i) c2)
+  each : IsTrue d.tells → (H : List Entry1) (p : Past) → IsOpen d k H p
+      → HasOneEach (cut_writes tail edge (table_block i) c2)
   each tells H p o = cut-each d k H p i g size r tail edge c2 is_d tells o (cuts H p tells o)
 
-  pub resized-goes : (l m : Books) (result : Result (Unit {0}) Refusal) → Stores d k new m (cut_writes tail edge (table_block i) c2) result
+  pub resized-goes : (l m : Books) (result : Result (Unit {0}) Refusal)
+      → Stores d k new m (cut_writes tail edge (table_block i) c2) result
       → (result ≡ Ok tt → BlocksFreed m l freed) → ((why : Refusal) → result ≡ Err why → l ≡ m)
       → Goes d k new l (step.Resize i g size) no_claims (resize_answer result)
   unfolding gives
   resized-goes l m result (Stored writes same e) ok err =
       let a : BlocksFreed k l freed = subst (λ (z : Books). BlocksFreed z l freed) same (ok e) in
       let going : l.stopped ≡ false = ap (λ (b : Books). b.stopped) a.same ∙ ready.going in
-      subst (λ (z : Result (Unit {0}) Refusal). Goes d k new l (step.Resize i g size) no_claims (resize_answer z)) (sym e)
-      (goes-done d new k l (step.Resize i g size) no_claims reply.Resized (cut_writes tail edge (table_block i) c2) is_d is_new ready.going
+      subst (λ (z : Result (Unit {0}) Refusal). Goes d k new l (step.Resize i g size) no_claims (resize_answer z))
+      (sym e)
+      (goes-done d new k l (step.Resize i g size) no_claims reply.Resized
+      (cut_writes tail edge (table_block i) c2) is_d is_new ready.going
       (ap (λ (b : Books). b.at) a.same) (ap (λ (b : Books). b.history) a.same) going
-      (safe-freed new k l freed (safe-writes d new k (cut_writes tail edge (table_block i) c2) (Ok tt) k.stopped writes apart ready.safe) a ready.map.size
-      ready.map.in_area) refl writes.adds.disk writes.adds.past writes.later (WritesAlone refl (writes-cells k (step.Resize i g size) no_claims writes
+      (safe-freed new k l freed (safe-writes d new k (cut_writes tail edge (table_block i) c2)
+      (Ok tt) k.stopped writes apart ready.safe) a ready.map.size
+      ready.map.in_area) refl writes.adds.disk writes.adds.past writes.later
+      (WritesAlone refl (writes-cells k (step.Resize i g size) no_claims writes
       (cut-count tail edge (table_block i) c2) each)) ready.safe
-      (λ tells H p o. resize-done d k H p i g size r tail edge c2 is_d tells o (cuts H p tells o) new l freed ready.map a writes (ready.rows tells H p o)))
+      (λ tells H p o. resize-done d k H p i g size r tail edge c2 is_d tells o
+      (cuts H p tells o) new l freed ready.map a writes (ready.rows tells H p o)))
   resized-goes l m result (NotStored f writes same e) ok err = subst₂
       (λ (z : Books) (w : Result (Unit {0}) Refusal). Goes d k new z (step.Resize i g size) no_claims (resize_answer w))
       (sym (err refusal.WriteFault e ∙ same)) (sym e)
-      (goes-fault d new k (stopped_books k) (step.Resize i g size) no_claims is_d ready.going refl refl refl writes.adds.disk writes.adds.past writes.cause
+      (goes-fault d new k (stopped_books k)
+      (step.Resize i g size) no_claims is_d ready.going refl refl refl writes.adds.disk writes.adds.past writes.cause
       writes.later (WritesAlone refl (writes-cells k (step.Resize i g size) no_claims writes
       (cut-count tail edge (table_block i) c2) each)) ready.safe
       (safe-writes d new k (cut_writes tail edge (table_block i) c2) (Err f) true writes apart ready.safe)
@@ -116,14 +134,18 @@ module _ (d new : DiskState) (k : Books) (i g size : ℕ) (r : Record) (tail : O
       )))
 
 -- a map of what is cut stays over reads
-pub map-after : (old mid : DiskState) (k : Books) (i m : ℕ) (freed : List Bool) → StaysButFaults old mid → IsCutMap old k.at i m freed
+pub map-after : (old mid : DiskState) (k : Books) (i m : ℕ) (freed : List Bool) → StaysButFaults old mid
+    → IsCutMap old k.at i m freed
     → IsCutMap mid k.at i m freed
 map-after old mid k i m freed stays q = record {
   size = q.size;
   in_area = q.in_area;
-  sound = λ t n s. subst (λ (X : Image). IsBlockAmong X i m slot_limit n ⊎ IsBlockAmong X i (first_cut m) (2 ^ 32 + 66) n) (sym now) (q.sound (told t) n s);
-  contents = λ t n x from low held. q.contents (told t) n x from low (ap (λ (X : Image). find X i (path_of n)) (sym now) ∙ held);
-  pointers = λ t n x from high held. q.pointers (told t) n x from high (ap (λ (X : Image). find X i (path_of n)) (sym now) ∙ held);
+  sound = λ t n s. subst (λ (X : Image). IsBlockAmong X i m slot_limit n
+      ⊎ IsBlockAmong X i (first_cut m) (2 ^ 32 + 66) n) (sym now) (q.sound (told t) n s);
+  contents = λ t n x from low held. q.contents (told t) n x from low
+      (ap (λ (X : Image). find X i (path_of n)) (sym now) ∙ held);
+  pointers = λ t n x from high held. q.pointers (told t) n x from high
+      (ap (λ (X : Image). find X i (path_of n)) (sym now) ∙ held);
 }
   where
     now : mid.now ≡ old.now
@@ -133,13 +155,19 @@ map-after old mid k i m freed stays q = record {
     told t = subst (λ (b : Bool). IsTrue b) stays.disk.tells t
 
 -- so does all that was read
-pub ready-after : (old mid : DiskState) (k : Books) (i g size : ℕ) (r : Record) (tail : Option NewCell) (edge : Edge) (freed : List Bool)
+pub ready-after : (old mid : DiskState) (k : Books) (i g size : ℕ) (r : Record) (tail : Option NewCell) (edge : Edge)
+    (freed : List Bool)
     → StaysButFaults old mid → MayCut old k i g size r tail edge freed → MayCut mid k i g size r tail edge freed
 ready-after old mid k i g size r tail edge freed stays q = record {
   safe = safe-keeps old mid (reads-keep old mid stays) k q.safe;
   going = q.going;
-  file = record { known = KnowsInode-on old mid k.at i r stays q.file.known; kind = q.file.kind; generation = q.file.generation };
-  current = λ t a. subst (λ (X : Image). is_current X i g ≡ true) (sym now) (q.current (told t) (subst (λ (X : Image). AreTrue X k.agreement) now a));
+  file = record {
+    known = KnowsInode-on old mid k.at i r stays q.file.known;
+    kind = q.file.kind;
+    generation = q.file.generation;
+  };
+  current = λ t a. subst (λ (X : Image). is_current X i g ≡ true) (sym now)
+      (q.current (told t) (subst (λ (X : Image). AreTrue X k.agreement) now a));
   old = q.old;
   new = q.new;
   eight = q.eight;
@@ -158,22 +186,33 @@ ready-after old mid k i g size r tail edge freed stays q = record {
     told t = subst (λ (b : Bool). IsTrue b) stays.disk.tells t
 
 -- from the state before the table was read
-pub resize-ends : {old mid new : DiskState} {k l m : Books} {i g size t : ℕ} {r : Record} {tail : Option NewCell} {edge : Edge} {freed : List Bool}
-    {before c2 : Cell} {result : Result (Unit {0}) Refusal} → IsDisk mid → IsDisk new → StaysButFaults old mid → MayCut old k i g size r tail edge freed
-    → (IsTrue old.tells → before ≡ cell_at old.now (table_block i)) → IsRecordCell before i (cut_record r size (kept_slots r.size size)) c2
-    → t ≡ table_block i → Stores mid k new m (cut_writes tail edge t c2) result → (result ≡ Ok tt → BlocksFreed m l freed)
-    → ((why : Refusal) → result ≡ Err why → l ≡ m) → Goes old k new l (step.Resize i g size) no_claims (resize_answer result)
-resize-ends {old} {mid} {new} {k} {l} {m} {i} {g} {size} {t} {r} {tail} {edge} {freed} {before} {c2} {result} is_mid is_new stays may read table at-table stores
+pub resize-ends : {old mid new : DiskState} {k l m : Books} {i g size t : ℕ} {r : Record} {tail : Option NewCell}
+    {edge : Edge} {freed : List Bool}
+    {before c2 : Cell} {result : Result (Unit {0}) Refusal} → IsDisk mid → IsDisk new → StaysButFaults old mid
+    → MayCut old k i g size r tail edge freed
+    → (IsTrue old.tells → before ≡ cell_at old.now (table_block i))
+    → IsRecordCell before i (cut_record r size (kept_slots r.size size)) c2
+    → t ≡ table_block i → Stores mid k new m (cut_writes tail edge t c2) result
+    → (result ≡ Ok tt → BlocksFreed m l freed)
+    → ((why : Refusal) → result ≡ Err why → l ≡ m)
+    → Goes old k new l (step.Resize i g size) no_claims (resize_answer result)
+resize-ends {old} {mid} {new} {k} {l} {m} {i} {g} {size} {t} {r} {tail} {edge} {freed} {before} {c2} {result} is_mid
+    is_new stays may read table at-table stores
     ok err =
     goes-after old mid (reads-keep old mid stays) new k l (step.Resize i g size) no_claims (resize_answer result)
-    (resized-goes mid new k i g size r tail edge freed c2 is_mid is_new (ready-after old mid k i g size r tail edge freed stays may)
+    (resized-goes mid new k i g size r tail edge freed c2 is_mid is_new
+    (ready-after old mid k i g size r tail edge freed stays may)
     (λ t. subst (λ (c : Cell). RecordIn c i (cut_record r size (kept_slots r.size size)) c2)
-    (read (subst (λ (b : Bool). IsTrue b) stays.disk.tells t) ∙ ap (λ (X : Image). cell_at X (table_block i)) (sym stays.cells.now)) table.here)
-    table.tag l m result (subst (λ (n : ℕ). Stores mid k new m (cut_writes tail edge n c2) result) at-table stores) ok err)
+    (read (subst (λ (b : Bool). IsTrue b) stays.disk.tells t)
+    ∙ ap (λ (X : Image). cell_at X (table_block i)) (sym stays.cells.now)) table.here)
+    table.tag l m result
+    (subst (λ (n : ℕ). Stores mid k new m (cut_writes tail edge n c2) result) at-table stores) ok err)
 
 -- the table was not read
-pub resize-unread : {old new : DiskState} {k : Books} {i g size : ℕ} {r : Record} {tail : Option NewCell} {edge : Edge} {freed : List Bool} {why : Refusal}
-    → IsDisk old → MayCut old k i g size r tail edge freed → StaysButFaults old new → (why ≡ refusal.ReadFault) × Rose old.faults new.faults
+pub resize-unread : {old new : DiskState} {k : Books} {i g size : ℕ} {r : Record} {tail : Option NewCell} {edge : Edge}
+    {freed : List Bool} {why : Refusal}
+    → IsDisk old → MayCut old k i g size r tail edge freed → StaysButFaults old new
+    → (why ≡ refusal.ReadFault) × Rose old.faults new.faults
     → Goes old k new k (step.Resize i g size) no_claims (reply.Refused why)
 resize-unread {old} {new} {k} {i} {g} {size} {r} {tail} {edge} {freed} {why} disk may stays (is, rose) =
     subst (λ (w : Refusal). Goes old k new k (step.Resize i g size) no_claims (reply.Refused w)) (sym is)

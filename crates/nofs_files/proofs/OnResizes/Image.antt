@@ -1,6 +1,8 @@
 -- The image after the writes of a Resize: what stays.
-use Rattle.std.proofs.Common.{◌≡◌, ◌≢◌, ℕ, ◌+◌, ◌-◌, ◌/◌, ◌%◌, ◌<◌, ◌≤◌, ◌⊎◌, min, inl, inr, Bool, true, false, cond, eqb, eq-eqb, ne_eqb, leb, ltb}
-use Rattle.std.proofs.Common.{leb-true, ltb-true, ◌&&◌, not, List, ◌++◌, length, take, Option, Some, None, IsTrue, refl, sym, ap, ◌∙◌, subst}
+use Rattle.std.proofs.Common.{◌≡◌, ◌≢◌, ℕ, ◌+◌, ◌-◌, ◌/◌, ◌%◌, ◌<◌, ◌≤◌, ◌⊎◌, min, inl, inr, Bool, true, false, cond}
+use Rattle.std.proofs.Common.{eqb, eq-eqb, ne_eqb, leb, ltb}
+use Rattle.std.proofs.Common.{leb-true, ltb-true, ◌&&◌, not, List, ◌++◌, length, take, Option, Some, None, IsTrue, refl}
+use Rattle.std.proofs.Common.{sym, ap, ◌∙◌, subst}
 use Rattle.std.proofs.Common.{arith}
 use Rattle.std.proofs.lemmas.Bool.{cases_eq, cases_lt, le-leb}
 use Rattle.nofs_ptrs.specs.Paths.{slot_limit}
@@ -65,11 +67,13 @@ slot-end old size k content grows uneven at =
     rw (a, b, c, d) refl
 
 -- and nothing to another slot
-pub slot-none : (old size k : ℕ) (content : List ℕ) → k < kept_slots old size → (size < old) ⊎ ((old % 1024 ≡ 0) ⊎ (k ≢ old / 1024))
+pub slot-none : (old size k : ℕ) (content : List ℕ) → k < kept_slots old size
+    → (size < old) ⊎ ((old % 1024 ≡ 0) ⊎ (k ≢ old / 1024))
     → slot_by old (Bytes content) size k ≡ None
 slot-none old size k content before why =
     let a : leb (kept_slots old size) k ≡ false = lt-leb (kept_slots old size) k before in
-    let b : (leb old size && (eqb (k + 1) (kept_slots old size) && (not (eqb (old % 1024) 0) && true))) ≡ false = off why (cases_lt size old) in
+    let b : (leb old size && (eqb (k + 1) (kept_slots old size) && (not (eqb (old % 1024) 0) && true))) ≡ false =
+    off why (cases_lt size old) in
     rw (a, b) refl
   where
     mid : (x y : Bool) → (x && (y && (false && true))) ≡ false
@@ -81,7 +85,8 @@ slot-none old size k content before why =
     last true z = refl
     last false z = refl
 
-    shrinks : size < old → (leb old size && (eqb (k + 1) (kept_slots old size) && (not (eqb (old % 1024) 0) && true))) ≡ false
+    shrinks : size < old
+        → (leb old size && (eqb (k + 1) (kept_slots old size) && (not (eqb (old % 1024) 0) && true))) ≡ false
     shrinks h = let e : leb old size ≡ false = lt-leb old size h in rw e refl
 
     off : (size < old) ⊎ ((old % 1024 ≡ 0) ⊎ (k ≢ old / 1024)) → (size < old) ⊎ (old ≤ size)
@@ -91,14 +96,18 @@ slot-none old size k content before why =
     off (inr (inl even)) (inr grows) = let e : eqb (old % 1024) 0 ≡ true = eq-eqb (old % 1024) 0 even in rw e
         (mid (leb old size) (eqb (k + 1) (kept_slots old size)))
     off (inr (inr ne)) (inr grows) = elim (cases_eq (old % 1024) 0) [
-      | inl even ↦ (let e : eqb (old % 1024) 0 ≡ true = eq-eqb (old % 1024) 0 even in rw e (mid (leb old size) (eqb (k + 1) (kept_slots old size))))
+      | inl even ↦ (let e : eqb (old % 1024) 0 ≡ true = eq-eqb (old % 1024) 0 even in
+          rw e (mid (leb old size) (eqb (k + 1) (kept_slots old size))))
       | inr uneven ↦
-          let e : eqb (k + 1) (kept_slots old size) ≡ false = ne_eqb (k + 1) (kept_slots old size) (λ q. ne (omega (arith, q, grows, uneven))) in
+          let e : eqb (k + 1) (kept_slots old size) ≡ false =
+          ne_eqb (k + 1) (kept_slots old size) (λ q. ne (omega (arith, q, grows, uneven))) in
           rw e (last (leb old size) (not (eqb (old % 1024) 0)))
     ]
 
-module _ (old : DiskState) (k : Books) (H : List Entry1) (p : Past) (i g size : ℕ) (r : Record) (tail : Option NewCell) (edge : Edge) (c2 : Cell)
-    (is_old : IsDisk old) (tells : IsTrue old.tells) (o : IsOpen old k H p) (h : Cuts old.now i g size r tail edge c2) where
+module _ (old : DiskState) (k : Books) (H : List Entry1) (p : Past) (i g size : ℕ) (r : Record) (tail : Option NewCell)
+    (edge : Edge) (c2 : Cell)
+    (is_old : IsDisk old) (tells : IsTrue old.tells) (o : IsOpen old k H p)
+    (h : Cuts old.now i g size r tail edge c2) where
   abbrev pub W : World
   W = p.world
 
@@ -153,7 +162,8 @@ module _ (old : DiskState) (k : Books) (H : List Entry1) (p : Past) (i g size : 
   -- The disk after the writes
 
   pub inside : (1 ≤ i) × (i ≤ (super_at X).inodes)
-  inside = let b = and-both (leb 1 i) (leb i (super_at X).inodes) h.has.range in (leb-true 1 i b.0, leb-true i (super_at X).inodes b.1)
+  inside = let b = and-both (leb 1 i) (leb i (super_at X).inodes) h.has.range in
+      (leb-true 1 i b.0, leb-true i (super_at X).inodes b.1)
 
   pub table-low : table_block i ≤ (super_at X).inodes / 4
   table-low = let a = inside in let q = geometry.multiple in omega (arith, a, q)
@@ -169,30 +179,36 @@ module _ (old : DiskState) (k : Books) (H : List Entry1) (p : Past) (i g size : 
   held-of a it at = held-at X i g size r tail edge c2 h a it at
 
   pub area-of : (a : Path) (it : NewCell) → At a it → is_data_block X it.block ≡ true
-  area-of a it at = let q = held-of a it at in subst (λ (b : ℕ). is_data_block X b ≡ true) (sym q.block) (find-held X i a q.pointer q.held).agrees.area
+  area-of a it at = let q = held-of a it at in
+      subst (λ (b : ℕ). is_data_block X b ≡ true) (sym q.block) (find-held X i a q.pointer q.held).agrees.area
 
-  pub stays : (b : ℕ) → b ≢ table_block i → ((a : Path) (it : NewCell) → At a it → b ≢ it.block) → cell_at Y b ≡ cell_at X b
+  pub stays : (b : ℕ) → b ≢ table_block i → ((a : Path) (it : NewCell) → At a it → b ≢ it.block)
+      → cell_at Y b ≡ cell_at X b
   stays b ne none = written-apart ws X b (λ d one. elim (one-is r.size m tail edge (table_block i) c2 b d one)
       [ inl e ↦ ne e.0 | inr (a, it, at, eb, ec) ↦ none a it at eb ])
 
   low-stays : (b : ℕ) → b ≤ (super_at X).inodes / 4 → b ≢ table_block i → cell_at Y b ≡ cell_at X b
-  low-stays b low ne = stays b ne (λ a it at e. let d = data-range it.block (area-of a it at) in omega (arith, d, e, low))
+  low-stays b low ne =
+      stays b ne (λ a it at e. let d = data-range it.block (area-of a it at) in omega (arith, d, e, low))
 
   slots-same : (a b : Path) (it w : NewCell) → At a it → At b w → it.block ≡ w.block → it ≡ w
   slots-same a b it w at bt e =
       let q = held-of a it at in let t = held-of b w bt in
-      same-at X i g size r tail edge c2 h a b it w at bt (same-slot X i g size r tail edge c2 h a b q.pointer t.pointer q.slot t.slot q.held t.held
+      same-at X i g size r tail edge c2 h a b it w at bt
+      (same-slot X i g size r tail edge c2 h a b q.pointer t.pointer q.slot t.slot q.held t.held
       (sym q.block ∙ e ∙ t.block))
 
   pub cell-here : (a : Path) (it : NewCell) → At a it → cell_at Y it.block ≡ it.cell
-  cell-here a it at = written-here ws X it.block it.cell (let d = data-range it.block (area-of a it at) in let w = whole in omega (arith, d, w))
+  cell-here a it at = written-here ws X it.block it.cell
+      (let d = data-range it.block (area-of a it at) in let w = whole in omega (arith, d, w))
       (λ d one. elim (one-is r.size m tail edge (table_block i) c2 it.block d one) [
         | inl e ↦ absurd (off-table it.block (area-of a it at) e.0)
         | inr (b, w, bt, eb, ec) ↦ ec ∙ ap (λ (q : NewCell). q.cell) (sym (slots-same a b it w at bt eb))
       ]) (inl (at-one r.size m tail edge (table_block i) c2 a it at))
 
   pub table-here : cell_at Y (table_block i) ≡ c2
-  table-here = written-here ws X (table_block i) c2 (let t = table-low in let w = whole in let q = geometry.table in omega (arith, t, w, q))
+  table-here = written-here ws X (table_block i) c2
+      (let t = table-low in let w = whole in let q = geometry.table in omega (arith, t, w, q))
       (λ d one. elim (one-is r.size m tail edge (table_block i) c2 (table_block i) d one) [
         | inl e ↦ e.1
         | inr (a, it, at, eb, ec) ↦ absurd (off-table it.block (area-of a it at) (sym eb))
@@ -200,10 +216,11 @@ module _ (old : DiskState) (k : Books) (H : List Entry1) (p : Past) (i g size : 
 
   -- each block gets one cell
   pub cut-each : HasOneEach (cut_writes tail edge (table_block i) c2)
-  cut-each = one-each (cut_writes tail edge (table_block i) c2) Y (λ b q one. elim (one-is r.size m tail edge (table_block i) c2 b q one) [
-    | inl e ↦ e.1 ∙ sym table-here ∙ ap (cell_at Y) (sym e.0)
-    | inr (a, it, at, eb, ec) ↦ ec ∙ sym (cell-here a it at) ∙ ap (cell_at Y) (sym eb)
-  ])
+  cut-each = one-each (cut_writes tail edge (table_block i) c2) Y
+      (λ b q one. elim (one-is r.size m tail edge (table_block i) c2 b q one) [
+        | inl e ↦ e.1 ∙ sym table-here ∙ ap (cell_at Y) (sym e.0)
+        | inr (a, it, at, eb, ec) ↦ ec ∙ sym (cell-here a it at) ∙ ap (cell_at Y) (sym eb)
+      ])
 
   pub super-stays : cell_at Y 0 ≡ cell_at X 0
   super-stays = low-stays 0 (omega arith) (λ e. omega (arith, e))
@@ -215,7 +232,8 @@ module _ (old : DiskState) (k : Books) (H : List Entry1) (p : Past) (i g size : 
   record-old j ne = record-other X Y i r' c2 h.has geometry.multiple super-stays table-here low-stays j ne
 
   all-below : IsBelow (next_stamp W) X
-  all-below n lt = o.stage.ready.fresh n (cell_at X n) lt (is_old.has_now n tells (let w = is_old.whole tells in let q = whole in omega (arith, lt, w, q)))
+  all-below n lt = o.stage.ready.fresh n (cell_at X n) lt
+      (is_old.has_now n tells (let w = is_old.whole tells in let q = whole in omega (arith, lt, w, q)))
 
   pub old-numbers : OldNumbers W X
   old-numbers = record { positive = o.stage.ready.positive; mountable = o.mountable; below = all-below }
@@ -231,7 +249,8 @@ module _ (old : DiskState) (k : Books) (H : List Entry1) (p : Past) (i g size : 
   }
 
   -- the block of a slot whose cell isn't written stays
-  pub slot-stays : (b : Path) (y : Pointer) → IsSlot b → find X i b ≡ answer.Holds y → ((it : NewCell) → At b it → ⊥) → cell_at Y y.block ≡ cell_at X y.block
+  pub slot-stays : (b : Path) (y : Pointer) → IsSlot b → find X i b ≡ answer.Holds y → ((it : NewCell) → At b it → ⊥)
+      → cell_at Y y.block ≡ cell_at X y.block
   slot-stays b y s held none =
       let d = (find-held X i b y held).agrees.area in
       stays y.block (off-table y.block d) (λ a it at e.
@@ -247,7 +266,8 @@ module _ (old : DiskState) (k : Books) (H : List Entry1) (p : Past) (i g size : 
       | inl (a, it, at, e) ↦
           let q = held-of a it at in
           inr (inr (
-            ap (λ (b : ℕ). tag_of (cell_at Y b).tag) e ∙ ap (λ (c : Cell). tag_of c.tag) (cell-here a it at) ∙ ap tag_of q.tag ∙ ap
+            ap (λ (b : ℕ). tag_of (cell_at Y b).tag) e ∙ ap (λ (c : Cell). tag_of c.tag) (cell-here a it at)
+                ∙ ap tag_of q.tag ∙ ap
                 (λ (b : ℕ). tag_of (cell_at X b).tag) (sym (e ∙ q.block)),
             (i, a, q.pointer, eq-eqb i i refl, q.held, sym (e ∙ q.block)),
           ))

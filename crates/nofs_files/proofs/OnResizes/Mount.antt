@@ -49,8 +49,10 @@ use Rattle.nofs_files.proofs.OnResizes.Homes as homes
 use Rattle.nofs_files.proofs.OnResizes.Maps.{cut-learns, cut-says}
 use Rattle.nofs_files.proofs.OnResizes.Proper as proper_part
 
-module _ (old : DiskState) (k : Books) (H : List Entry1) (p : Past) (i g size : ℕ) (r : Record) (tail : Option NewCell) (edge : Edge) (c2 : Cell)
-    (is_old : IsDisk old) (tells : IsTrue old.tells) (o : IsOpen old k H p) (h : Cuts old.now i g size r tail edge c2) where
+module _ (old : DiskState) (k : Books) (H : List Entry1) (p : Past) (i g size : ℕ) (r : Record) (tail : Option NewCell)
+    (edge : Edge) (c2 : Cell)
+    (is_old : IsDisk old) (tells : IsTrue old.tells) (o : IsOpen old k H p)
+    (h : Cuts old.now i g size r tail edge c2) where
   -- what was shown of them before
   abbrev W : World
   W = proper_part.W old k H p i g size r tail edge c2 is_old tells o h
@@ -76,7 +78,8 @@ module _ (old : DiskState) (k : Books) (H : List Entry1) (p : Past) (i g size : 
   abbrev files : FilesMatch (files_after p.world.files (resize_given p.world.files i g size)) Y
   files = proper_part.files old k H p i g size r tail edge c2 is_old tells o h
 
-  abbrev numbers : (n : ℕ) (cell : Cell) → OneOf (cut_writes tail edge (table_block i) c2) n cell → CellNumbers (Numbered p.world no_claims) old.now n cell
+  abbrev numbers : (n : ℕ) (cell : Cell) → OneOf (cut_writes tail edge (table_block i) c2) n cell
+      → CellNumbers (Numbered p.world no_claims) old.now n cell
   numbers = proper_part.numbers old k H p i g size r tail edge c2 is_old tells o h
 
   abbrev given : Given
@@ -89,59 +92,73 @@ module _ (old : DiskState) (k : Books) (H : List Entry1) (p : Past) (i g size : 
   same-given = proper_part.same-given old k H p i g size r tail edge c2 is_old tells o h
 
   abbrev proper : (n : ℕ) (cell : Cell) → OneOf (cut_writes tail edge (table_block i) c2) n cell
-      → Proper (during (mark_at p.base H (old.moment + 1) p.mark p.stamps) (resize_given p.world.files i g size)) old.now n cell
+      → Proper (during (mark_at p.base H (old.moment + 1) p.mark p.stamps)
+      (resize_given p.world.files i g size)) old.now n cell
   proper = proper_part.proper old k H p i g size r tail edge c2 is_old tells o h
 
   -- The rest stays
 
-  gives-to : GivesFile p.world.files (resize_given p.world.files i g size) i (image.own old k H p i g size r tail edge c2 is_old tells o h).file
+  gives-to : GivesFile p.world.files (resize_given p.world.files i g size) i
+      (image.own old k H p i g size r tail edge c2 is_old tells o h).file
       (resize-made p.world.files i g size (image.own old k H p i g size r tail edge c2 is_old tells o h).file
-      (image.own old k H p i g size r tail edge c2 is_old tells o h).is (image.generation old k H p i g size r tail edge c2 is_old tells o h)
+      (image.own old k H p i g size r tail edge c2 is_old tells o h).is
+      (image.generation old k H p i g size r tail edge c2 is_old tells o h)
       (image.file old k H p i g size r tail edge c2 is_old tells o h))
   gives-to = resize-gives W.files i g size f is gen (image.file old k H p i g size r tail edge c2 is_old tells o h)
 
   nothing : (j : ℕ) → eqb j i ≡ false → GivesNothing (resize_given p.world.files i g size) j
   nothing j t = gives-to.elsewhere j (λ e. let q = eq-eqb j i e in cc (q, t))
 
-  rest : (e : Entry1) → given_by (files_along (agreed_files p.base) H) e ≡ resize_given (files_along (agreed_files p.base) H) i g size
+  rest : (e : Entry1)
+      → given_by (files_along (agreed_files p.base) H) e ≡ resize_given (files_along (agreed_files p.base) H) i g size
       → SteadyRest p.base (H ++ e ∷ []) Y
   rest e gives-it = law-rest p.base H e (next_stamp W) (λ j. eqb j i) X Y (files_after W.files given) o.rest (record {
     before = o.stage.ready.files;
     after = files;
     touches = image.touches old k H p i g size r tail edge c2 is_old tells o h;
     old = image.old-pointers old k H p i g size r tail edge c2 is_old tells o h;
-    owned = λ j t live. subst (λ (q : ℕ). is_some (files_after W.files given q) ≡ true) (sym (eqb-true j i t)) (ap is_some gives-to.new);
-    stays = λ j t some. ap is_some (file-stays W.files given j (nothing j t)) ∙ ap (λ (G : Files). is_some (G j)) o.files ∙ some;
-    no_value = λ j q l t some. (λ z. (gives-it z).slots j q l) ∙ (λ z. (sym same-given z).slots j q l) ∙ (nothing j t).slots q l;
+    owned = λ j t live. subst (λ (q : ℕ). is_some (files_after W.files given q) ≡ true) (sym (eqb-true j i t))
+        (ap is_some gives-to.new);
+    stays = λ j t some. ap is_some (file-stays W.files given j (nothing j t))
+        ∙ ap (λ (G : Files). is_some (G j)) o.files ∙ some;
+    no_value = λ j q l t some. (λ z. (gives-it z).slots j q l) ∙ (λ z. (sym same-given z).slots j q l)
+        ∙ (nothing j t).slots q l;
     no_meta = λ j q t some. (λ z. (gives-it z).metas j q) ∙ (λ z. (sym same-given z).metas j q) ∙ (nothing j t).metas q;
   })
 
   -- The maps
 
-  used : (j : ℕ) → is_some (files_after p.world.files (resize_given p.world.files i g size) j) ≡ is_some (p.world.files j)
+  used : (j : ℕ)
+      → is_some (files_after p.world.files (resize_given p.world.files i g size) j) ≡ is_some (p.world.files j)
   used j = uses-inode (files_after W.files given) Y files j ∙ as-before W.files X Y i g size f (next_stamp W)
       (pointers.lies old k H p i g size r tail edge c2 is_old tells o h) j ∙ sym
       (uses-inode W.files X (image.match old k H p i g size r tail edge c2 is_old tells o h) j)
 
-  module _ (l : Books) (freed : List Bool) (map : IsCutMap old k.at i (kept_slots r.size size) freed) (a : BlocksFreed k l freed) where
+  module _ (l : Books) (freed : List Bool) (map : IsCutMap old k.at i (kept_slots r.size size) freed)
+      (a : BlocksFreed k l freed) where
     abbrev V : World
     V = after_world p.world (step.Resize i g size) no_claims l
 
     learns : Learns p.world (step.Resize i g size) true (after_world p.world (step.Resize i g size) no_claims l)
     unfolding gives
-    learns = cut-learns k l W V (step.Resize i g size) freed o.says a map.size (λ j. refl) (λ q. refl) (refl, refl, refl, refl, omega arith, refl) (λ j. refl)
+    learns = cut-learns k l W V (step.Resize i g size) freed o.says a map.size (λ j. refl) (λ q. refl)
+        (refl, refl, refl, refl, omega arith, refl) (λ j. refl)
         (λ q. refl) used
-        (homes.gone old k H p i g size r tail edge c2 is_old tells o h freed map) (homes.kept old k H p i g size r tail edge c2 is_old tells o h freed map)
+        (homes.gone old k H p i g size r tail edge c2 is_old tells o h freed map)
+        (homes.kept old k H p i g size r tail edge c2 is_old tells o h freed map)
         (homes.moves old k H p i g size r tail edge c2 is_old tells o h freed map)
 
     says : Says l (after_world p.world (step.Resize i g size) no_claims l)
     unfolding gives
-    says = cut-says k l W V (step.Resize i g size) freed o.says a map.size (λ j. refl) (λ q. refl) (refl, refl, refl, refl, omega arith, refl) (λ j. refl)
+    says = cut-says k l W V (step.Resize i g size) freed o.says a map.size (λ j. refl) (λ q. refl)
+        (refl, refl, refl, refl, omega arith, refl) (λ j. refl)
         (λ q. refl) used
-        (homes.gone old k H p i g size r tail edge c2 is_old tells o h freed map) (homes.kept old k H p i g size r tail edge c2 is_old tells o h freed map)
+        (homes.gone old k H p i g size r tail edge c2 is_old tells o h freed map)
+        (homes.kept old k H p i g size r tail edge c2 is_old tells o h freed map)
         (homes.moves old k H p i g size r tail edge c2 is_old tells o h freed map)
 
-  pub resize-done : (new : DiskState) (l : Books) (freed : List Bool) → IsCutMap old k.at i (kept_slots r.size size) freed → BlocksFreed k l freed
+  pub resize-done : (new : DiskState) (l : Books) (freed : List Bool)
+      → IsCutMap old k.at i (kept_slots r.size size) freed → BlocksFreed k l freed
       → WritesAll old new (cut_writes tail edge (table_block i) c2) (Ok tt)
       → ((U : World) → first_of (rows p.world U (step.Resize i g size)) ≡ None)
       → IsDone old new k l H p (step.Resize i g size) no_claims reply.Resized (cut_writes tail edge (table_block i) c2)
@@ -149,9 +166,11 @@ module _ (old : DiskState) (k : Books) (H : List Entry1) (p : Past) (i g size : 
   resize-done new l freed map a writes none = record {
     adds = writes.adds;
     later = writes.later;
-    proper = λ e es ec ge n cell one. subst (λ (G : Given). Proper (during M G) X n cell) (same-given ∙ sym ge) (proper n cell one);
+    proper = λ e es ec ge n cell one. subst (λ (G : Given). Proper (during M G) X n cell) (same-given ∙ sym ge)
+        (proper n cell one);
     numbers = numbers;
-    super = ap (λ (Z : Image). cell_at Z 0) writes.now ∙ image.super-stays old k H p i g size r tail edge c2 is_old tells o h;
+    super = ap (λ (Z : Image). cell_at Z 0) writes.now
+        ∙ image.super-stays old k H p i g size r tail edge c2 is_old tells o h;
     size = writes.adds.disk.blocks;
     none = none (after_world W (step.Resize i g size) no_claims l);
     answer = refl;
@@ -161,7 +180,8 @@ module _ (old : DiskState) (k : Books) (H : List Entry1) (p : Past) (i g size : 
     learns = learns l freed map a;
     files = subst (λ (Z : Image). FilesMatch (files_after W.files given) Z) (sym writes.now) files;
     move = subst (λ (Z : Image). HomesMove W.files (step.Resize i g size) no_claims X Z) (sym writes.now)
-        (law-resize-homes W X Y i g size f (next_stamp W) no_claims (pointers.lies old k H p i g size r tail edge c2 is_old tells o h) claim);
+        (law-resize-homes W X Y i g size f (next_stamp W) no_claims
+        (pointers.lies old k H p i g size r tail edge c2 is_old tells o h) claim);
     rest = λ e es ec ge. subst (λ (Z : Image). SteadyRest p.base (H ++ e ∷ []) Z) (sym writes.now) (rest e ge);
     says = says l freed map a;
     books_at = ap (λ (b : Books). b.at) a.same;
@@ -170,11 +190,15 @@ module _ (old : DiskState) (k : Books) (H : List Entry1) (p : Past) (i g size : 
   }
 
   -- whichever write failed
-  pub resize-numbered : (new : DiskState) → Adds (OneOf (cut_writes tail edge (table_block i) c2)) old new → AddsNumbered p.world no_claims old new
-  resize-numbered new = Adds-map (OneOf (cut_writes tail edge (table_block i) c2)) (λ n cell. CellNumbers (Numbered W no_claims) X n cell) old new numbers
+  pub resize-numbered : (new : DiskState) → Adds (OneOf (cut_writes tail edge (table_block i) c2)) old new
+      → AddsNumbered p.world no_claims old new
+  resize-numbered new = Adds-map (OneOf (cut_writes tail edge (table_block i) c2))
+      (λ n cell. CellNumbers (Numbered W no_claims) X n cell) old new numbers
 
-  pub resize-proper : (new : DiskState) (e : Entry1) → given_by (files_along (agreed_files p.base) H) e ≡ resize_given (files_along (agreed_files p.base) H) i
-      g size → Adds (OneOf (cut_writes tail edge (table_block i) c2)) old new → AddsProper p.base H e p.mark p.stamps old new
+  pub resize-proper : (new : DiskState) (e : Entry1)
+      → given_by (files_along (agreed_files p.base) H) e ≡ resize_given (files_along (agreed_files p.base) H) i
+      g size → Adds (OneOf (cut_writes tail edge (table_block i) c2)) old new
+      → AddsProper p.base H e p.mark p.stamps old new
   resize-proper new e ge adds = Adds-map (OneOf (cut_writes tail edge (table_block i) c2))
       (Proper (during M (given_by (files_along (agreed_files p.base) H) e)) old.now) old new
       (λ n cell one. subst (λ (G : Given). Proper (during M G) X n cell) (same-given ∙ sym ge) (proper n cell one)) adds

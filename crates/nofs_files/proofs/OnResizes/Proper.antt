@@ -5,7 +5,8 @@ use Rattle.std.proofs.lemmas.Bool.{cases_lt}
 use Rattle.nofs_ptrs.specs.Paths.{slot_limit}
 use Rattle.nofs_disk.specs.Disk.{DiskState, IsDisk, cell_at, Picks}
 use Rattle.nofs_model.specs.Cells.{Cell, Leaf, Pointer, Record, SuperBlock, is_null, pointer_at, tag_of}
-use Rattle.nofs_model.specs.Image.{Image, super_at, is_data_block, inode, Path, InRecord, Under, path_of, IsSlot, kind_in, tag_for, find, pointer}
+use Rattle.nofs_model.specs.Image.{Image, super_at, is_data_block, inode, Path, InRecord, Under, path_of, IsSlot}
+use Rattle.nofs_model.specs.Image.{kind_in, tag_for, find, pointer}
 use Rattle.nofs_model.specs.Image.{record_pointer, FileState, Files}
 use Rattle.nofs_model.specs.declared.image.path.PathAnswer.TheVariants as answer
 use Rattle.nofs_model.specs.declared.image.value.Value.TheVariants.{Bytes}
@@ -49,8 +50,10 @@ use Rattle.nofs_files.proofs.OnResizes.Writes.{tail-at, below-at, above-at, tail
 use Rattle.nofs_files.proofs.OnResizes.Image as image
 use Rattle.nofs_files.proofs.OnResizes.Pointers as pointers_part
 
-module _ (old : DiskState) (k : Books) (H : List Entry1) (p : Past) (i g size : ℕ) (r : Record) (tail : Option NewCell) (edge : Edge) (c2 : Cell)
-    (is_old : IsDisk old) (tells : IsTrue old.tells) (o : IsOpen old k H p) (h : Cuts old.now i g size r tail edge c2) where
+module _ (old : DiskState) (k : Books) (H : List Entry1) (p : Past) (i g size : ℕ) (r : Record) (tail : Option NewCell)
+    (edge : Edge) (c2 : Cell)
+    (is_old : IsDisk old) (tells : IsTrue old.tells) (o : IsOpen old k H p)
+    (h : Cuts old.now i g size r tail edge c2) where
   abbrev pub W : World
   W = p.world
 
@@ -76,19 +79,28 @@ module _ (old : DiskState) (k : Books) (H : List Entry1) (p : Past) (i g size : 
   own-generation = ap (λ (q : Record). q.generation) h.rec ∙ h.generation
 
   pub claim : IsClaim p.world (step.Resize i g size) no_claims
-  claim = record { inode = NoInode refl refl; cell = Unclaimed refl; leaf = Unclaimed refl; top = Unclaimed refl; apart = tt }
+  claim = record {
+    inode = NoInode refl refl;
+    cell = Unclaimed refl;
+    leaf = Unclaimed refl;
+    top = Unclaimed refl;
+    apart = tt;
+  }
 
   pub files : FilesMatch (files_after p.world.files (resize_given p.world.files i g size)) Y
-  files = law-resize-files p.world.files old.now Y i g size (image.own old k H p i g size r tail edge c2 is_old tells o h).file (next_stamp p.world)
+  files = law-resize-files p.world.files old.now Y i g size
+      (image.own old k H p i g size r tail edge c2 is_old tells o h).file (next_stamp p.world)
       (pointers_part.lies old k H p i g size r tail edge c2 is_old tells o h)
 
   -- The numbers
 
   pointer-numbers : (a : Path) (it : NewCell) → IsAt r.size (kept_slots r.size size) tail edge a it → (b : Path)
-      → PointersAt old.now i (kept_slots r.size size) b it → CellNumbers (Numbered p.world no_claims) old.now it.block it.cell
+      → PointersAt old.now i (kept_slots r.size size) b it
+      → CellNumbers (Numbered p.world no_claims) old.now it.block it.cell
   pointer-numbers a it at b t = subst₂ (λ (n : ℕ) (c : Cell). CellNumbers (Numbered W no_claims) X n c) (sym t.block)
       (ap (cell_at Y) (sym t.block) ∙ image.cell-here old k H p i g size r tail edge c2 is_old tells o h a it at)
-      ((law-resize-cells W X Y i g size f (next_stamp W) no_claims (image.old-numbers old k H p i g size r tail edge c2 is_old tells o h)
+      ((law-resize-cells W X Y i g size f (next_stamp W) no_claims
+      (image.old-numbers old k H p i g size r tail edge c2 is_old tells o h)
       (pointers_part.lies old k H p i g size r tail edge c2 is_old tells o h)).1 b t.pointer t.slot t.points
       (image.same-cut old k H p i g size r tail edge c2 is_old tells o h b ∙ t.inside.stays) t.held)
 
@@ -97,26 +109,36 @@ module _ (old : DiskState) (k : Books) (H : List Entry1) (p : Past) (i g size : 
   cell-numbers a it (AtTail some e) =
       let t = tail-at X i g size r tail edge c2 h it some in
       subst₂ (λ (b : ℕ) (c : Cell). CellNumbers (Numbered W no_claims) X b c) (sym t.block)
-      (ap (cell_at Y) (sym t.block) ∙ image.cell-here old k H p i g size r tail edge c2 is_old tells o h (path_of (r.size / 1024)) it (AtTail some refl))
-      ((law-resize-cells W X Y i g size f (next_stamp W) no_claims (image.old-numbers old k H p i g size r tail edge c2 is_old tells o h)
-      (pointers_part.lies old k H p i g size r tail edge c2 is_old tells o h)).0 (r.size / 1024) t.pointer (tail-low X i g size r tail edge c2 h t.uneven) t.held)
-  cell-numbers a it (AtBelow some e) = pointer-numbers (below_path m) it (AtBelow some refl) (below_path m) (below-at X i g size r tail edge c2 h it some)
-  cell-numbers a it (AtAbove some e) = pointer-numbers (InRecord 9) it (AtAbove some refl) (InRecord 9) (above-at X i g size r tail edge c2 h it some).1
+      (ap (cell_at Y) (sym t.block) ∙ image.cell-here old k H p i g size r tail edge c2 is_old tells o h
+      (path_of (r.size / 1024)) it (AtTail some refl))
+      ((law-resize-cells W X Y i g size f (next_stamp W) no_claims
+      (image.old-numbers old k H p i g size r tail edge c2 is_old tells o h)
+      (pointers_part.lies old k H p i g size r tail edge c2 is_old tells o h)).0 (r.size / 1024) t.pointer
+      (tail-low X i g size r tail edge c2 h t.uneven) t.held)
+  cell-numbers a it (AtBelow some e) = pointer-numbers (below_path m) it (AtBelow some refl) (below_path m)
+      (below-at X i g size r tail edge c2 h it some)
+  cell-numbers a it (AtAbove some e) =
+      pointer-numbers (InRecord 9) it (AtAbove some refl) (InRecord 9) (above-at X i g size r tail edge c2 h it some).1
 
   table-numbers : CellNumbers (Numbered p.world no_claims) old.now (table_block i) c2
-  table-numbers = law-table-numbers W no_claims X (table_block i) c2 (image.old-numbers old k H p i g size r tail edge c2 is_old tells o h) h.tag_table
+  table-numbers = law-table-numbers W no_claims X (table_block i) c2
+      (image.old-numbers old k H p i g size r tail edge c2 is_old tells o h) h.tag_table
       (λ j e s. elim (table-records X i (image.r' old k H p i g size r tail edge c2 is_old tells o h) c2 h.has j e s) [
         | inl new ↦ subst (λ (q : Record). RecordWritten W no_claims X j q)
-            (sym (new.1 ∙ sym (image.here old k H p i g size r tail edge c2 is_old tells o h) ∙ ap (inode Y) (sym new.0)))
-            ((law-resize-record W X Y i g size f (next_stamp W) no_claims (image.old-numbers old k H p i g size r tail edge c2 is_old tells o h)
+            (sym (new.1 ∙ sym (image.here old k H p i g size r tail edge c2 is_old tells o h)
+            ∙ ap (inode Y) (sym new.0)))
+            ((law-resize-record W X Y i g size f (next_stamp W) no_claims
+            (image.old-numbers old k H p i g size r tail edge c2 is_old tells o h)
             (pointers_part.lies old k H p i g size r tail edge c2 is_old tells o h)).1 j)
         | inr was ↦ AsBefore was
       ])
 
-  pub numbers : (n : ℕ) (cell : Cell) → OneOf (cut_writes tail edge (table_block i) c2) n cell → CellNumbers (Numbered p.world no_claims) old.now n cell
+  pub numbers : (n : ℕ) (cell : Cell) → OneOf (cut_writes tail edge (table_block i) c2) n cell
+      → CellNumbers (Numbered p.world no_claims) old.now n cell
   numbers n cell one = elim (one-is r.size m tail edge (table_block i) c2 n cell one) [
     | inl e ↦ subst₂ (λ (q : ℕ) (d : Cell). CellNumbers (Numbered W no_claims) X q d) (sym e.0) (sym e.1) table-numbers
-    | inr (a, it, at, eb, ec) ↦ subst₂ (λ (q : ℕ) (d : Cell). CellNumbers (Numbered W no_claims) X q d) (sym eb) (sym ec) (cell-numbers a it at)
+    | inr (a, it, at, eb, ec) ↦
+        subst₂ (λ (q : ℕ) (d : Cell). CellNumbers (Numbered W no_claims) X q d) (sym eb) (sym ec) (cell-numbers a it at)
   ]
 
   -- Why each write is proper
@@ -145,18 +167,23 @@ module _ (old : DiskState) (k : Books) (H : List Entry1) (p : Past) (i g size : 
   -- holes are given to what is cut
   holes : (a : Path) → IsSlot a → is_cut (kept_slots r.size size) a ≡ true
       → Holes (during (mark_at p.base H (old.moment + 1) p.mark p.stamps) (resize_given p.world.files i g size)) i g a
-  holes a s cut = law-resize-holes M W.files i g size f a is s (image.same-cut old k H p i g size r tail edge c2 is_old tells o h a ∙ cut)
+  holes a s cut = law-resize-holes M W.files i g size f a is s
+      (image.same-cut old k H p i g size r tail edge c2 is_old tells o h a ∙ cut)
 
-  tail-proper : (it : NewCell) → tail ≡ Some it → Proper (during (mark_at p.base H (old.moment + 1) p.mark p.stamps) (resize_given p.world.files i g size))
+  tail-proper : (it : NewCell) → tail ≡ Some it
+      → Proper (during (mark_at p.base H (old.moment + 1) p.mark p.stamps) (resize_given p.world.files i g size))
       old.now it.block it.cell
   tail-proper it some = subst (λ (b : ℕ). Proper (during M given) X b it.cell) (sym t.block)
       (law-content M given X Y i g (r.size / 1024) t.pointer it.cell (record {
         area = mark-area t.pointer.block held.agrees.area;
         range = low;
-        generation = ap (λ (q : Record). q.generation) (image.here old k H p i g size r tail edge c2 is_old tells o h) ∙ h.generation;
+        generation = ap (λ (q : Record). q.generation)
+            (image.here old k H p i g size r tail edge c2 is_old tells o h) ∙ h.generation;
         tag = ap tag_of t.tag ∙ held.agrees.tag ∙ ap Some (sym (tag-same X Y i (path_of (r.size / 1024)) t.pointer.stamp
-            (image.names old k H p i g size r tail edge c2 is_old tells o h).kind (image.names old k H p i g size r tail edge c2 is_old tells o h).generation));
-        gives = ap (λ (b : Bool). cond b (resize_slot W.files i size (r.size / 1024)) None) (at-itself i g) ∙ pointers_part.end-given old k H p i g size r tail edge c2
+            (image.names old k H p i g size r tail edge c2 is_old tells o h).kind
+            (image.names old k H p i g size r tail edge c2 is_old tells o h).generation));
+        gives = ap (λ (b : Bool). cond b (resize_slot W.files i size (r.size / 1024)) None) (at-itself i g)
+            ∙ pointers_part.end-given old k H p i g size r tail edge c2
             is_old tells o h t.pointer t.grows t.uneven t.held ∙ ap (λ (v : List ℕ). Some (Bytes v)) (sym t.payload);
         place = inl (ap tag_of t.tag);
       }))
@@ -171,7 +198,8 @@ module _ (old : DiskState) (k : Books) (H : List Entry1) (p : Past) (i g size : 
       held = find-held X i (path_of (r.size / 1024)) t.pointer t.held
 
   pointers-proper : (a : Path) (it : NewCell) → PointersAt old.now i (kept_slots r.size size) a it
-      → Proper (during (mark_at p.base H (old.moment + 1) p.mark p.stamps) (resize_given p.world.files i g size)) old.now it.block it.cell
+      → Proper (during (mark_at p.base H (old.moment + 1) p.mark p.stamps) (resize_given p.world.files i g size))
+      old.now it.block it.cell
   pointers-proper a it t = subst (λ (b : ℕ). Proper (during M given) X b it.cell) (sym t.block) (OfPointers (record {
     area = mark-area t.pointer.block held.agrees.area;
     tag = tag_for X i a t.pointer.stamp;
@@ -195,20 +223,25 @@ module _ (old : DiskState) (k : Books) (H : List Entry1) (p : Past) (i g size : 
       was n = let e = t.held in rw (e, pointer) refl
 
       one : (n : ℕ) → n < 64 → (n < t.from) ⊎ (t.from ≤ n) → PointerProper
-          (during (mark_at p.base H (old.moment + 1) p.mark p.stamps) (resize_given p.world.files i g size)) old.now i (inode old.now i).generation
+          (during (mark_at p.base H (old.moment + 1) p.mark p.stamps) (resize_given p.world.files i g size)) old.now i
+          (inode old.now i).generation
           (Under a n) (pointer_at it.cell.payload n)
-      one n lt (inl before) = Same (image.own old k H p i g size r tail edge c2 is_old tells o h).live refl (t.pointer, t.held)
+      one n lt (inl before) =
+          Same (image.own old k H p i g size r tail edge c2 is_old tells o h).live refl (t.pointer, t.held)
           (was n ∙ sym (t.cut.kept n before lt))
-      one n lt (inr behind) = Cut (t.cut.cut n behind lt) (subst (λ (q : ℕ). Holes (during M given) i q (Under a n)) (sym own-generation)
+      one n lt (inr behind) =
+          Cut (t.cut.cut n behind lt) (subst (λ (q : ℕ). Holes (during M given) i q (Under a n)) (sym own-generation)
           (holes (Under a n) (t.points, lt, t.slot) (t.inside.behind n lt behind)))
 
   block-proper : (a : Path) (it : NewCell) → IsAt r.size (kept_slots r.size size) tail edge a it
-      → Proper (during (mark_at p.base H (old.moment + 1) p.mark p.stamps) (resize_given p.world.files i g size)) old.now it.block it.cell
+      → Proper (during (mark_at p.base H (old.moment + 1) p.mark p.stamps) (resize_given p.world.files i g size))
+      old.now it.block it.cell
   block-proper a it (AtTail some e) = tail-proper it some
   block-proper a it (AtBelow some e) = pointers-proper (below_path m) it (below-at X i g size r tail edge c2 h it some)
   block-proper a it (AtAbove some e) = pointers-proper (InRecord 9) it (above-at X i g size r tail edge c2 h it some).1
 
-  record-proper : RecordProper (during (mark_at p.base H (old.moment + 1) p.mark p.stamps) (resize_given p.world.files i g size)) old.now i
+  record-proper : RecordProper
+      (during (mark_at p.base H (old.moment + 1) p.mark p.stamps) (resize_given p.world.files i g size)) old.now i
       (cut_record r size (kept_slots r.size size))
   record-proper = law-record M given X i (cut_record r size (kept_slots r.size size)) (record {
     live = (image.own old k H p i g size r tail edge c2 is_old tells o h).live;
@@ -221,16 +254,19 @@ module _ (old : DiskState) (k : Books) (H : List Entry1) (p : Past) (i g size : 
   })
     where
       new-meta : Is (image.own old k H p i g size r tail edge c2 is_old tells o h).file.kind size
-          (image.own old k H p i g size r tail edge c2 is_old tells o h).file.links ≡ meta_of (cut_record r size (kept_slots r.size size))
+          (image.own old k H p i g size r tail edge c2 is_old tells o h).file.links ≡ meta_of
+          (cut_record r size (kept_slots r.size size))
       new-meta = let e = h.kind in (λ j. Is (image.file-kind old k H p i g size r tail edge c2 is_old tells o h j) size
-          (((image.own old k H p i g size r tail edge c2 is_old tells o h).links ∙ ap (λ (q : Record). q.links) h.rec) j)) ∙ sym (rw (e, meta_of) refl)
+          (((image.own old k H p i g size r tail edge c2 is_old tells o h).links ∙ ap (λ (q : Record). q.links) h.rec)
+          j)) ∙ sym (rw (e, meta_of) refl)
 
       one : (n : ℕ) → n < 10 → (b : Bool) → is_cut (kept_slots r.size size) (InRecord n) ≡ b
           → (record_pointer (cut_record r size (kept_slots r.size size)) n ≡ record_pointer (inode old.now i) n)
           ⊎ (((p.stamps ≤ (record_pointer (cut_record r size (kept_slots r.size size)) n).stamp) ×
           ((z : Pointer) → find old.now i (InRecord n) ≡ answer.Holds z → ⊥))
           ⊎ ((is_null (record_pointer (cut_record r size (kept_slots r.size size)) n) ≡ true) × Holes
-          (during (mark_at p.base H (old.moment + 1) p.mark p.stamps) (resize_given p.world.files i g size)) i r.generation (InRecord n)))
+          (during (mark_at p.base H (old.moment + 1) p.mark p.stamps) (resize_given p.world.files i g size)) i
+          r.generation (InRecord n)))
       one n lt true e = inr (inr (
         record-cut r size m h.eight n e,
         subst (λ (q : ℕ). Holes (during M given) i q (InRecord n)) (sym h.generation)
@@ -238,22 +274,27 @@ module _ (old : DiskState) (k : Books) (H : List Entry1) (p : Past) (i g size : 
       ))
       one n lt false e = inl (record-stays r size m h.eight n e ∙ ap (λ (q : Record). record_pointer q n) (sym h.rec))
 
-  table-proper : Proper (during (mark_at p.base H (old.moment + 1) p.mark p.stamps) (resize_given p.world.files i g size)) old.now (table_block i) c2
+  table-proper : Proper (during (mark_at p.base H (old.moment + 1) p.mark p.stamps)
+      (resize_given p.world.files i g size)) old.now (table_block i) c2
   table-proper = OfTable (record {
     not_super = omega arith;
     area = ap (λ (q : SuperBlock). leb (1 + q.inodes / 4) (table_block i) && ltb (table_block i) q.blocks) mark-super
-        ∙ (let t : leb (1 + (super_at X).inodes / 4) (table_block i) ≡ false = not-leb (1 + (super_at X).inodes / 4) (table_block i)
+        ∙ (let t : leb (1 + (super_at X).inodes / 4) (table_block i) ≡ false =
+        not-leb (1 + (super_at X).inodes / 4) (table_block i)
         (let l = image.table-low old k H p i g size r tail edge c2 is_old tells o h in omega (arith, l)) in rw t refl);
     records = λ j e s. elim (table-records X i (cut_record r size (kept_slots r.size size)) c2 h.has j
         (subst (λ (q : SuperBlock). (leb 1 j && leb j q.inodes) ≡ true) mark-super e) s) [
-          | inl new ↦ subst₂ (λ (q : ℕ) (t : Record). RecordProper (during M given) X q t) (sym new.0) (sym new.1) record-proper
+          | inl new ↦ subst₂ (λ (q : ℕ) (t : Record). RecordProper (during M given) X q t) (sym new.0)
+              (sym new.1) record-proper
           | inr was ↦ Unchanged was
         ];
   })
 
   pub proper : (n : ℕ) (cell : Cell) → OneOf (cut_writes tail edge (table_block i) c2) n cell
-      → Proper (during (mark_at p.base H (old.moment + 1) p.mark p.stamps) (resize_given p.world.files i g size)) old.now n cell
+      → Proper (during (mark_at p.base H (old.moment + 1) p.mark p.stamps)
+      (resize_given p.world.files i g size)) old.now n cell
   proper n cell one = elim (one-is r.size m tail edge (table_block i) c2 n cell one) [
     | inl e ↦ subst₂ (λ (q : ℕ) (d : Cell). Proper (during M given) X q d) (sym e.0) (sym e.1) table-proper
-    | inr (a, it, at, eb, ec) ↦ subst₂ (λ (q : ℕ) (d : Cell). Proper (during M given) X q d) (sym eb) (sym ec) (block-proper a it at)
+    | inr (a, it, at, eb, ec) ↦
+        subst₂ (λ (q : ℕ) (d : Cell). Proper (during M given) X q d) (sym eb) (sym ec) (block-proper a it at)
   ]

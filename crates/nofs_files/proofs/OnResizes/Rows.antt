@@ -1,12 +1,14 @@
 -- The rows of a Resize.
-use Rattle.std.proofs.Common.{◌≡◌, ◌≢◌, ℕ, ◌+◌, ◌-◌, ◌*◌, ◌<◌, ◌≤◌, Bool, true, false, cond, eqb, ltb, lt-ltb, ltb-true, ◌&&◌, List, [], ◌∷◌, Option, Some}
+use Rattle.std.proofs.Common.{◌≡◌, ◌≢◌, ℕ, ◌+◌, ◌-◌, ◌*◌, ◌<◌, ◌≤◌, Bool, true, false, cond, eqb, ltb, lt-ltb, ltb-true}
+use Rattle.std.proofs.Common.{◌&&◌, List, [], ◌∷◌, Option, Some}
 use Rattle.std.proofs.Common.{None, IsTrue, Result, Err, refl, sym, ap, ◌∙◌, subst, arith}
 use Rattle.std.proofs.lemmas.Bool.Decides.{nat_tests}
 use Rattle.nofs_ptrs.specs.Paths.{slot_limit}
 use Rattle.nofs_disk.specs.Disk.{DiskState, IsDisk, StaysButFaults}
 use Rattle.nofs_inode.specs.declared.inode.FileKind.TheVariants.{Directory}
 use Rattle.nofs_model.specs.Cells.{Record, SuperBlock}
-use Rattle.nofs_model.specs.Image.{Image, Path, InRecord, Under, is_pointer_slot, IsSlot, find, node_in, files_in, agreed, Files}
+use Rattle.nofs_model.specs.Image.{Image, Path, InRecord, Under, is_pointer_slot, IsSlot, find, node_in, files_in}
+use Rattle.nofs_model.specs.Image.{agreed, Files}
 use Rattle.nofs_model.specs.Files.{is_kind}
 use Rattle.nofs_model.specs.declared.image.path.PathAnswer.{PathAnswer}
 use Rattle.nofs_model.specs.declared.image.path.PathAnswer.TheVariants as answer
@@ -52,12 +54,16 @@ same-slots W at v = ap (λ (n : ℕ). cond (eqb n 1) 72 slot_limit) v
 abbrev too_big : World → ℕ → Option Refusal
 too_big W size = row (ltb (1024 * slots W) size) refusal.TooLarge
 
-pub big-some : (W : World) (size : ℕ) (at : SuperBlock) → W.version ≡ at.version → 1024 * slots_of at < size → too_big W size ≡ Some refusal.TooLarge
-big-some W size at v h = let s = same-slots W at v in let t : ltb (1024 * slots W) size ≡ true = lt-ltb (1024 * slots W) size (omega (arith, s, h)) in rw t
+pub big-some : (W : World) (size : ℕ) (at : SuperBlock)
+    → W.version ≡ at.version → 1024 * slots_of at < size → too_big W size ≡ Some refusal.TooLarge
+big-some W size at v h = let s = same-slots W at v in
+    let t : ltb (1024 * slots W) size ≡ true = lt-ltb (1024 * slots W) size (omega (arith, s, h)) in rw t
     refl
 
-pub big-none : (W : World) (size : ℕ) (at : SuperBlock) → W.version ≡ at.version → size ≤ 1024 * slots_of at → too_big W size ≡ None
-big-none W size at v h = let s = same-slots W at v in let t : ltb (1024 * slots W) size ≡ false = lt-no (1024 * slots W) size (omega (arith, s, h)) in rw t
+pub big-none : (W : World) (size : ℕ) (at : SuperBlock) → W.version ≡ at.version → size ≤ 1024 * slots_of at
+    → too_big W size ≡ None
+big-none W size at v h = let s = same-slots W at v in
+    let t : ltb (1024 * slots W) size ≡ false = lt-no (1024 * slots W) size (omega (arith, s, h)) in rw t
     refl
   where
     lt-no : (a b : ℕ) → b ≤ a → ltb a b ≡ false
@@ -67,7 +73,8 @@ big-none W size at v h = let s = same-slots W at v in let t : ltb (1024 * slots 
 
 -- by how many slots stay, and by which blocks of pointers are damaged
 abbrev lost_by : ℕ → Bool → Bool → Bool → Option Refusal
-lost_by m leaf top child = first_of (row (ltb 8 m && leaf) (refusal.LostSlot 8) ∷ row (ltb 72 m && top) (refusal.LostSlot 72) ∷ row (ltb 72 m && child)
+lost_by m leaf top child = first_of (row (ltb 8 m && leaf) (refusal.LostSlot 8)
+    ∷ row (ltb 72 m && top) (refusal.LostSlot 72) ∷ row (ltb 72 m && child)
     (refusal.LostSlot (72 + 64 * last_child m)) ∷ [])
 
 abbrev lost_at : Files → ℕ → ℕ → Option Refusal
@@ -94,7 +101,8 @@ by-top m child h = let t = lt-ltb 72 m h in let e = off-leaf (ltb 8 m) in rw (e,
 pub by-child : (m : ℕ) → 72 < m → lost_by m false false true ≡ Some (refusal.LostSlot (72 + 64 * last_child m))
 by-child m h = let t = lt-ltb 72 m h in let e = off-leaf (ltb 8 m) in rw (e, t) refl
 
-by-none : (m : ℕ) (leaf top child : Bool) → (8 < m → leaf ≡ false) → (72 < m → top ≡ false) → (72 < m → child ≡ false) → lost_by m leaf top child ≡ None
+by-none : (m : ℕ) (leaf top child : Bool) → (8 < m → leaf ≡ false) → (72 < m → top ≡ false) → (72 < m → child ≡ false)
+    → lost_by m leaf top child ≡ None
 by-none m leaf top child a b c =
     let x : (ltb 8 m && leaf) ≡ false = off 8 leaf a in
     let y : (ltb 72 m && top) ≡ false = off 72 top b in
@@ -125,20 +133,28 @@ cut-whole X answer.Lost from cut c e = c
 lost-late : (F : Files) (i m : ℕ) → IsLate (lost_at F i m)
 lost-late F i m why e = first-late (row (ltb 8 m && is_damaged (node_of F i (InRecord 8))) (refusal.LostSlot 8) ∷ row
     (ltb 72 m && is_damaged (node_of F i (InRecord 9))) (refusal.LostSlot 72)
-    ∷ row (ltb 72 m && is_damaged (node_of F i (Under (InRecord 9) (last_child m)))) (refusal.LostSlot (72 + 64 * last_child m)) ∷ []) rows-late why e
+    ∷ row (ltb 72 m && is_damaged (node_of F i (Under (InRecord 9) (last_child m))))
+    (refusal.LostSlot (72 + 64 * last_child m)) ∷ []) rows-late why e
   where
-    rows-late : AreLate (row (ltb 8 m && is_damaged (node_of F i (InRecord 8))) (refusal.LostSlot 8) ∷ row (ltb 72 m && is_damaged (node_of F i (InRecord 9)))
+    rows-late : AreLate (row (ltb 8 m && is_damaged (node_of F i (InRecord 8))) (refusal.LostSlot 8)
+        ∷ row (ltb 72 m && is_damaged (node_of F i (InRecord 9)))
         (refusal.LostSlot 72)
-        ∷ row (ltb 72 m && is_damaged (node_of F i (Under (InRecord 9) (last_child m)))) (refusal.LostSlot (72 + 64 * last_child m)) ∷ [])
+        ∷ row (ltb 72 m && is_damaged (node_of F i (Under (InRecord 9) (last_child m))))
+        (refusal.LostSlot (72 + 64 * last_child m)) ∷ [])
     rows-late = (
       late-row (ltb 8 m && is_damaged (node_of F i (InRecord 8))) (refusal.LostSlot 8) refl,
       (
         late-row (ltb 72 m && is_damaged (node_of F i (InRecord 9))) (refusal.LostSlot 72) refl,
-        (late-row (ltb 72 m && is_damaged (node_of F i (Under (InRecord 9) (last_child m)))) (refusal.LostSlot (72 + 64 * last_child m)) refl, tt),
+        (
+          late-row (ltb 72 m && is_damaged (node_of F i (Under (InRecord 9) (last_child m))))
+              (refusal.LostSlot (72 + 64 * last_child m)) refl,
+          tt,
+        ),
       ),
     )
 
-module _ (d : DiskState) (k : Books) (i g size : ℕ) (r : Record) (is : IsDisk d) (safe : IsSafe d k) (going : k.stopped ≡ false) (file : IsFile d k.at i g r)
+module _ (d : DiskState) (k : Books) (i g size : ℕ) (r : Record) (is : IsDisk d) (safe : IsSafe d k)
+    (going : k.stopped ≡ false) (file : IsFile d k.at i g r)
     (current : IsTrue d.tells → AreTrue d.now k.agreement → is_current d.now i g ≡ true)
     (fits : size ≤ 1024 * slots_of k.at) (most : kept_slots r.size size ≤ slot_limit) where
   module _ (tells : IsTrue d.tells) (H : List Entry1) (p : Past) (o : IsOpen d k H p) where
@@ -155,26 +171,33 @@ module _ (d : DiskState) (k : Books) (i g size : ℕ) (r : Record) (is : IsDisk 
     own = matched-agreed p.world.files d.now i match (agreed-live d.now i agrees) agrees
 
     folder : is_folder_at p.world.files i ≡ false
-    folder = folder-is p.world.files d.now i match agrees ∙ ap (λ (q : Record). is_kind Directory q.kind) (file.known.same tells) ∙ ap (is_kind Directory)
+    folder = folder-is p.world.files d.now i match agrees
+        ∙ ap (λ (q : Record). is_kind Directory q.kind) (file.known.same tells) ∙ ap (is_kind Directory)
         file.kind
 
     old-size : size_of p.world.files i ≡ r.size
-    old-size = size-of p.world.files i own.file own.is ∙ (file-in p.world.files d.now i own.file match own.is).1.size ∙ ap (λ (q : Record). q.size)
+    old-size = size-of p.world.files i own.file own.is
+        ∙ (file-in p.world.files d.now i own.file match own.is).1.size ∙ ap (λ (q : Record). q.size)
         (file.known.same tells)
 
     node : (a : Path) → IsSlot a → is_pointer_slot a ≡ true → node_of p.world.files i a ≡ node_in (find d.now i a)
-    node a slot points = let e = own.is in rw (e, node_of) ((file-in p.world.files d.now i own.file match own.is).1.nodes a slot points)
+    node a slot points = let e = own.is in
+        rw (e, node_of) ((file-in p.world.files d.now i own.file match own.is).1.nodes a slot points)
 
     lost-rows : lost_resize p.world i size ≡ lost_by (kept_slots r.size size) (is_lost_in (find d.now i (InRecord 8)))
-        (is_lost_in (find d.now i (InRecord 9))) (is_lost_in (find d.now i (Under (InRecord 9) (last_child (kept_slots r.size size)))))
+        (is_lost_in (find d.now i (InRecord 9)))
+        (is_lost_in (find d.now i (Under (InRecord 9) (last_child (kept_slots r.size size)))))
     lost-rows = lost-at p.world i size ∙ ap (λ (n : ℕ). lost_at p.world.files i (kept_slots n size)) old-size
-        ∙ (λ j. lost_by (kept_slots r.size size) (is_damaged (node (InRecord 8) (omega arith) refl j)) (is_damaged (node (InRecord 9) (omega arith) refl j))
-        (is_damaged (node (Under (InRecord 9) (last_child (kept_slots r.size size))) (refl, child-low (kept_slots r.size size) most, omega arith) refl
+        ∙ (λ j. lost_by (kept_slots r.size size) (is_damaged (node (InRecord 8) (omega arith) refl j))
+        (is_damaged (node (InRecord 9) (omega arith) refl j))
+        (is_damaged (node (Under (InRecord 9) (last_child (kept_slots r.size size)))
+        (refl, child-low (kept_slots r.size size) most, omega arith) refl
         j)))
 
     -- all but what is cut inside passes
     pub rows-are : (V : World) → first_of (rows p.world V (step.Resize i g size)) ≡ lost_resize p.world i size
-    rows-are V = rw (big-none p.world size k.at o.says.version fits, stale-none p.world d.now i g match now-current, folder)
+    rows-are V =
+        rw (big-none p.world size k.at o.says.version fits, stale-none p.world d.now i g match now-current, folder)
         (first-one (lost_resize p.world i size))
       where
         first-one : (w : Option Refusal) → first_of (w ∷ []) ≡ w
@@ -182,67 +205,89 @@ module _ (d : DiskState) (k : Books) (i g size : ℕ) (r : Record) (is : IsDisk 
         first-one (Some w) = refl
 
   -- no row comes
-  pub rows-pass : (edge : Edge) → (IsTrue d.tells → IsEdge d.now i (kept_slots r.size size) edge) → RowsPass d k (step.Resize i g size)
+  pub rows-pass : (edge : Edge) → (IsTrue d.tells → IsEdge d.now i (kept_slots r.size size) edge)
+      → RowsPass d k (step.Resize i g size)
   rows-pass edge is_edge tells H p o V =
       let e = is_edge tells in
       rows-are tells H p o V ∙ lost-rows tells H p o ∙ by-none (kept_slots r.size size) _ _ _
       (λ h. not-lost (find d.now i (InRecord 8)) (e.whole h))
-      (λ h. not-lost (find d.now i (InRecord 9)) (cut-whole d.now (find d.now i (InRecord 9)) (last_child (kept_slots r.size size) + 1) edge.above
+      (λ h. not-lost (find d.now i (InRecord 9))
+      (cut-whole d.now (find d.now i (InRecord 9)) (last_child (kept_slots r.size size) + 1) edge.above
       (e.far h).top))
       (λ h. not-lost (find d.now i (Under (InRecord 9) (last_child (kept_slots r.size size))))
       (cut-whole d.now (find d.now i (Under (InRecord 9) (last_child (kept_slots r.size size))))
       (kept_slots r.size size - (72 + 64 * last_child (kept_slots r.size size))) edge.below (e.far h).child))
 
   -- each row comes after a read
-  pub late : (tells : IsTrue d.tells) (H : List Entry1) (p : Past) (o : IsOpen d k H p) → IsLate (first_of (rows p.world p.world (step.Resize i g size)))
+  pub late : (tells : IsTrue d.tells) (H : List Entry1) (p : Past) (o : IsOpen d k H p)
+      → IsLate (first_of (rows p.world p.world (step.Resize i g size)))
   late tells H p o why e = lost-late p.world.files i (kept_slots (size_of p.world.files i) size) why
       (sym (rows-are tells H p o p.world ∙ lost-at p.world i size) ∙ e)
 
   -- what is cut inside is lost, or a read failed
-  pub goes-unedged : (new : DiskState) (why : Refusal) → StaysButFaults d new → EdgeFails d new i (kept_slots r.size size) why
+  pub goes-unedged : (new : DiskState) (why : Refusal) → StaysButFaults d new
+      → EdgeFails d new i (kept_slots r.size size) why
       → Goes d k new k (step.Resize i g size) no_claims (reply.Refused why)
-  goes-unedged new why stays (LostLeaf e lost) = subst (λ (w : Refusal). Goes d k new k (step.Resize i g size) no_claims (reply.Refused w)) (sym e)
+  goes-unedged new why stays (LostLeaf e lost) =
+      subst (λ (w : Refusal). Goes d k new k (step.Resize i g size) no_claims (reply.Refused w)) (sym e)
       (goes-row d new k (step.Resize i g size) is safe stays (refusal.LostSlot 8) refl tt going (λ tells H p o.
       let q = lost tells in
-      rows-are tells H p o p.world ∙ lost-rows tells H p o ∙ ap (λ (b : Bool). lost_by (kept_slots r.size size) b (is_lost_in (find d.now i (InRecord 9)))
-      (is_lost_in (find d.now i (Under (InRecord 9) (last_child (kept_slots r.size size)))))) (lost-is (find d.now i (InRecord 8)) q.1)
+      rows-are tells H p o p.world ∙ lost-rows tells H p o
+      ∙ ap (λ (b : Bool). lost_by (kept_slots r.size size) b (is_lost_in (find d.now i (InRecord 9)))
+      (is_lost_in (find d.now i (Under (InRecord 9) (last_child (kept_slots r.size size))))))
+      (lost-is (find d.now i (InRecord 8)) q.1)
       ∙ by-leaf (kept_slots r.size size) _ _ q.0))
-  goes-unedged new why stays (LostTop e lost) = subst (λ (w : Refusal). Goes d k new k (step.Resize i g size) no_claims (reply.Refused w)) (sym e)
+  goes-unedged new why stays (LostTop e lost) =
+      subst (λ (w : Refusal). Goes d k new k (step.Resize i g size) no_claims (reply.Refused w)) (sym e)
       (goes-row d new k (step.Resize i g size) is safe stays (refusal.LostSlot 72) refl tt going (λ tells H p o.
       let q = lost tells in
-      rows-are tells H p o p.world ∙ lost-rows tells H p o ∙ (λ j. lost_by (kept_slots r.size size) (not-lost (find d.now i (InRecord 8)) q.1 j)
-      (lost-is (find d.now i (InRecord 9)) q.2 j) (is_lost_in (find d.now i (Under (InRecord 9) (last_child (kept_slots r.size size))))))
+      rows-are tells H p o p.world ∙ lost-rows tells H p o
+      ∙ (λ j. lost_by (kept_slots r.size size) (not-lost (find d.now i (InRecord 8)) q.1 j)
+      (lost-is (find d.now i (InRecord 9)) q.2 j)
+      (is_lost_in (find d.now i (Under (InRecord 9) (last_child (kept_slots r.size size))))))
       ∙ by-top (kept_slots r.size size) _ q.0))
-  goes-unedged new why stays (LostChild e lost) = subst (λ (w : Refusal). Goes d k new k (step.Resize i g size) no_claims (reply.Refused w)) (sym e)
-      (goes-row d new k (step.Resize i g size) is safe stays (refusal.LostSlot (72 + 64 * last_child (kept_slots r.size size))) refl tt going (λ tells H p o.
+  goes-unedged new why stays (LostChild e lost) =
+      subst (λ (w : Refusal). Goes d k new k (step.Resize i g size) no_claims (reply.Refused w)) (sym e)
+      (goes-row d new k (step.Resize i g size) is safe stays
+      (refusal.LostSlot (72 + 64 * last_child (kept_slots r.size size))) refl tt going (λ tells H p o.
       let q = lost tells in
-      rows-are tells H p o p.world ∙ lost-rows tells H p o ∙ (λ j. lost_by (kept_slots r.size size) (not-lost (find d.now i (InRecord 8)) q.1 j)
-      (not-lost (find d.now i (InRecord 9)) q.2 j) (lost-is (find d.now i (Under (InRecord 9) (last_child (kept_slots r.size size)))) q.3 j))
+      rows-are tells H p o p.world ∙ lost-rows tells H p o
+      ∙ (λ j. lost_by (kept_slots r.size size) (not-lost (find d.now i (InRecord 8)) q.1 j)
+      (not-lost (find d.now i (InRecord 9)) q.2 j)
+      (lost-is (find d.now i (Under (InRecord 9) (last_child (kept_slots r.size size)))) q.3 j))
       ∙ by-child (kept_slots r.size size) q.0))
-  goes-unedged new why stays (EdgeUnread e rose) = subst (λ (w : Refusal). Goes d k new k (step.Resize i g size) no_claims (reply.Refused w)) (sym e)
+  goes-unedged new why stays (EdgeUnread e rose) =
+      subst (λ (w : Refusal). Goes d k new k (step.Resize i g size) no_claims (reply.Refused w)) (sym e)
       (goes-read d new k (step.Resize i g size) is safe stays going rose (λ tells H p o. late tells H p o))
 
 -- Before the file is opened
 
-module _ (old : DiskState) (k : Books) (i g size : ℕ) (is : IsDisk old) (safe : IsSafe old k) (going : k.stopped ≡ false) where
+module _ (old : DiskState) (k : Books) (i g size : ℕ) (is : IsDisk old) (safe : IsSafe old k)
+    (going : k.stopped ≡ false) where
   pub goes-too-big : (new : DiskState) → StaysButFaults old new → 1024 * slots_of k.at < size
       → Goes old k new k (step.Resize i g size) no_claims (reply.Refused refusal.TooLarge)
   goes-too-big new stays h = goes-row old new k (step.Resize i g size) is safe stays refusal.TooLarge refl tt going
       (λ tells H p o. rw (big-some p.world size k.at o.says.version h) refl)
 
   rows-start : (H : List Entry1) (p : Past) → IsOpen old k H p → size ≤ 1024 * slots_of k.at
-      → first_of (rows p.world p.world (step.Resize i g size)) ≡ first_of (stale p.world i g ∷ is_directory p.world i ∷ lost_resize p.world i size ∷ [])
+      → first_of (rows p.world p.world (step.Resize i g size))
+      ≡ first_of (stale p.world i g ∷ is_directory p.world i ∷ lost_resize p.world i size ∷ [])
   rows-start H p o fits = rw (big-none p.world size k.at o.says.version fits) refl
 
-  before-lost : (a b c : Option Refusal) (why : Refusal) → first_of (a ∷ b ∷ []) ≡ Some why → first_of (a ∷ b ∷ c ∷ []) ≡ Some why
+  before-lost : (a b c : Option Refusal) (why : Refusal) → first_of (a ∷ b ∷ []) ≡ Some why
+      → first_of (a ∷ b ∷ c ∷ []) ≡ Some why
   before-lost (Some w) b c why e = e
   before-lost None (Some w) c why e = e
   before-lost None None c why e = cc e
 
-  pub goes-unresized : (new : DiskState) (last : LastRead) (res : Result Record Refusal) (why : Refusal) → size ≤ 1024 * slots_of k.at
-      → OpensFile old new k i g last res → res ≡ Err why → Goes old k new k (step.Resize i g size) no_claims (reply.Refused why)
-  goes-unresized new last res why fits opens e = goes-unfiled old new k (step.Resize i g size) i g last res why is safe going opens e
-      (λ H p o q. rows-start H p o fits ∙ before-lost (stale p.world i g) (is_directory p.world i) (lost_resize p.world i size) why q)
+  pub goes-unresized : (new : DiskState) (last : LastRead) (res : Result Record Refusal) (why : Refusal)
+      → size ≤ 1024 * slots_of k.at
+      → OpensFile old new k i g last res → res ≡ Err why
+      → Goes old k new k (step.Resize i g size) no_claims (reply.Refused why)
+  goes-unresized new last res why fits opens e =
+      goes-unfiled old new k (step.Resize i g size) i g last res why is safe going opens e
+      (λ H p o q. rows-start H p o fits
+      ∙ before-lost (stale p.world i g) (is_directory p.world i) (lost_resize p.world i size) why q)
       (λ H p o w q. let all : AreLate (stale p.world i g ∷ is_directory p.world i ∷ lost_resize p.world i size ∷ []) = (
         late-row _ _ refl,
         (
@@ -254,4 +299,5 @@ module _ (old : DiskState) (k : Books) (i g size : ℕ) (is : IsDisk old) (safe 
           ),
         ),
       ) in
-      first-late (stale p.world i g ∷ is_directory p.world i ∷ lost_resize p.world i size ∷ []) all w (sym (rows-start H p o fits) ∙ q))
+      first-late (stale p.world i g ∷ is_directory p.world i ∷ lost_resize p.world i size ∷ []) all w
+      (sym (rows-start H p o fits) ∙ q))

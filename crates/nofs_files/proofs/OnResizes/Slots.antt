@@ -1,5 +1,6 @@
 -- Which slots are cut, by their places and by their numbers.
-use Rattle.std.proofs.Common.{◌≡◌, ℕ, ◌+◌, ◌-◌, ◌*◌, ◌/◌, ◌^◌, ◌<◌, ◌≤◌, ◌⊎◌, inl, inr, Bool, true, false, cond, eqb-true, leb, leb-true, ◌||◌, refl, sym, ap}
+use Rattle.std.proofs.Common.{◌≡◌, ℕ, ◌+◌, ◌-◌, ◌*◌, ◌/◌, ◌^◌, ◌<◌, ◌≤◌, ◌⊎◌, inl, inr, Bool, true, false, cond}
+use Rattle.std.proofs.Common.{eqb-true, leb, leb-true, ◌||◌, refl, sym, ap}
 use Rattle.std.proofs.Common.{◌∙◌, arith}
 use Rattle.std.proofs.lemmas.Bool.{cases_lt, le-leb}
 use Rattle.std.proofs.lemmas.Bool.Decides.{nat_tests}
@@ -32,12 +33,14 @@ neither true b ea eb = cc ea
 neither false b ea eb = eb
 
 -- which slots have others under them
-pub above-cases : (b : Path) (n : ℕ) → IsSlot (Under b n) → (b ≡ InRecord 8) ⊎ ((b ≡ InRecord 9) ⊎ ((j : ℕ) × (j < 64) × (b ≡ Under (InRecord 9) j)))
+pub above-cases : (b : Path) (n : ℕ) → IsSlot (Under b n)
+    → (b ≡ InRecord 8) ⊎ ((b ≡ InRecord 9) ⊎ ((j : ℕ) × (j < 64) × (b ≡ Under (InRecord 9) j)))
 above-cases (InRecord q) n s = elim (cases_lt q 9) [
   | inl lt ↦ (let low = leb-true 8 q s.0 in let e : q ≡ 8 = omega (arith, low, lt) in inl (ap InRecord e))
   | inr le ↦ (let high = s.2 in let e : q ≡ 9 = omega (arith, le, high) in inr (inl (ap InRecord e)))
 ]
-above-cases (Under (InRecord q) j) n s = let e : q ≡ 9 = eqb-true q 9 s.0 in inr (inr (j, s.2.1, ap (λ (t : ℕ). Under (InRecord t) j) e))
+above-cases (Under (InRecord q) j) n s = let e : q ≡ 9 = eqb-true q 9 s.0 in
+    inr (inr (j, s.2.1, ap (λ (t : ℕ). Under (InRecord t) j) e))
 above-cases (Under (Under a j) q) n s = cc s.0
 
 -- a slot stays, and those under it are cut from a place on
@@ -56,7 +59,8 @@ leaf-inside m low high = record {
 pub top-inside : (m : ℕ) → 72 < m → Inside m (InRecord 9) (last_child m + 1)
 top-inside m low = record {
   stays = lt-leb m 72 low;
-  before = λ n lt h. neither (leb m 72) (leb m (72 + 64 * n)) (lt-leb m 72 low) (lt-leb m (72 + 64 * n) (omega (arith, low, h)));
+  before = λ n lt h. neither (leb m 72) (leb m (72 + 64 * n)) (lt-leb m 72 low)
+      (lt-leb m (72 + 64 * n) (omega (arith, low, h)));
   behind = λ n lt h. or-right (leb m 72) (leb m (72 + 64 * n)) (le-leb m (72 + 64 * n) (omega (arith, low, h)));
 }
 
@@ -70,13 +74,15 @@ child-inside m low = record {
 }
   where
     above : (leb m 72 || leb m (72 + 64 * last_child m)) ≡ false
-    above = neither (leb m 72) (leb m (72 + 64 * last_child m)) (lt-leb m 72 low) (lt-leb m (72 + 64 * last_child m) (omega (arith, low)))
+    above = neither (leb m 72) (leb m (72 + 64 * last_child m)) (lt-leb m 72 low)
+        (lt-leb m (72 + 64 * last_child m) (omega (arith, low)))
 
 pub child-low : (m : ℕ) → m ≤ slot_limit → last_child m < 64
 child-low m h = omega (arith, h)
 
 -- a child that stays and has slots that are cut is the last one
-pub only-child : (m j n : ℕ) → is_cut m (Under (InRecord 9) j) ≡ false → is_cut m (Under (Under (InRecord 9) j) n) ≡ true → n < 64 → j ≡ last_child m
+pub only-child : (m j n : ℕ) → is_cut m (Under (InRecord 9) j) ≡ false
+    → is_cut m (Under (Under (InRecord 9) j) n) ≡ true → n < 64 → j ≡ last_child m
 only-child m j n stays cut low =
     let s = or-parts (leb m 72) (leb m (72 + 64 * j)) stays in
     let above : 72 < m = leb-lt m 72 s.0 in
@@ -173,6 +179,7 @@ from-cut m k low high cut = elim (cases_lt k (2 ^ 32 + 2)) [
       | inr le ↦ (let f = at-most le in omega (arith, f, many))
       | inl gt ↦ elim (or-one (leb m 72) (leb m (72 + 64 * (k - (2 ^ 32 + 2)))) t) [
         | inl s ↦ absurd (let z = leb-true m 72 s in omega (arith, z, gt))
-        | inr s ↦ (let z = leb-true m (72 + 64 * (k - (2 ^ 32 + 2))) s in let f = first-far m gt in omega (arith, f, z, many, gt))
+        | inr s ↦ (let z = leb-true m (72 + 64 * (k - (2 ^ 32 + 2))) s in let f = first-far m gt in
+            omega (arith, f, z, many, gt))
       ]
     ]

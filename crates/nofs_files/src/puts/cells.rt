@@ -146,7 +146,8 @@ pub(crate) fn put_in_place<D: Disk + Drop>(
     requires may { MayPut (D.state core.old.disk) core.old.books put.now it.now last.old 2 }
     requires slot { put.now.slot < slot_limit }
     requires held { HeldAt (D.state core.old.disk) core.old.books put.now.inode (slots.path_of put.now.slot) pointer }
-    requires cell { IsTrue (D.state core.old.disk).tells → last.old.cell ≡ cell_at (D.state core.old.disk).now pointer.block }
+    requires cell { IsTrue (D.state core.old.disk).tells
+        → last.old.cell ≡ cell_at (D.state core.old.disk).now pointer.block }
     requires rows { RowsPass (D.state core.old.disk) core.old.books (step_of_put put.now) }
     ensures { PutGoes (D.state core.old.disk) core.old.books (D.state core.new.disk) core.new.books put.now result }
 {

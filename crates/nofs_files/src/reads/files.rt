@@ -84,7 +84,8 @@ pub(crate) fn find_content<D: Disk>(
     requires known { KnowsInode (D.state disk.old) at.now inode it.now }
     requires slot { slot < slot_limit }
     requires last { IsLast (D.state disk.old) last.old }
-    ensures { FindsSlot (D.state disk.old) (D.state disk.new) at.now (λ X. slots.find X inode (slots.path_of slot)) last.new result }
+    ensures { FindsSlot (D.state disk.old) (D.state disk.new) at.now
+        (λ X. slots.find X inode (slots.path_of slot)) last.new result }
 {
     find_slot(disk, at, inode, it, place_of(slot), last)
 }

@@ -12,8 +12,8 @@ use nofs_disk::Disk;
 use nofs_history::Refusal;
 use nofs_state::{Core, open_inode};
 
-/// Makes all that was written durable. Inode 0 of generation 0 names the whole disk. Where it is done, a crash leaves just what a read
-/// gives.
+/// Makes all that was written durable. Inode 0 of generation 0 names the whole disk. Where it is done, a crash leaves
+/// just what a read gives.
 pub fn flush<D: Disk + Drop>(core: &mut Core<D>, inode: u32, generation: u64) -> Result<(), Refusal>
     requires { IsSafe (D.state core.old.disk) core.old.books }
     ensures goes { Goes (D.state core.old.disk) core.old.books (D.state core.new.disk) core.new.books

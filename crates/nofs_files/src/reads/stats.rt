@@ -20,7 +20,8 @@ pub fn stat<D: Disk + Drop>(
     generation: u64,
 ) -> Result<Stat, Refusal>
     requires { IsSafe (D.state core.old.disk) core.old.books }
-    ensures { Goes (D.state core.old.disk) core.old.books (D.state core.new.disk) core.new.books (step.Stat inode generation) no_claims (stat_answer result) }
+    ensures { Goes (D.state core.old.disk) core.old.books (D.state core.new.disk) core.new.books
+        (step.Stat inode generation) no_claims (stat_answer result) }
 {
     if core.books.stopped {
         return Err(Refusal::Stopped);

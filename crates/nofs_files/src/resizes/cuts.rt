@@ -118,7 +118,8 @@ fn cut_block<D: Disk>(
     requires place { IsPlace place }
     requires from { from ≤ 64 }
     requires last { IsLast (D.state disk.old) last.old }
-    ensures { CutsBlock (D.state disk.old) (D.state disk.new) at.now inode (place_path place) from slot last.new result }
+    ensures { CutsBlock (D.state disk.old) (D.state disk.new) at.now inode
+        (place_path place) from slot last.new result }
 {
     let found = match find_slot(disk, at, inode, it, place, last) {
         Ok(found) => found,

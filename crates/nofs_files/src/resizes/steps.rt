@@ -51,7 +51,8 @@ fn write_edge<D: Disk>(disk: &mut D, edge: &Edge, block: u64, table: &Cell) -> R
     requires above { IfSome edge.now.above (λ it. it.block < (D.state disk.old).blocks) }
     requires block { block < (D.state disk.old).blocks }
     requires spare { 3 ≤ (D.state disk.old).spare }
-    ensures { WritesAll (D.state disk.old) (D.state disk.new) (maybe edge.now.below (maybe edge.now.above ((block, table.now) ∷ []))) result }
+    ensures { WritesAll (D.state disk.old) (D.state disk.new)
+        (maybe edge.now.below (maybe edge.now.above ((block, table.now) ∷ []))) result }
 {
     match &edge.below {
         None => write_above(disk, &edge.above, block, table),
@@ -99,7 +100,8 @@ fn store_cut<D: Disk + Drop>(
     requires above { IfSome edge.now.above (λ it. it.block < (D.state core.old.disk).blocks) }
     requires block { block < (D.state core.old.disk).blocks }
     requires spare { 4 ≤ (D.state core.old.disk).spare }
-    ensures { Stores (D.state core.old.disk) core.old.books (D.state core.new.disk) core.new.books (cut_writes tail.now edge.now block table.now) result }
+    ensures { Stores (D.state core.old.disk) core.old.books (D.state core.new.disk) core.new.books
+        (cut_writes tail.now edge.now block table.now) result }
 {
     match write_cut(&mut core.disk, tail, edge, block, table) {
         Ok(()) => Ok(()),
@@ -121,10 +123,12 @@ fn resize_cut<D: Disk + Drop>(
     freed: &FreedBlocks,
     last: &mut LastRead,
 ) -> Result<(), Refusal>
-    requires may { MayCut (D.state core.old.disk) core.old.books inode it.now.generation size it.now tail.now edge.now freed.now }
+    requires may { MayCut (D.state core.old.disk) core.old.books inode it.now.generation size it.now tail.now
+        edge.now freed.now }
     requires spare { 4 ≤ (D.state core.old.disk).spare }
     requires last { IsLast (D.state core.old.disk) last.old }
-    ensures { ResizeGoes (D.state core.old.disk) core.old.books (D.state core.new.disk) core.new.books inode it.now.generation size result }
+    ensures { ResizeGoes (D.state core.old.disk) core.old.books
+        (D.state core.new.disk) core.new.books inode it.now.generation size result }
 {
     match read_table(&mut core.disk, inode, last) {
         Ok(()) => {}
@@ -153,7 +157,8 @@ fn resize_file<D: Disk + Drop>(
     requires last { IsLast (D.state core.old.disk) last.old }
     requires may { MayResize (D.state core.old.disk) core.old.books inode it.now size }
     requires spare { 4 ≤ (D.state core.old.disk).spare }
-    ensures { ResizeGoes (D.state core.old.disk) core.old.books (D.state core.new.disk) core.new.books inode it.now.generation size result }
+    ensures { ResizeGoes (D.state core.old.disk) core.old.books
+        (D.state core.new.disk) core.new.books inode it.now.generation size result }
 {
     note_file(it);
     let kept = kept_slots(it.size, size);
@@ -186,7 +191,8 @@ fn resize_with_room<D: Disk + Drop>(
 ) -> Result<(), Refusal>
     requires spare { 4 ≤ (D.state core.old.disk).spare }
     requires safe { IsSafe (D.state core.old.disk) core.old.books }
-    ensures { ResizeGoes (D.state core.old.disk) core.old.books (D.state core.new.disk) core.new.books ask.inode ask.generation ask.size result }
+    ensures { ResizeGoes (D.state core.old.disk) core.old.books
+        (D.state core.new.disk) core.new.books ask.inode ask.generation ask.size result }
 {
     if core.books.stopped {
         return Err(Refusal::Stopped);
@@ -221,7 +227,8 @@ pub fn resize<D: Disk + Drop>(
     size: u64,
 ) -> Result<(), Refusal>
     requires { IsSafe (D.state core.old.disk) core.old.books }
-    ensures { ResizeGoes (D.state core.old.disk) core.old.books (D.state core.new.disk) core.new.books inode generation size result }
+    ensures { ResizeGoes (D.state core.old.disk) core.old.books
+        (D.state core.new.disk) core.new.books inode generation size result }
 {
     let ask = NewSize {
         inode,

@@ -1,7 +1,8 @@
 -- What is read of a base image, slot by slot and inode by inode, are its agreed files.
 --
 -- Slots whose block of pointers is missing are holes, and inodes that the image does not have are no files.
-use Rattle.std.proofs.Common.{◌≡◌, ℕ, zero, suc, ◌+◌, ◌-◌, ◌/◌, ◌%◌, ◌<◌, ◌≤◌, inl, inr, Bool, true, false, cond, ltb, leb, eqb, ◌&&◌, List, length, Option}
+use Rattle.std.proofs.Common.{◌≡◌, ℕ, zero, suc, ◌+◌, ◌-◌, ◌/◌, ◌%◌, ◌<◌, ◌≤◌, inl, inr, Bool, true, false, cond, ltb}
+use Rattle.std.proofs.Common.{leb, eqb, ◌&&◌, List, length, Option}
 use Rattle.std.proofs.Common.{Some, None, refl, sym, ap, ◌∙◌, arith, ltb-true}
 use Rattle.std.proofs.Math.Path.{fun_ext}
 use Rattle.std.specs.List.{slice_get}
@@ -13,7 +14,8 @@ use Rattle.nofs_model.proofs.OnSlots.Paths.{path-leaf, path-far}
 use Rattle.nofs_model.proofs.OnSlots.Find.{and-both, find-held}
 use Rattle.nofs_model.specs.Cells.{FileKind, null}
 use Rattle.nofs_model.specs.Geometry.{inodes_of, blocks_of, first_data, IsMountable, IsSized, cell_at}
-use Rattle.nofs_model.specs.Image.{Image, inode, is_inode, file_from, files_in, agreed, value, value_in as value_found, Path, Under, path_of, find}
+use Rattle.nofs_model.specs.Image.{Image, inode, is_inode, file_from, files_in, agreed, value, value_in as value_found}
+use Rattle.nofs_model.specs.Image.{Path, Under, path_of, find}
 use Rattle.nofs_model.specs.Image.{leaf, top, child}
 use Rattle.nofs_model.specs.declared.image.path.PathAnswer.{PathAnswer}
 use Rattle.nofs_model.specs.declared.image.path.PathAnswer.TheVariants as answer
@@ -33,7 +35,8 @@ leaf-hole X i e = rw e refl
 top-hole : (X : Image) (i : ℕ) → (inode X i).top ≡ null → find X i top ≡ answer.Hole
 top-hole X i e = rw e refl
 
-under-hole : (X : Image) (i n : ℕ) (above : Path) → find X i above ≡ answer.Hole → find X i (Under above n) ≡ answer.Hole
+under-hole : (X : Image) (i n : ℕ) (above : Path)
+    → find X i above ≡ answer.Hole → find X i (Under above n) ≡ answer.Hole
 under-hole X i n above e = rw e refl
 
 -- so the slots under it are holes
@@ -44,18 +47,21 @@ holes-behind-leaf X i k e low lt =
 
 pub holes-behind-top : (X : Image) (i k : ℕ) → (inode X i).top ≡ null → 72 ≤ k → k < slot_limit → value X i k ≡ Hole
 holes-behind-top X i k e low lt =
-    let under = under-hole X i ((k - 72) % 64) (child ((k - 72) / 64)) (under-hole X i ((k - 72) / 64) top (top-hole X i e)) in
+    let under = under-hole X i ((k - 72) % 64) (child ((k - 72) / 64))
+    (under-hole X i ((k - 72) / 64) top (top-hole X i e)) in
     ap (λ (path : Path). value_found X (find X i path)) (path-far k low lt) ∙ ap (value_found X) under
 
 -- bytes that a slot has are those of a block
-pub value-sized : (X : Image) (i k : ℕ) (content : List ℕ) → IsMountable X → IsSized X → value X i k ≡ Bytes content → length content ≡ 1024
+pub value-sized : (X : Image) (i k : ℕ) (content : List ℕ) → IsMountable X → IsSized X → value X i k ≡ Bytes content
+    → length content ≡ 1024
 value-sized X i k content image sized e = go (find X i (path_of k)) refl e
   where
     go : (f : PathAnswer) → find X i (path_of k) ≡ f → value_found X f ≡ Bytes content → length content ≡ 1024
     go answer.Hole is b = cc
     go answer.Lost is b = cc
     go (answer.Holds x) is b =
-        let area = and-both (leb (first_data X) x.block) (ltb x.block (blocks_of X)) (find-held X i (path_of k) x is).agrees.area in
+        let area = and-both (leb (first_data X) x.block) (ltb x.block (blocks_of X))
+        (find-held X i (path_of k) x is).agrees.area in
         let low : x.block < blocks_of X = ltb-true x.block (blocks_of X) area.1 in
         let below : x.block < length X = omega (arith, image.fits.fits) in
         let same : (cell_at X x.block).payload ≡ content = cc in
@@ -99,7 +105,8 @@ not-zero : (k : ℕ) → eqb (suc k) 0 ≡ false
 not-zero k = grind (arith, nat_tests)
 
 -- the files of all inodes are all agreed files
-pub files-whole : (X : Image) (files : FilesNow) → AreFiles X (inodes_of X) files.files.items → kept_files (kept_files_of files) ≡ kept_files (agreed_files X)
+pub files-whole : (X : Image) (files : FilesNow) → AreFiles X (inodes_of X) files.files.items
+    → kept_files (kept_files_of files) ≡ kept_files (agreed_files X)
 files-whole X files are = fun_ext each
   where
     each : (i : ℕ) → kept_files (kept_files_of files) i ≡ kept_files (agreed_files X) i
@@ -110,6 +117,8 @@ files-whole X files are = fun_ext each
         rw (not-zero k, back) (elim (cases_lt k (inodes_of X)) [
           | inl lt ↦ are.each k lt ∙ ap (kept_files (agreed_files X)) next
           | inr le ↦
-              let past : slice_get files.files.items k ≡ None = slice_get_past files.files.items k (omega (arith, are.len)) in
-              ap (λ (at : Option (Option FileNow)). kept_file (file_at at)) past ∙ ap kept_file (sym (no-inode X (suc k) (behind k (inodes_of X) le)))
+              let past : slice_get files.files.items k ≡ None =
+              slice_get_past files.files.items k (omega (arith, are.len)) in
+              ap (λ (at : Option (Option FileNow)). kept_file (file_at at)) past
+              ∙ ap kept_file (sym (no-inode X (suc k) (behind k (inodes_of X) le)))
         ])

@@ -1,5 +1,6 @@
 -- Every step that the machine accepts keeps the bounds without which what it gives is no cell or no file.
-use Rattle.std.proofs.Common.{◌≡◌, ℕ, ◌+◌, ◌<◌, ◌≤◌, inl, inr, Bool, true, false, ◌&&◌, ◌||◌, not, cond, eqb, ltb, leb, List, [], ◌∷◌, length, Option, Some}
+use Rattle.std.proofs.Common.{◌≡◌, ℕ, ◌+◌, ◌<◌, ◌≤◌, inl, inr, Bool, true, false, ◌&&◌, ◌||◌, not, cond, eqb, ltb, leb}
+use Rattle.std.proofs.Common.{List, [], ◌∷◌, length, Option, Some}
 use Rattle.std.proofs.Common.{None, refl, sym, ap, ◌∙◌, subst, arith}
 use Rattle.nofs_ptrs.specs.Paths.{slot_limit}
 use Rattle.nofs_dirent.specs.Names.{is_name}
@@ -22,7 +23,8 @@ use Rattle.nofs_history.specs.declared.machine.replies.Refusal.TheVariants as re
 
 -- No row is a fault of writing
 
-row-faultless : (W V : World) (s : Step) (why : Refusal) → first_of (rows W V s) ≡ Some why → is_write_fault (reply.Refused why) ≡ false
+row-faultless : (W V : World) (s : Step) (why : Refusal) → first_of (rows W V s) ≡ Some why
+    → is_write_fault (reply.Refused why) ≡ false
 row-faultless W V s why row = sound why (subst FaultFree row (first-free (rows W V s) (rows-free W V s)))
   where
     sound : (by : Refusal) → NoFault by → is_write_fault (reply.Refused by) ≡ false
@@ -31,7 +33,8 @@ row-faultless W V s why row = sound why (subst FaultFree row (first-free (rows W
 
 -- Where no row comes
 
-none-first : (o : Option Refusal) (os : List (Option Refusal)) → first_of (o ∷ os) ≡ None → (o ≡ None) × (first_of os ≡ None)
+none-first : (o : Option Refusal) (os : List (Option Refusal)) → first_of (o ∷ os) ≡ None → (o ≡ None)
+    × (first_of os ≡ None)
 none-first None os e = (refl, e)
 none-first (Some why) os e = absurd (cc e)
 
@@ -55,7 +58,8 @@ name-short : (name : List ℕ) → is_name name ≡ true → leb (length name) 4
 unfolding is_name
 name-short name e = (and-both _ _ (and-both _ _ e).1).0
 
-good-name : (name : List ℕ) (os : List (Option Refusal)) → first_of (row (not (is_name name)) refusal.BadName ∷ os) ≡ None → leb (length name) 48 ≡ true
+good-name : (name : List ℕ) (os : List (Option Refusal))
+    → first_of (row (not (is_name name)) refusal.BadName ∷ os) ≡ None → leb (length name) 48 ≡ true
 good-name name os e = name-short name (not-false (is_name name) (untested (not (is_name name)) refusal.BadName
     (none-first (row (not (is_name name)) refusal.BadName) os e).0))
 
@@ -71,7 +75,8 @@ slots-most W = go (eqb W.version 1)
     go false = omega arith
 
 above-most : (k m : ℕ) → leb m k ≡ false → m ≤ slot_limit → ltb k slot_limit ≡ true
-above-most k m e le = let lt : k < m = grind (arith, e) in let less : k < slot_limit = omega (arith, lt, le) in grind (arith, less)
+above-most k m e le = let lt : k < m = grind (arith, e) in let less : k < slot_limit = omega (arith, lt, le) in
+    grind (arith, less)
 
 at-most : (a n : ℕ) → ltb a n ≡ false → leb n a ≡ true
 at-most a n e = grind (arith, e)
@@ -91,7 +96,8 @@ rows-fit W V (step.Make d g name kind) c none claim =
     let b = claimed-inode W (next_stamp W) c (ltb 0 1) refl claim.inode in
     rw (a, b) refl
 rows-fit W V (step.Link d g name i of) c none claim = good-name name _ none
-rows-fit W V (step.Rename d g old new) c none claim = good-name new _ (none-first (row (not (is_name old)) refusal.BadName) _ none).1
+rows-fit W V (step.Rename d g old new) c none claim =
+    good-name new _ (none-first (row (not (is_name old)) refusal.BadName) _ none).1
 rows-fit W V (step.Look d g name) c none claim = refl
 rows-fit W V (step.Drop d g name) c none claim = refl
 rows-fit W V (step.List d g k) c none claim = refl
@@ -103,12 +109,15 @@ rows-fit W V (step.SeeInode i) c none claim = refl
 rows-fit W V (step.SeeBlock p) c none claim = refl
 
 -- a refusal that gives nothing
-silent : (r : Reply) (why : Refusal) → r ≡ reply.Refused why → is_write_fault (reply.Refused why) ≡ false → may_give r ≡ true → ⊥
-silent r why is sound gives = let e : may_give (reply.Refused why) ≡ true = sym (ap may_give is) ∙ gives in absurd (cc (sound, e))
+silent : (r : Reply) (why : Refusal) → r ≡ reply.Refused why
+    → is_write_fault (reply.Refused why) ≡ false → may_give r ≡ true → ⊥
+silent r why is sound gives = let e : may_give (reply.Refused why) ≡ true = sym (ap may_give is) ∙ gives in
+    absurd (cc (sound, e))
 
 next-fit : (W : World) (e : Entry1) (V : World) → Next W e V → may_give e.reply ≡ true → is_fit e.step e.claims ≡ true
 next-fit W e V (AfterFault s r c v) gives = absurd (silent e.reply refusal.Stopped r refl gives)
-next-fit W e V (ByRow why s row (inl r) c k t l) gives = absurd (silent e.reply why r (row-faultless W V e.step why row) gives)
+next-fit W e V (ByRow why s row (inl r) c k t l) gives =
+    absurd (silent e.reply why r (row-faultless W V e.step why row) gives)
 next-fit W e V (ByRow why s row (inr r) c k t l) gives = absurd (silent e.reply refusal.ReadFault r.0 refl gives)
 next-fit W e V (Done s row r c fs hs se vs l) gives = rows-fit W V e.step e.claims row c
 next-fit W e V (ByRead s row r c k t l) gives = absurd (silent e.reply refusal.ReadFault r refl gives)

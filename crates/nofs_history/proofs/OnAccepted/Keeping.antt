@@ -1,18 +1,21 @@
 -- Words on names and places say the same of files and of what is kept of them.
-use Rattle.std.proofs.Common.{◌≡◌, ℕ, zero, suc, ◌+◌, ◌*◌, ◌/◌, ◌<◌, Bool, true, false, ◌&&◌, ◌||◌, not, cond, eqb, ltb, List, [], ◌∷◌, Option, Some, None}
+use Rattle.std.proofs.Common.{◌≡◌, ℕ, zero, suc, ◌+◌, ◌*◌, ◌/◌, ◌<◌, Bool, true, false, ◌&&◌, ◌||◌, not, cond, eqb, ltb}
+use Rattle.std.proofs.Common.{List, [], ◌∷◌, Option, Some, None}
 use Rattle.std.proofs.Common.{is_some, option_map, refl, ap, ◌∙◌, arith, bytes_eq}
 use Rattle.std.specs.List.{list_any}
 use Rattle.nofs_dirent.specs.Entries.{entry_limit}
 use Rattle.nofs_ptrs.specs.Paths.{slot_limit}
 use Rattle.nofs_model.specs.Cells.{BackLink, Entry, is_empty_link}
-use Rattle.nofs_model.specs.Files.{FileState, Files, is_folder, entry_held, entry_in_file, entry_at, names, is_a, pairs, is_pair, links_in_file}
+use Rattle.nofs_model.specs.Files.{FileState, Files, is_folder, entry_held, entry_in_file, entry_at, names, is_a, pairs}
+use Rattle.nofs_model.specs.Files.{is_pair, links_in_file}
 use Rattle.nofs_model.specs.Files.{links_of}
 use Rattle.nofs_inode.specs.declared.inode.FileKind.TheVariants.{Directory as Folder}
 use Rattle.nofs_model.specs.declared.image.value.Value.{Value}
 use Rattle.nofs_model.specs.declared.image.value.Value.TheVariants.{Hole}
 use Rattle.nofs_history.specs.Meta.{is_bytes}
 use Rattle.nofs_history.specs.Search.{least_from, first_of}
-use Rattle.nofs_history.specs.Machine.{generation_of, value_of, size_of, same_link, link_to, is_paired, entry_has_name, found, first_dead, place_for}
+use Rattle.nofs_history.specs.Machine.{generation_of, value_of, size_of, same_link, link_to, is_paired, entry_has_name}
+use Rattle.nofs_history.specs.Machine.{found, first_dead, place_for}
 use Rattle.nofs_history.specs.Machine.{link_place, place_for_link, is_hole}
 use Rattle.nofs_history.specs.Accepted.Files.{kept_file, kept_files}
 
@@ -21,9 +24,11 @@ use Rattle.nofs_history.specs.Accepted.Files.{kept_file, kept_files}
 least-same : (p q : ℕ → Bool) (at n : ℕ) → ((e : ℕ) → e < at + n → p e ≡ q e) → least_from p at n ≡ least_from q at n
 unfolding least_from
 least-same p q at zero same = refl
-least-same p q at (suc n) same = λ j. cond (same at (omega arith) j) (Some at) (least-same p q (suc at) n (λ e lt. same e (omega (arith, lt))) j)
+least-same p q at (suc n) same =
+    λ j. cond (same at (omega arith) j) (Some at) (least-same p q (suc at) n (λ e lt. same e (omega (arith, lt))) j)
 
-first-same : {A : Type 0} → (a b c x y z : Option A) → a ≡ x → b ≡ y → c ≡ z → first_of (a ∷ b ∷ c ∷ []) ≡ first_of (x ∷ y ∷ z ∷ [])
+first-same : {A : Type 0} → (a b c x y z : Option A)
+    → a ≡ x → b ≡ y → c ≡ z → first_of (a ∷ b ∷ c ∷ []) ≡ first_of (x ∷ y ∷ z ∷ [])
 first-same a b c x y z p q r = λ j. first_of (p j ∷ q j ∷ r j ∷ [])
 
 -- One file
@@ -35,11 +40,13 @@ entry-kept : (o : Option FileState) (e : ℕ) → entry_in_file (kept_file o) e 
 entry-kept None e = refl
 entry-kept (Some f) e = go (is_folder f.kind) (ltb e entry_limit) refl
   where
-    go : (folder b : Bool) → ltb e entry_limit ≡ b → cond (folder && b) (entry_held (cond (ltb (e / 16) slot_limit) (f.values (e / 16)) Hole) e) None
+    go : (folder b : Bool) → ltb e entry_limit ≡ b
+        → cond (folder && b) (entry_held (cond (ltb (e / 16) slot_limit) (f.values (e / 16)) Hole) e) None
         ≡ cond (folder && b) (entry_held (f.values (e / 16)) e) None
     go false b eb = refl
     go true false eb = refl
-    go true true eb = let lt : e < entry_limit = grind (arith, eb) in let s = below (e / 16) (omega (arith, lt)) in rw s refl
+    go true true eb = let lt : e < entry_limit = grind (arith, eb) in
+        let s = below (e / 16) (omega (arith, lt)) in rw s refl
 
 is_a-kept : (o : Option FileState) (g : ℕ) → is_a Folder g (kept_file o) ≡ is_a Folder g o
 is_a-kept None g = refl
@@ -49,7 +56,8 @@ links-kept : (o : Option FileState) → links_in_file (kept_file o) ≡ links_in
 links-kept None = refl
 links-kept (Some f) = refl
 
-pairs-kept : (o d : Option FileState) (i : ℕ) (link : BackLink) → pairs (kept_file o) (kept_file d) i link ≡ pairs o d i link
+pairs-kept : (o d : Option FileState) (i : ℕ) (link : BackLink)
+    → pairs (kept_file o) (kept_file d) i link ≡ pairs o d i link
 pairs-kept None d i link = refl
 pairs-kept (Some f) d i link = λ j. is_a-kept d link.generation j && (names (entry-kept d link.entry j) i f.generation
     && (not (is_folder f.kind) || ltb link.generation f.generation))
@@ -108,11 +116,14 @@ is_paired-kept F d e = ap (paired (kept_files F)) (entry_at-kept F d e) ∙ go (
 
     go : (o : Option Entry) → paired (kept_files F) o ≡ paired F o
     go None = refl
-    go (Some entry) = λ j. list_any (λ link. same_link link (link_to d e (generation-kept F d j)) && is_pair-kept F entry.inode link j)
+    go (Some entry) = λ j.
+        list_any (λ link. same_link link (link_to d e (generation-kept F d j)) && is_pair-kept F entry.inode link j)
         (links_of-kept F entry.inode j)
 
-pub has_name-kept : (F : Files) (d : ℕ) (name : List ℕ) (e : ℕ) → entry_has_name (kept_files F) d name e ≡ entry_has_name F d name e
-has_name-kept F d name e = ap (λ (o : Option Entry). elim o [ None ↦ false | Some entry ↦ bytes_eq entry.name name ]) (entry_at-kept F d e)
+pub has_name-kept : (F : Files) (d : ℕ) (name : List ℕ) (e : ℕ)
+    → entry_has_name (kept_files F) d name e ≡ entry_has_name F d name e
+has_name-kept F d name e =
+    ap (λ (o : Option Entry). elim o [ None ↦ false | Some entry ↦ bytes_eq entry.name name ]) (entry_at-kept F d e)
 
 pub found-kept : (F : Files) (d : ℕ) (name : List ℕ) → found (kept_files F) d name ≡ found F d name
 unfolding found
@@ -122,9 +133,11 @@ pub dead-kept : (F : Files) (d : ℕ) (name : List ℕ) → first_dead (kept_fil
 unfolding first_dead
 dead-kept F d name = λ j. least_from (λ e. has_name-kept F d name e j && not (is_paired-kept F d e j)) 0 entry_limit
 
-empty-kept : (F : Files) (d e : ℕ) → e < entry_limit → (is_bytes (value_of (kept_files F) d (e / 16)) && not (is_some (entry_at (kept_files F) d e)))
+empty-kept : (F : Files) (d e : ℕ)
+    → e < entry_limit → (is_bytes (value_of (kept_files F) d (e / 16)) && not (is_some (entry_at (kept_files F) d e)))
     ≡ (is_bytes (value_of F d (e / 16)) && not (is_some (entry_at F d e)))
-empty-kept F d e lt = λ j. is_bytes (value-kept F d (e / 16) (omega (arith, lt)) j) && not (is_some (entry_at-kept F d e j))
+empty-kept F d e lt =
+    λ j. is_bytes (value-kept F d (e / 16) (omega (arith, lt)) j) && not (is_some (entry_at-kept F d e j))
 
 hole-kept : (F : Files) (d k : ℕ) → k < 72 → is_hole (value_of (kept_files F) d k) ≡ is_hole (value_of F d k)
 hole-kept F d k lt = ap is_hole (value-kept F d k (omega (arith, lt)))
@@ -133,15 +146,18 @@ pub place-kept : (F : Files) (d : ℕ) (name : List ℕ) → place_for (kept_fil
 unfolding place_for
 place-kept F d name = first-same
     (first_dead (kept_files F) d name)
-    (least_from (λ e. is_bytes (value_of (kept_files F) d (e / 16)) && not (is_some (entry_at (kept_files F) d e))) 0 entry_limit)
+    (least_from (λ e. is_bytes (value_of (kept_files F) d (e / 16))
+    && not (is_some (entry_at (kept_files F) d e))) 0 entry_limit)
     (option_map (λ k. 16 * k) (least_from (λ k. is_hole (value_of (kept_files F) d k)) 0 72))
     (first_dead F d name)
     (least_from (λ e. is_bytes (value_of F d (e / 16)) && not (is_some (entry_at F d e))) 0 entry_limit)
     (option_map (λ k. 16 * k) (least_from (λ k. is_hole (value_of F d k)) 0 72))
     (dead-kept F d name)
     (least-same (λ e. is_bytes (value_of (kept_files F) d (e / 16)) && not (is_some (entry_at (kept_files F) d e)))
-    (λ e. is_bytes (value_of F d (e / 16)) && not (is_some (entry_at F d e))) 0 entry_limit (λ e lt. empty-kept F d e (omega (arith, lt))))
-    (ap (option_map (λ k. 16 * k)) (least-same (λ k. is_hole (value_of (kept_files F) d k)) (λ k. is_hole (value_of F d k)) 0 72
+    (λ e. is_bytes (value_of F d (e / 16)) && not (is_some (entry_at F d e))) 0 entry_limit
+    (λ e lt. empty-kept F d e (omega (arith, lt))))
+    (ap (option_map (λ k. 16 * k))
+    (least-same (λ k. is_hole (value_of (kept_files F) d k)) (λ k. is_hole (value_of F d k)) 0 72
     (λ k lt. hole-kept F d k (omega (arith, lt)))))
 
 pub link_place-kept : (F : Files) (i : ℕ) → link_place (kept_files F) i ≡ link_place F i

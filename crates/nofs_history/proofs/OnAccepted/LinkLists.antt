@@ -1,5 +1,6 @@
 -- Searches among the back links of a file, one step at a time.
-use Rattle.std.proofs.Common.{◌≡◌, ℕ, zero, suc, ◌+◌, ◌<◌, ◌≤◌, Bool, true, false, ◌||◌, cond, List, [], ◌∷◌, length, drop, get_or, Some, None, slice_set}
+use Rattle.std.proofs.Common.{◌≡◌, ℕ, zero, suc, ◌+◌, ◌<◌, ◌≤◌, Bool, true, false, ◌||◌, cond, List, [], ◌∷◌, length}
+use Rattle.std.proofs.Common.{drop, get_or, Some, None, slice_set}
 use Rattle.std.proofs.Common.{refl, ap, ◌∙◌, arith}
 use Rattle.std.specs.List.{list_any}
 use Rattle.nofs_model.specs.Cells.{BackLink}
@@ -20,27 +21,34 @@ past (x ∷ xs) (suc at) le = past xs at (omega (arith, le))
 pub any_none : (p : BackLink → Bool) (xs : List BackLink) (at : ℕ) → length xs ≤ at → list_any p (drop at xs) ≡ false
 any_none p xs at le = let e = past xs at le in rw e refl
 
-pub any_here : (p : BackLink → Bool) (xs : List BackLink) (at : ℕ) (d : BackLink) → at < length xs → p (get_or xs at d) ≡ true → list_any p (drop at xs) ≡ true
+pub any_here : (p : BackLink → Bool) (xs : List BackLink) (at : ℕ) (d : BackLink) → at < length xs
+    → p (get_or xs at d) ≡ true → list_any p (drop at xs) ≡ true
 any_here p xs at d lt is = let e = rest xs at d lt in rw (e, is) refl
 
-pub any_next : (p : BackLink → Bool) (xs : List BackLink) (at : ℕ) (d : BackLink) → at < length xs → p (get_or xs at d) ≡ false
+pub any_next : (p : BackLink → Bool) (xs : List BackLink) (at : ℕ) (d : BackLink) → at < length xs
+    → p (get_or xs at d) ≡ false
     → list_any p (drop at xs) ≡ list_any p (drop (at + 1) xs)
-any_next p xs at d lt isnt = let e = rest xs at d lt in ap (list_any p) e ∙ ap (λ (b : Bool). b || list_any p (drop (at + 1) xs)) isnt
+any_next p xs at d lt isnt = let e = rest xs at d lt in
+    ap (list_any p) e ∙ ap (λ (b : Bool). b || list_any p (drop (at + 1) xs)) isnt
 
-pub place_none : (p : BackLink → Bool) (xs : List BackLink) (at : ℕ) → length xs ≤ at → place_for_link p (drop at xs) at ≡ None
+pub place_none : (p : BackLink → Bool) (xs : List BackLink) (at : ℕ)
+    → length xs ≤ at → place_for_link p (drop at xs) at ≡ None
 place_none p xs at le = let e = past xs at le in ap (λ (l : List BackLink). place_for_link p l at) e
 
-pub place_here : (p : BackLink → Bool) (xs : List BackLink) (at : ℕ) (d : BackLink) → at < length xs → p (get_or xs at d) ≡ true
+pub place_here : (p : BackLink → Bool) (xs : List BackLink) (at : ℕ) (d : BackLink) → at < length xs
+    → p (get_or xs at d) ≡ true
     → place_for_link p (drop at xs) at ≡ Some at
 place_here p xs at d lt is = let e = rest xs at d lt in ap (λ (l : List BackLink). place_for_link p l at) e
     ∙ ap (λ (b : Bool). cond b (Some at) (place_for_link p (drop (at + 1) xs) (suc at))) is
 
-pub place_next : (p : BackLink → Bool) (xs : List BackLink) (at : ℕ) (d : BackLink) → at < length xs → p (get_or xs at d) ≡ false
+pub place_next : (p : BackLink → Bool) (xs : List BackLink) (at : ℕ) (d : BackLink) → at < length xs
+    → p (get_or xs at d) ≡ false
     → place_for_link p (drop at xs) at ≡ place_for_link p (drop (at + 1) xs) (at + 1)
 place_next p xs at d lt isnt =
     let e = rest xs at d lt in
     let n : suc at ≡ at + 1 = omega arith in
-    ap (λ (l : List BackLink). place_for_link p l at) e ∙ ap (λ (b : Bool). cond b (Some at) (place_for_link p (drop (at + 1) xs) (suc at))) isnt
+    ap (λ (l : List BackLink). place_for_link p l at) e
+    ∙ ap (λ (b : Bool). cond b (Some at) (place_for_link p (drop (at + 1) xs) (suc at))) isnt
     ∙ ap (λ (m : ℕ). place_for_link p (drop (at + 1) xs) m) n
 
 -- a link that is set

@@ -1,5 +1,6 @@
 -- Files that stand whole in memory, as files of the machine, and how they change.
-use Rattle.std.specs.Prelude.{ℕ, true, ◌+◌, ◌-◌, ◌%◌, min, ◌&&◌, not, nat_le, ◌++◌, take, unwrap_or, ◌==◌, List, Bool, false, Option}
+use Rattle.std.specs.Prelude.{ℕ, true, ◌+◌, ◌-◌, ◌%◌, min, ◌&&◌, not, nat_le, ◌++◌, take, unwrap_or, ◌==◌, List, Bool}
+use Rattle.std.specs.Prelude.{false, Option}
 use Rattle.std.specs.Prelude.{Some, None, if◌then◌else◌, nat_lt, slice_get}
 use Rattle.nofs_ptrs.specs.Paths.{slot_limit}
 use Rattle.nofs_model.specs.Files.{Absent, FileState, Files}
@@ -87,8 +88,10 @@ resized_value old size v k =
 
 -- a file of another size
 abbrev pub resized_file : FileState → ℕ → FileState
-resized_file f size = record f { size = size; values = λ k. unwrap_or (resized_value f.size size (f.values k) k) (f.values k) }
+resized_file f size =
+    record f { size = size; values = λ k. unwrap_or (resized_value f.size size (f.values k) k) (f.values k) }
 
 -- the value of slot k with zeros behind the old end, where a file of m slots does not shrink
 abbrev pub end_value : ℕ → ℕ → ℕ → ℕ → Value → Value
-end_value old size m k v = if nat_le old size && ((k + 1 == m) && not (old % 1024 == 0)) then trimmed_value (old % 1024) v else v
+end_value old size m k v = if nat_le old size && ((k + 1 == m) && not (old % 1024 == 0))
+    then trimmed_value (old % 1024) v else v

@@ -5,7 +5,8 @@ use Rattle.nofs_model.specs.Files.{Files}
 use Rattle.nofs_model.specs.declared.image.value.Value.{Value}
 use Rattle.nofs_model.specs.declared.image.value.Value.TheVariants.{Hole, Bytes}
 use Rattle.nofs_history.specs.Meta.{Meta, Gone, Is}
-use Rattle.nofs_history.specs.Machine.{Given, nothing, is_at, cell_given, meta_given, no_meta, resize_given, link_to, at_place, place_for, link_place}
+use Rattle.nofs_history.specs.Machine.{Given, nothing, is_at, cell_given, meta_given, no_meta, resize_given, link_to}
+use Rattle.nofs_history.specs.Machine.{at_place, place_for, link_place}
 use Rattle.nofs_history.specs.Machine.{found, make_given, link_given, drop_given, rename_given}
 use Rattle.nofs_history.specs.History.{values_given}
 use Rattle.nofs_history.specs.declared.machine.history.Claims.{Claims}
@@ -42,7 +43,8 @@ with_birth base it = record {
   slots = λ j h k. if is_at it.inode it.generation j h then Some Hole else base.slots j h k;
   nodes = base.nodes;
   metas = λ j h. if j == it.inode
-      then Some (if h == it.generation then Is it.kind 0 (it.link ∷ link_to 0 0 0 ∷ link_to 0 0 0 ∷ link_to 0 0 0 ∷ []) else Gone)
+      then Some
+      (if h == it.generation then Is it.kind 0 (it.link ∷ link_to 0 0 0 ∷ link_to 0 0 0 ∷ link_to 0 0 0 ∷ []) else Gone)
       else None;
 }
 
@@ -70,7 +72,8 @@ is_sound _ = true
 -- what a step on the names of a directory gives, nothing by another
 abbrev pub name_gives : Files → Step → Claims → Given
 name_gives F (step.Make d g name kind) claims = at_place (place_for F d name) (λ e. make_given F d g name kind claims e)
-name_gives F (step.Link d g name i of) claims = at_place (place_for F d name) (λ e. at_place (link_place F i) (λ b. link_given F d g name i of e b))
+name_gives F (step.Link d g name i of) claims =
+    at_place (place_for F d name) (λ e. at_place (link_place F i) (λ b. link_given F d g name i of e b))
 name_gives F (step.Drop d g name) claims = at_place (found F d name) (λ e. drop_given F d g e)
 name_gives F (step.Rename d g old new) claims = at_place (found F d old) (λ e. rename_given F d g new e)
 name_gives F _ claims = nothing

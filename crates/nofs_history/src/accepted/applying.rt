@@ -65,7 +65,8 @@ fn take_cell(files: &mut FilesNow, given: GivenCell) -> Result<(), AllocError>
 
 /// Gives a file another size.
 fn resize(files: &mut FilesNow, inode: u32, generation: u64, size: u64) -> Result<(), AllocError>
-    ensures { OnOk result (HasTaken files.old files.new (machine.resize_given (kept_files_of files.old) inode generation size)) }
+    ensures { OnOk result
+        (HasTaken files.old files.new (machine.resize_given (kept_files_of files.old) inode generation size)) }
 {
     match files.take(inode, generation) {
         None => Ok(()),
@@ -78,7 +79,8 @@ fn resize(files: &mut FilesNow, inode: u32, generation: u64, size: u64) -> Resul
 
 /// Makes of an inode what it becomes.
 fn take_meta(files: &mut FilesNow, given: GivenMeta) -> Result<(), AllocError>
-    ensures { OnOk result (HasTaken files.old files.new (metas_alone (machine.meta_given given.inode given.generation (meta_now given.meta)))) }
+    ensures { OnOk result (HasTaken files.old files.new
+        (metas_alone (machine.meta_given given.inode given.generation (meta_now given.meta)))) }
 {
     match files.take(given.inode, given.generation) {
         None => Ok(()),
@@ -157,7 +159,8 @@ pub(crate) fn do_entry(
     files: &mut FilesNow,
     entry: &Entry1,
 ) -> Result<(), AllocError>
-    ensures { OnOk result (IsFit entry.now → kept_files (kept_files_of files.new) ≡ kept_files (machine.files_by (kept_files_of files.old) entry.now)) }
+    ensures { OnOk result (IsFit entry.now
+        → kept_files (kept_files_of files.new) ≡ kept_files (machine.files_by (kept_files_of files.old) entry.now)) }
 {
     if !is_refused(&entry.reply) && is_fit(&entry.step, &entry.claims) {
         let given = step_given(alloc, files, &entry.step, &entry.claims)?;

@@ -124,7 +124,8 @@ fn live_file(
 // A directory has no top.
 fn slot_count(it: &Record) -> u64
     ensures within { result ≤ slot_limit }
-    ensures holes { (X : image.Image) (i k : ℕ) → image.inode X i ≡ it.now → result ≤ k → k < slot_limit → slots.value X i k ≡ value.Hole }
+    ensures holes { (X : image.Image) (i k : ℕ)
+        → image.inode X i ≡ it.now → result ≤ k → k < slot_limit → slots.value X i k ≡ value.Hole }
 {
     if !it.top.is_null() {
         SLOT_LIMIT

@@ -1,5 +1,6 @@
 //! The list of values that were accepted for one slot.
-ghost use Rattle.std.specs.Prelude.{◌≡◌, ℕ, ◌<◌, ◌++◌, ◌∷◌, [], ◌+◌, length, drop, IfOk, OnOk, option_to_list, if◌then◌else◌};
+ghost use Rattle.std.specs.Prelude.{◌≡◌, ℕ, ◌<◌, ◌++◌, ◌∷◌, [], ◌+◌, length, drop, IfOk, OnOk, option_to_list};
+ghost use Rattle.std.specs.Prelude.{if◌then◌else◌};
 ghost use Rattle.nofs_ptrs.specs.Paths.{slot_limit};
 ghost use Rattle.nofs_model.specs.Geometry as image;
 ghost use Rattle.nofs_model.specs.Slots as slots;
@@ -33,7 +34,8 @@ pub fn accepted_of(
     generation: u64,
     slot: u64,
 ) -> Result<Vec<Value>, AllocError>
-    ensures { IfOk result (λ values. image.IsMountable base.now → slot < slot_limit → (first : ℕ) (V : World) → IsAfter base.now first history.now V
+    ensures { IfOk result (λ values. image.IsMountable base.now
+        → slot < slot_limit → (first : ℕ) (V : World) → IsAfter base.now first history.now V
         → values.items ≡ accepted_of base.now history.now.entries inode generation slot) }
 {
     if slot >= SLOT_LIMIT || !is_mountable(base) {
@@ -75,7 +77,8 @@ fn note_base(
     requires image { image.IsMountable base.now }
     requires slot { wanted.now.slot < slot_limit }
     ensures { OnOk result (values.new.items ≡ values.old.items
-        ++ (if is_generation base.now wanted.now.inode wanted.now.generation then slots.value base.now wanted.now.inode wanted.now.slot ∷ [] else [])) }
+        ++ (if is_generation base.now wanted.now.inode wanted.now.generation
+        then slots.value base.now wanted.now.inode wanted.now.slot ∷ [] else [])) }
 {
     note_sizes(base);
     if is_generation(base, wanted.inode, wanted.generation) {
@@ -94,8 +97,10 @@ fn note_entry(
 ) -> Result<(), AllocError>
     requires { wanted.now.slot < slot_limit }
     ensures values { OnOk result (IsFit entry.now → values.new.items
-        ≡ values.old.items ++ option_to_list (value_for (machine.given_by (kept_files_of files.old) entry.now) wanted.now)) }
-    ensures files { OnOk result (IsFit entry.now → kept_files (kept_files_of files.new) ≡ kept_files (machine.files_by (kept_files_of files.old) entry.now)) }
+        ≡ values.old.items
+        ++ option_to_list (value_for (machine.given_by (kept_files_of files.old) entry.now) wanted.now)) }
+    ensures files { OnOk result (IsFit entry.now
+        → kept_files (kept_files_of files.new) ≡ kept_files (machine.files_by (kept_files_of files.old) entry.now)) }
 {
     if let Some(value) = value_by_entry(alloc, files, wanted, entry)? {
         values.push(value)?;

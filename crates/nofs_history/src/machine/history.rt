@@ -66,7 +66,8 @@ impl Model for History {
 
     ghost view = { λ h. record { start = h.start; entries = h.entries.items; spare = h.spare } };
 
-    ghost invariant = { λ h. (vec_len h.entries + h.spare ≤ vec_capacity h.entries) × (vec_len h.entries + h.spare < 2 ^ 62) };
+    ghost invariant = { λ h. (vec_len h.entries + h.spare ≤ vec_capacity h.entries)
+        × (vec_len h.entries + h.spare < 2 ^ 62) };
 }
 
 impl History {
@@ -111,7 +112,8 @@ impl History {
     /// Adds an entry at the end. It takes no memory.
     pub fn push(&mut self, it: Entry1)
         requires { 0 < self.old.spare }
-        ensures { self.new ≡ record { start = self.old.start; entries = self.old.entries ++ it ∷ []; spare = self.old.spare - 1 } }
+        ensures { self.new
+            ≡ record { start = self.old.start; entries = self.old.entries ++ it ∷ []; spare = self.old.spare - 1 } }
     {
         self.spare -= 1;
         match self.entries.push(it) {

@@ -23,17 +23,27 @@ Holds start base cells calls spare faults capacity = record {
   sized : AreSized (length base) (held_after base calls).may;
 }
 
-module _ (old : MemDisk) {calls : List Call} {cells : List Cell} {faults capacity : ℕ} (some : 1 ≤ old.spare) (more : vec_capacity old.calls ≤ capacity)
+module _ (old : MemDisk) {calls : List Call} {cells : List Cell} {faults capacity : ℕ} (some : 1 ≤ old.spare)
+    (more : vec_capacity old.calls ≤ capacity)
     (counted : faults < 2 ^ 64)
   where
-    keep_holds : (call : Call) → calls ≡ old.calls.items ++ call ∷ [] → cells ≡ (held_after old.base.items (old.calls.items ++ call ∷ [])).now
-        → length cells ≡ length old.base.items → AreSized (length old.base.items) (held_after old.base.items (old.calls.items ++ call ∷ [])).may
+    keep_holds : (call : Call)
+        → calls ≡ old.calls.items ++ call ∷ [] → cells ≡ (held_after old.base.items (old.calls.items ++ call ∷ [])).now
+        → length cells ≡ length old.base.items
+        → AreSized (length old.base.items) (held_after old.base.items (old.calls.items ++ call ∷ [])).may
         → Holds old.start old.base.items cells calls (old.spare - 1) faults capacity
     keep_holds call kept present whole sized =
         let len = length_push old.calls.items call in
         let room = old.room in
         let had = old.kept in
-        rw kept (record { present = present; whole = whole; room = omega arith; counted = counted; kept = omega arith; sized = sized })
+        rw kept (record {
+          present = present;
+          whole = whole;
+          room = omega arith;
+          counted = counted;
+          kept = omega arith;
+          sized = sized;
+        })
 
     pub write_holds : (block : ℕ) (cell : Cell) (taken : Bool) → calls ≡ old.calls.items ++ Write block cell taken ∷ []
         → cells ≡ put_if taken old.cells.items block cell → IsSizedCell cell
@@ -45,5 +55,6 @@ module _ (old : MemDisk) {calls : List Call} {cells : List Cell} {faults capacit
 
     pub flush_holds : (settles : Bool) → calls ≡ old.calls.items ++ Flush settles ∷ [] → cells ≡ old.cells.items
         → Holds old.start old.base.items cells calls (old.spare - 1) faults capacity
-    flush_holds settles kept same = keep_holds (Flush settles) kept (same ∙ flush_present old.base.items old.cells.items old.calls.items settles old.present)
+    flush_holds settles kept same = keep_holds (Flush settles) kept
+        (same ∙ flush_present old.base.items old.cells.items old.calls.items settles old.present)
         (ap length same ∙ old.whole) (sized_flush old.base.items old.calls.items settles old.sized)

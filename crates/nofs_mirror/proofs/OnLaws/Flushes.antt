@@ -1,5 +1,6 @@
 -- A flush of a mirror meets the promises of a disk.
-use Rattle.std.proofs.Common.{◌≡◌, ℕ, ◌+◌, ◌^◌, ◌<◌, Bool, true, false, List, ◌∷◌, take, cond, arith, refl, sym, ap, subst, ◌∙◌, Result}
+use Rattle.std.proofs.Common.{◌≡◌, ℕ, ◌+◌, ◌^◌, ◌<◌, Bool, true, false, List, ◌∷◌, take, cond, arith, refl, sym, ap}
+use Rattle.std.proofs.Common.{subst, ◌∙◌, Result}
 use Rattle.std.specs.Prelude.{Contains, IsFalse, IsTrue, if◌then◌else◌, is_ok}
 use Rattle.std.proofs.Math.Logic.{∥∥₁_elim, ∥∥₁_prop}
 use Rattle.std.proofs.lemmas.Bool.{and_parts}
@@ -28,7 +29,8 @@ use Rattle.nofs_mirror.proofs.OnMirror.Flushes.{settled_back, side_leaves}
 use Rattle.nofs_mirror.proofs.OnMirror.Past.{past_moves, told_same, was_now}
 
 -- a flush asks the sides
-pub record CalledFlush (lead lead_new other other_new first : DiskState) (opening : MirrorStart) (past : List MirrorCall) (spare : ℕ)
+pub record CalledFlush (lead lead_new other other_new first : DiskState) (opening : MirrorStart)
+    (past : List MirrorCall) (spare : ℕ)
     (a o : SideCall) : Type 0 where
   pub called : Called lead lead_new other other_new first opening past spare a o
   pub lead_flushes : SideFlushes lead lead_new a.answer
@@ -40,7 +42,8 @@ told_when false false xs ys same e = refl
 told_when true false xs ys same e = cc
 told_when false true xs ys same e = cc
 
-module _ {lead lead_new other other_new first : DiskState} {opening : MirrorStart} {past : List MirrorCall} {s : ℕ} {a o : SideCall}
+module _ {lead lead_new other other_new first : DiskState} {opening : MirrorStart} {past : List MirrorCall} {s : ℕ}
+    {a o : SideCall}
     (w : CalledFlush lead lead_new other other_new first opening past s a o) where
   -- the call, the cells of a side that flushed, and those that may be held, as the sides tell of them
   abbrev call : MirrorCall
@@ -53,9 +56,11 @@ module _ {lead lead_new other other_new first : DiskState} {opening : MirrorStar
   may_now = may_of lead_new other_new first opening past
 
   -- where some side flushed, these are the cells of a side that stays in
-  was_flushed : any_done a.answer o.answer ≡ true → seen ≡ cond (lead_stays a.answer o.answer) lead_new.now other_new.now
+  was_flushed : any_done a.answer o.answer ≡ true
+      → seen ≡ cond (lead_stays a.answer o.answer) lead_new.now other_new.now
   was_flushed done =
-      flushed_now a.answer o.answer lead lead_new other other_new a.ended o.ended done w.called.on_lead.ended w.called.on_other.ended w.lead_flushes
+      flushed_now a.answer o.answer lead lead_new other other_new a.ended o.ended done w.called.on_lead.ended
+      w.called.on_other.ended w.lead_flushes
       w.other_flushes
 
   -- the sides of a mirror that tells
@@ -78,32 +83,42 @@ module _ {lead lead_new other other_new first : DiskState} {opening : MirrorStar
 
   pub flush_kept : ∥ MirrorKeeps lead_new other_new first opening (call ∷ past) ∥₁
   flush_kept = ∥∥₁_elim (asked_kept w.called) ∥∥₁_prop (λ k. ∣ (λ t.
-      flush_mirrored a.answer o.answer opening.blocks may_now seen lead lead_new other other_new (flushed_sides t (k t))) ∣₁)
+      flush_mirrored a.answer o.answer opening.blocks may_now seen lead lead_new other other_new
+      (flushed_sides t (k t))) ∣₁)
 
   pub mirror_flushes : (t e f : ℕ) (result : Result (Unit {0}) Failed)
-      → t + 1 ≡ s → e < 2 ^ 64 → is_ok result ≡ any_done a.answer o.answer → f ≡ counted_if (any_done a.answer o.answer) e
-      → Flushes (mirror_state lead other first opening past s e) (mirror_state lead_new other_new first opening (call ∷ past) t f) result
+      → t + 1 ≡ s → e < 2 ^ 64 → is_ok result ≡ any_done a.answer o.answer
+      → f ≡ counted_if (any_done a.answer o.answer) e
+      → Flushes (mirror_state lead other first opening past s e)
+      (mirror_state lead_new other_new first opening (call ∷ past) t f) result
   mirror_flushes t e f result room low is count = record {
-    disk = mirror_disk lead lead_new other other_new first opening past (call ∷ past) s t e f _ (called_goes w.called) low count;
-    past = past_moves lead lead_new other other_new first opening past call s t e f (called_goes w.called) w.called.on_lead.began w.called.on_other.began;
+    disk = mirror_disk lead lead_new other other_new first opening past (call ∷ past) s t e f _
+        (called_goes w.called) low count;
+    past = past_moves lead lead_new other other_new first opening past call s t e f
+        (called_goes w.called) w.called.on_lead.began w.called.on_other.began;
     moment = omega arith;
     spare = room;
     now = told_when (both_tell lead other) (both_tell lead_new other_new) now now_new tells now_same;
     may = λ b c inside has.
         let two = told-has (both_tell lead_new other_new) (may_new b) c has in
-        told_put (both_tell lead other) (may b) c (sym tells ∙ two.0) (back two.0 (any_done a.answer o.answer) refl b c two.1);
+        told_put (both_tell lead other) (may b) c (sym tells ∙ two.0)
+        (back two.0 (any_done a.answer o.answer) refl b c two.1);
     settled = on_ok result _ (λ done b c inside has. settles (sym is ∙ done) b c inside has);
-    was = on_ok result _ (λ done. told_when (both_tell lead other) (both_tell lead_new other_new) now _ tells (λ if_told.
-        was_now lead_new.was other_new.was opening.blocks past call ∙ ap (take opening.blocks) (was_flushed (sym is ∙ done)) ∙ now_same if_told));
+    was = on_ok result _
+        (λ done. told_when (both_tell lead other) (both_tell lead_new other_new) now _ tells (λ if_told.
+        was_now lead_new.was other_new.was opening.blocks past call
+        ∙ ap (take opening.blocks) (was_flushed (sym is ∙ done)) ∙ now_same if_told));
     clean = on_ok result _ (λ done. refl);
     err = on_err result _ (λ failed i b. nothing (sym is ∙ failed) b i);
     dirty = λ b has. has;
     during = λ image left. told-Picks (both_tell lead other) may opening.blocks image (sym tells ∙ left.0)
         (to_old image (Picks-known may_now opening.blocks image
         (∥∥₁_elim (asked_kept w.called) ∥∥₁_prop (λ k. ∣ called_during w.called (flush_effect a.answer o.answer) may_now
-        (λ asked. side_leaves a.answer opening.blocks may_now lead lead_new asked w.called.on_lead.is w.called.on_lead.new_is w.called.on_lead.held.fits
+        (λ asked. side_leaves a.answer opening.blocks may_now lead lead_new asked w.called.on_lead.is
+        w.called.on_lead.new_is w.called.on_lead.held.fits
         w.lead_flushes ((k left.0).lead asked).covers)
-        (λ asked. side_leaves o.answer opening.blocks may_now other other_new asked w.called.on_other.is w.called.on_other.new_is w.called.on_other.held.fits
+        (λ asked. side_leaves o.answer opening.blocks may_now other other_new asked w.called.on_other.is
+        w.called.on_other.new_is w.called.on_other.held.fits
         w.other_flushes ((k left.0).other asked).covers)
         image left.1 ∣₁))));
     cause = mirror_cause result (any_done a.answer o.answer) e f is count;
@@ -129,34 +144,44 @@ module _ {lead lead_new other other_new first : DiskState} {opening : MirrorStar
       now_same if_told =
           let F : Bool → Type 0 = λ y. now_new ≡ now_of y opening.blocks lead.now other.now in
           subst F w.called.on_lead.asked
-          (mirror_now a.answer o.answer opening.blocks lead lead_new other other_new w.lead_flushes w.other_flushes (asked_now w.called if_told))
+          (mirror_now a.answer o.answer opening.blocks lead lead_new other other_new w.lead_flushes w.other_flushes
+          (asked_now w.called if_told))
 
       old_has : (b : ℕ) (c : Cell) → Contains (may_now b) c → Contains (may b) c
       old_has b c has = let F : List Cell → Type 0 = λ l. Contains l c in subst F (called_may w.called b) has
 
       back : IsTrue (both_tell lead_new other_new) → (d : Bool) → any_done a.answer o.answer ≡ d → (b : ℕ) (c : Cell)
           → Contains (may_step opening.blocks seen may_now (if d then Settle else Nothing) b) c → Contains (may b) c
-      back if_told true done b c has = old_has b c (Contains-known (may_now b) c (∥∥₁_elim (asked_kept w.called) ∥∥₁_prop (λ k.
-          ∣ settled_back a.answer o.answer opening.blocks may_now seen lead lead_new other other_new (flushed_sides if_told (k if_told)) done b c has ∣₁)))
+      back if_told true done b c has =
+          old_has b c (Contains-known (may_now b) c (∥∥₁_elim (asked_kept w.called) ∥∥₁_prop (λ k.
+          ∣ settled_back a.answer o.answer opening.blocks may_now seen lead lead_new other other_new
+          (flushed_sides if_told (k if_told)) done b c has ∣₁)))
       back if_told false done b c has = old_has b c has
 
       settles : any_done a.answer o.answer ≡ true → (b : ℕ) (c : Cell) → b < opening.blocks
-          → Contains (if_told (both_tell lead_new other_new) (may_new b)) c → c ≡ cell_at (if_told (both_tell lead_new other_new) now_new) b
+          → Contains (if_told (both_tell lead_new other_new) (may_new b)) c
+          → c ≡ cell_at (if_told (both_tell lead_new other_new) now_new) b
       settles done b c inside has =
           let two = told-has (both_tell lead_new other_new) (may_new b) c has in
-          let F : Bool → Type 0 = λ d. Contains (may_step opening.blocks seen may_now (if d then Settle else Nothing) b) c in
+          let F : Bool → Type 0 =
+          λ d. Contains (may_step opening.blocks seen may_now (if d then Settle else Nothing) b) c in
           let one = below_in opening.blocks b seen c (subst F done two.1) in
           one.1 ∙ sym (get_or-take opening.blocks seen b no_cell inside)
-          ∙ ap (λ l. cell_at l b) (ap (take opening.blocks) (was_flushed done) ∙ sym (told-is (both_tell lead_new other_new) now_new two.0))
+          ∙ ap (λ l. cell_at l b)
+          (ap (take opening.blocks) (was_flushed done) ∙ sym (told-is (both_tell lead_new other_new) now_new two.0))
 
-      nothing : any_done a.answer o.answer ≡ false → (b : ℕ) → if_told (both_tell lead_new other_new) (may_new b) ≡ if_told (both_tell lead other) (may b)
+      nothing : any_done a.answer o.answer ≡ false → (b : ℕ)
+          → if_told (both_tell lead_new other_new) (may_new b) ≡ if_told (both_tell lead other) (may b)
       nothing failed b =
           let F : Bool → Type 0 = λ d. if_told (both_tell lead_new other_new)
-          (may_step opening.blocks seen may_now (if d then Settle else Nothing) b) ≡ if_told (both_tell lead other) (may b) in
-          subst F (sym failed) (told_same (both_tell lead other) (both_tell lead_new other_new) (may b) (may_now b) tells (called_may w.called b))
+          (may_step opening.blocks seen may_now (if d then Settle else Nothing) b)
+          ≡ if_told (both_tell lead other) (may b) in
+          subst F (sym failed) (told_same (both_tell lead other) (both_tell lead_new other_new) (may b)
+          (may_now b) tells (called_may w.called b))
 
       to_old : (image : List Cell) → Picks may_now opening.blocks image → Picks may opening.blocks image
-      to_old image picks = record { len = picks.len; each = λ b inside. old_has b (cell_at image b) (picks.each b inside) }
+      to_old image picks =
+          record { len = picks.len; each = λ b inside. old_has b (cell_at image b) (picks.each b inside) }
 
 -- what the contract of a flush of a side says
 abbrev pub FlushesSide : {D : Type 0} → Ghosts D → Bool → D → D → SideCall → Type 0
@@ -168,10 +193,12 @@ FlushesSide δ is_in old new call = record {
   untouched : IsFalse is_in → new ≡ old;
 }
 
-pub flushes_sides : {A B : Type 0} {α : Ghosts A} {β : Ghosts B} (old : Mirror A B α β) {lead : A} {other : B} {a o : SideCall}
+pub flushes_sides : {A B : Type 0} {α : Ghosts A} {β : Ghosts B}
+    (old : Mirror A B α β) {lead : A} {other : B} {a o : SideCall}
     → ((d : A) → IsDisk (α.state d)) → ((d : B) → IsDisk (β.state d))
     → FlushesSide α old.log.sides.lead_in old.lead lead a → FlushesSide β old.log.sides.other_in old.other other o
-    → CalledFlush (α.state old.lead) (α.state lead) (β.state old.other) (β.state other) (α.state old.first.value) old.opening
+    → CalledFlush (α.state old.lead) (α.state lead) (β.state old.other) (β.state other)
+    (α.state old.first.value) old.opening
     (mirror_calls old.log.past.value) old.log.spare a o
 flushes_sides old {lead} {other} {a} {o} lead_is other_is f h = record {
   called = calls_sides old lead_is other_is (flush_goes a.answer _ _ f.flushes)

@@ -1,5 +1,6 @@
 -- A write of a mirror meets the promises of a disk.
-use Rattle.std.proofs.Common.{◌≡◌, ◌⊎◌, ℕ, ◌+◌, ◌^◌, ◌<◌, Bool, true, false, List, ◌∷◌, set, arith, inl, inr, sym, subst, ◌∙◌, Result}
+use Rattle.std.proofs.Common.{◌≡◌, ◌⊎◌, ℕ, ◌+◌, ◌^◌, ◌<◌, Bool, true, false, List, ◌∷◌, set, arith, inl, inr, sym}
+use Rattle.std.proofs.Common.{subst, ◌∙◌, Result}
 use Rattle.std.specs.Prelude.{Contains, IsFalse, IsTrue, is_ok}
 use Rattle.std.proofs.Math.Logic.{∥∥₁_elim, ∥∥₁_prop}
 use Rattle.std.proofs.lemmas.Bool.{false≢true}
@@ -27,7 +28,8 @@ use Rattle.nofs_mirror.proofs.OnMirror.Writes.{side_leaves, write_err, write_mir
 use Rattle.nofs_mirror.proofs.OnMirror.Writes.{written_cases, written_other}
 
 -- a write asks the sides
-pub record CalledWrite (lead lead_new other other_new first : DiskState) (opening : MirrorStart) (past : List MirrorCall) (spare : ℕ) (a o : SideCall) (b : ℕ)
+pub record CalledWrite (lead lead_new other other_new first : DiskState) (opening : MirrorStart)
+    (past : List MirrorCall) (spare : ℕ) (a o : SideCall) (b : ℕ)
     (snap : Snapshot Cell) : Type 0 where
   pub called : Called lead lead_new other other_new first opening past spare a o
   pub inside : b < opening.blocks
@@ -35,9 +37,11 @@ pub record CalledWrite (lead lead_new other other_new first : DiskState) (openin
   pub lead_writes : SideWrites lead lead_new b snap.value a.answer
   pub other_writes : SideWrites other other_new b snap.value o.answer
 
-module _ {lead lead_new other other_new first : DiskState} {opening : MirrorStart} {past : List MirrorCall} {s : ℕ} {a o : SideCall} {b : ℕ}
+module _ {lead lead_new other other_new first : DiskState} {opening : MirrorStart} {past : List MirrorCall} {s : ℕ}
+    {a o : SideCall} {b : ℕ}
     {snap : Snapshot Cell} (w : CalledWrite lead lead_new other other_new first opening past s a o b snap) where
-  -- the call, the cells of a side at its end, and those that may be held before it and after it, as the sides tell of them then
+  -- the call, the cells of a side at its end, and those that may be held before it and after it, as the sides tell of
+  -- them then
   abbrev call : MirrorCall
   call = answered_call (Write b snap) a o
 
@@ -56,22 +60,31 @@ module _ {lead lead_new other other_new first : DiskState} {opening : MirrorStar
       w.inside w.sized w.lead_writes w.other_writes (k t)) ∣₁)
 
   pub mirror_writes : (t e f : ℕ) (result : Result (Unit {0}) Failed)
-      → t + 1 ≡ s → e < 2 ^ 64 → is_ok result ≡ any_done a.answer o.answer → f ≡ counted_if (any_done a.answer o.answer) e
-      → Writes (mirror_state lead other first opening past s e) (mirror_state lead_new other_new first opening (call ∷ past) t f) b snap.value result
+      → t + 1 ≡ s → e < 2 ^ 64 → is_ok result ≡ any_done a.answer o.answer
+      → f ≡ counted_if (any_done a.answer o.answer) e
+      → Writes (mirror_state lead other first opening past s e)
+      (mirror_state lead_new other_new first opening (call ∷ past) t f) b snap.value result
   mirror_writes t e f result room low is count = record {
-    disk = mirror_disk lead lead_new other other_new first opening past (call ∷ past) s t e f _ (called_goes w.called) low count;
-    past = past_moves lead lead_new other other_new first opening past call s t e f (called_goes w.called) w.called.on_lead.began w.called.on_other.began;
+    disk = mirror_disk lead lead_new other other_new first opening past (call ∷ past) s t e f _
+        (called_goes w.called) low count;
+    past = past_moves lead lead_new other other_new first opening past call s t e f
+        (called_goes w.called) w.called.on_lead.began w.called.on_other.began;
     moment = omega arith;
     spare = room;
     ok = on_ok result _ (λ done. told_set _ _ now now_new b snap.value tells (λ if_told. ok if_told (sym is ∙ done)));
     err = on_err result _ (λ done. told_either _ _ now now_new b snap.value tells (err (sym is ∙ done)));
-    may = λ c has. told_goes (both_tell lead other) (both_tell lead_new other_new) (may b) (may_new b) c (c ≡ snap.value) tells (may_goes c) has;
-    others = λ k apart. told_same _ _ (may k) (may_new k) tells (written_other opening.blocks seen may_now b k snap apart ∙ called_may w.called k);
-    during = λ image left. told-Picks (both_tell lead_new other_new) may_new opening.blocks image left.0 (Picks-known may_new opening.blocks image
+    may = λ c has. told_goes (both_tell lead other) (both_tell lead_new other_new) (may b) (may_new b) c
+        (c ≡ snap.value) tells (may_goes c) has;
+    others = λ k apart. told_same _ _ (may k) (may_new k) tells
+        (written_other opening.blocks seen may_now b k snap apart ∙ called_may w.called k);
+    during = λ image left. told-Picks (both_tell lead_new other_new) may_new opening.blocks image left.0
+        (Picks-known may_new opening.blocks image
         (∥∥₁_elim (asked_kept w.called) ∥∥₁_prop (λ k. ∣ called_during w.called (Write b snap) may_new
-        (λ asked. side_leaves a.answer opening.blocks seen may_now lead lead_new b snap asked w.called.on_lead.is w.called.on_lead.new_is
+        (λ asked. side_leaves a.answer opening.blocks seen may_now lead lead_new b snap asked w.called.on_lead.is
+        w.called.on_lead.new_is
         w.called.on_lead.held.fits w.lead_writes ((k left.0).lead asked).covers)
-        (λ asked. side_leaves o.answer opening.blocks seen may_now other other_new b snap asked w.called.on_other.is w.called.on_other.new_is
+        (λ asked. side_leaves o.answer opening.blocks seen may_now other other_new b snap asked w.called.on_other.is
+        w.called.on_other.new_is
         w.called.on_other.held.fits w.other_writes ((k left.0).other asked).covers)
         image left.1 ∣₁)));
     cause = mirror_cause result (any_done a.answer o.answer) e f is count;
@@ -96,7 +109,8 @@ module _ {lead lead_new other other_new first : DiskState} {opening : MirrorStar
       ok if_told done =
           let F : Bool → Type 0 = λ y. now_new ≡ set (now_of y opening.blocks lead.now other.now) b snap.value in
           subst F w.called.on_lead.asked
-          (write_ok a.answer o.answer opening.blocks b snap.value lead lead_new other other_new w.inside w.lead_writes w.other_writes
+          (write_ok a.answer o.answer opening.blocks b snap.value lead lead_new other other_new w.inside
+          w.lead_writes w.other_writes
           (asked_now w.called if_told) done)
 
       err : any_done a.answer o.answer ≡ false → (now_new ≡ now) ⊎ (now_new ≡ set now b snap.value)
@@ -104,7 +118,8 @@ module _ {lead lead_new other other_new first : DiskState} {opening : MirrorStar
           let G : Bool → List Cell = λ y. now_of y opening.blocks lead.now other.now in
           let F : Bool → Type 0 = λ y. (now_new ≡ G y) ⊎ (now_new ≡ set (G y) b snap.value) in
           subst F w.called.on_lead.asked
-          (write_err a.answer o.answer opening.blocks b snap.value lead lead_new other other_new w.inside w.lead_writes w.other_writes done)
+          (write_err a.answer o.answer opening.blocks b snap.value lead lead_new other other_new w.inside w.lead_writes
+          w.other_writes done)
 
       may_goes : (c : Cell) → Contains (may_new b) c → Contains (may b) c ⊎ (c ≡ snap.value)
       may_goes c has = elim (written_cases opening.blocks seen may_now b b snap c has) [
@@ -122,11 +137,15 @@ WritesSide δ is_in b cell old new call = record {
   untouched : IsFalse is_in → new ≡ old;
 }
 
-pub writes_sides : {A B : Type 0} {α : Ghosts A} {β : Ghosts B} (old : Mirror A B α β) {lead : A} {other : B} {a o : SideCall} {b : ℕ}
+pub writes_sides : {A B : Type 0} {α : Ghosts A} {β : Ghosts B}
+    (old : Mirror A B α β) {lead : A} {other : B} {a o : SideCall} {b : ℕ}
     (snap : Snapshot Cell) {cell : Cell}
-    → ((d : A) → IsDisk (α.state d)) → ((d : B) → IsDisk (β.state d)) → b < old.opening.blocks → IsSizedCell cell → snap.value ≡ cell
-    → WritesSide α old.log.sides.lead_in b cell old.lead lead a → WritesSide β old.log.sides.other_in b cell old.other other o
-    → CalledWrite (α.state old.lead) (α.state lead) (β.state old.other) (β.state other) (α.state old.first.value) old.opening
+    → ((d : A) → IsDisk (α.state d)) → ((d : B) → IsDisk (β.state d)) → b < old.opening.blocks → IsSizedCell cell
+    → snap.value ≡ cell
+    → WritesSide α old.log.sides.lead_in b cell old.lead lead a
+    → WritesSide β old.log.sides.other_in b cell old.other other o
+    → CalledWrite (α.state old.lead) (α.state lead) (β.state old.other) (β.state other)
+    (α.state old.first.value) old.opening
     (mirror_calls old.log.past.value) old.log.spare a o b snap
 writes_sides old {lead} {other} {a} {o} {b} snap lead_is other_is inside sized same f h = record {
   called = calls_sides old lead_is other_is (write_goes a.answer _ _ b _ f.writes)

@@ -1,5 +1,6 @@
 -- Flushes of a mirror.
-use Rattle.std.proofs.Common.{◌≡◌, ℕ, zero, suc, ◌<◌, ◌≤◌, Bool, true, false, ◌||◌, List, [], ◌∷◌, take, cond, arith, inl, inr, refl, sym, ap, subst, ◌∙◌, Ok}
+use Rattle.std.proofs.Common.{◌≡◌, ℕ, zero, suc, ◌<◌, ◌≤◌, Bool, true, false, ◌||◌, List, [], ◌∷◌, take, cond, arith}
+use Rattle.std.proofs.Common.{inl, inr, refl, sym, ap, subst, ◌∙◌, Ok}
 use Rattle.std.specs.Prelude.{Contains, IsTrue, if◌then◌else◌}
 use Rattle.std.proofs.lemmas.Bool.{cases_lt, lt-ltb, le-ltb}
 use Rattle.std.proofs.lemmas.List.{get_or-take}
@@ -21,7 +22,8 @@ side_now Out old new f = f.cells.now
 side_now Done old new f = f.now
 side_now Fault old new f = f.1.now
 
-side_may : (a : SideAnswer) (n : ℕ) (old new : DiskState) → IsTrue (is_asked a) → n ≤ old.blocks → SideFlushes old new a → (b : ℕ) (c : Cell) → b < n
+side_may : (a : SideAnswer) (n : ℕ) (old new : DiskState) → IsTrue (is_asked a) → n ≤ old.blocks → SideFlushes old new a
+    → (b : ℕ) (c : Cell) → b < n
     → Contains (new.may b) c → Contains (old.may b) c
 side_may Out n old new e fits f b c low has = cc
 side_may Done n old new e fits f b c low has = f.may b c (omega arith) has
@@ -32,14 +34,16 @@ side_settled Out old new e f = cc
 side_settled Done old new e f = f.settled
 side_settled Fault old new e f = cc
 
-pub side_leaves : (a : SideAnswer) (n : ℕ) (may : ℕ → List Cell) (old new : DiskState) → IsTrue (is_asked a) → IsDisk old → IsDisk new → n ≤ old.blocks
+pub side_leaves : (a : SideAnswer) (n : ℕ) (may : ℕ → List Cell) (old new : DiskState) → IsTrue (is_asked a)
+    → IsDisk old → IsDisk new → n ≤ old.blocks
     → SideFlushes old new a → Covers n may old.may → LeavesFirst n may old new
 side_leaves Out n may old new e is_old is_new fits f covers = cc
 side_leaves Done n may old new e is_old is_new fits f covers = flush_leaves n may old new is_old is_new fits f covers
 side_leaves Fault n may old new e is_old is_new fits f covers = flush_leaves n may old new is_old is_new fits f.1 covers
 
 -- the mirror's cells stay
-pub mirror_now : (a o : SideAnswer) (n : ℕ) (lead lead_new other other_new : DiskState) → SideFlushes lead lead_new a → SideFlushes other other_new o
+pub mirror_now : (a o : SideAnswer) (n : ℕ) (lead lead_new other other_new : DiskState) → SideFlushes lead lead_new a
+    → SideFlushes other other_new o
     → (IsTrue (is_asked a) → IsTrue (is_asked o) → take n other.now ≡ take n lead.now)
     → now_of (lead_stays a o) n lead_new.now other_new.now ≡ now_of (is_asked a) n lead.now other.now
 mirror_now Done o n lead lead_new other other_new f h same = ap (take n) f.now
@@ -48,12 +52,14 @@ mirror_now Fault Out n lead lead_new other other_new f h same = ap (take n) f.1.
 mirror_now Fault Fault n lead lead_new other other_new f h same = ap (take n) f.1.now
 mirror_now Out o n lead lead_new other other_new f h same = ap (take n) (side_now o other other_new h)
 
-other_now : (a o : SideAnswer) (n : ℕ) (lead lead_new other other_new : DiskState) → SideFlushes lead lead_new a → SideFlushes other other_new o
+other_now : (a o : SideAnswer) (n : ℕ) (lead lead_new other other_new : DiskState) → SideFlushes lead lead_new a
+    → SideFlushes other other_new o
     → (IsTrue (is_asked a) → IsTrue (is_asked o) → take n other.now ≡ take n lead.now)
     → IsTrue (other_stays a o) → take n other_new.now ≡ now_of (lead_stays a o) n lead_new.now other_new.now
 other_now Out o n lead lead_new other other_new f h same stays = refl
 other_now Done Out n lead lead_new other other_new f h same stays = cc
-other_now Done Done n lead lead_new other other_new f h same stays = ap (take n) h.now ∙ same refl refl ∙ sym (ap (take n) f.now)
+other_now Done Done n lead lead_new other other_new f h same stays = ap (take n) h.now ∙ same refl refl
+    ∙ sym (ap (take n) f.now)
 other_now Done Fault n lead lead_new other other_new f h same stays = cc
 other_now Fault Out n lead lead_new other other_new f h same stays = cc
 other_now Fault Done n lead lead_new other other_new f h same stays = refl
@@ -64,7 +70,8 @@ was_flushed : (old new : DiskState) (ended : ℕ) → ended ≡ new.moment → F
 was_flushed old new ended at f = ap new.was at ∙ f.was ∙ sym f.now
 
 -- a side that stays in after a flush that succeeded flushed
-pub flushed_now : (a o : SideAnswer) (lead lead_new other other_new : DiskState) (x y : ℕ) → any_done a o ≡ true → x ≡ lead_new.moment → y ≡ other_new.moment
+pub flushed_now : (a o : SideAnswer) (lead lead_new other other_new : DiskState) (x y : ℕ)
+    → any_done a o ≡ true → x ≡ lead_new.moment → y ≡ other_new.moment
     → SideFlushes lead lead_new a → SideFlushes other other_new o
     → cond (lead_stays a o) (lead_new.was x) (other_new.was y) ≡ cond (lead_stays a o) lead_new.now other_new.now
 flushed_now Done o lead lead_new other other_new x y done p q f h = was_flushed lead lead_new x p f
@@ -101,7 +108,8 @@ none x (k, low, is) = omega arith
 
 pub below_in : (n b : ℕ) (x : List Cell) (c : Cell) → Contains (only_below n x b) c → (b < n) × (c ≡ cell_at x b)
 below_in n b x c has = elim (cases_lt b n) [
-  | inl low ↦ let F : List Cell → Type 0 = λ l. Contains l c in (low, single (cell_at x b) c (subst F (below_true n b x low) has))
+  | inl low ↦ let F : List Cell → Type 0 = λ l. Contains l c in
+      (low, single (cell_at x b) c (subst F (below_true n b x low) has))
   | inr past ↦ let F : List Cell → Type 0 = λ l. Contains l c in absurd (none c (subst F (below_false n b x past) has))
 ]
 
@@ -112,10 +120,12 @@ below_has n b x low =
 
 -- a cell of two lists whose first cells are the same
 pub first_cell : (n b : ℕ) (x y : List Cell) → b < n → take n x ≡ take n y → cell_at x b ≡ cell_at y b
-first_cell n b x y low same = sym (get_or-take n x b no_cell low) ∙ ap (λ l. cell_at l b) same ∙ get_or-take n y b no_cell low
+first_cell n b x y low same = sym (get_or-take n x b no_cell low) ∙ ap (λ l. cell_at l b) same
+    ∙ get_or-take n y b no_cell low
 
 -- the cells that may be held, one of which a side that was asked gives
-pub asked_has : (a o : SideAnswer) (n : ℕ) (may : ℕ → List Cell) (now : List Cell) (lead other : DiskState) → IsTrue (is_asked a || is_asked o) → IsDisk lead
+pub asked_has : (a o : SideAnswer) (n : ℕ) (may : ℕ → List Cell) (now : List Cell) (lead other : DiskState)
+    → IsTrue (is_asked a || is_asked o) → IsDisk lead
     → IsDisk other → n ≤ lead.blocks → n ≤ other.blocks → IsTrue lead.tells → IsTrue other.tells
     → IsMirrored n may now (is_asked a) (is_asked o) lead other → (b : ℕ) → b < n → Contains (may b) (cell_at now b)
 asked_has Done o n may now lead other some is_lead is_other fits_lead fits_other tells_lead tells_other k b low =
@@ -136,7 +146,8 @@ done_asked Out Out done = cc
 done_asked Out Fault done = cc
 
 -- a flush that asks the sides of a mirror
-pub record FlushedSides (a o : SideAnswer) (n : ℕ) (may : ℕ → List Cell) (x : List Cell) (lead lead_new other other_new : DiskState) : Type 0 where
+pub record FlushedSides (a o : SideAnswer) (n : ℕ) (may : ℕ → List Cell) (x : List Cell)
+    (lead lead_new other other_new : DiskState) : Type 0 where
   pub lead_is : IsDisk lead
   pub other_is : IsDisk other
   pub lead_fits : n ≤ lead.blocks
@@ -154,7 +165,8 @@ same_now : (a o : SideAnswer) (n : ℕ) (may : ℕ → List Cell) (x : List Cell
 same_now a o n may x lead lead_new other other_new s e f = (s.mirrored.other f).now ∙ sym (s.mirrored.lead e).now
 
 -- what is settled might have been left before
-pub settled_back : (a o : SideAnswer) (n : ℕ) (may : ℕ → List Cell) (x : List Cell) (lead lead_new other other_new : DiskState)
+pub settled_back : (a o : SideAnswer) (n : ℕ) (may : ℕ → List Cell) (x : List Cell)
+    (lead lead_new other other_new : DiskState)
     → FlushedSides a o n may x lead lead_new other other_new → any_done a o ≡ true
     → (b : ℕ) (c : Cell) → Contains (only_below n x b) c → Contains (may b) c
 settled_back a o n may x lead lead_new other other_new s done b c has =
@@ -162,13 +174,16 @@ settled_back a o n may x lead lead_new other other_new s done b c has =
     let now : take n x ≡ now_of (is_asked a) n lead.now other.now =
     ap (take n) (s.flushed done) ∙ mirror_now a o n lead lead_new other other_new s.lead_flushes s.other_flushes
     (same_now a o n may x lead lead_new other other_new s) in
-    let is : cell_at x b ≡ cell_at (now_of (is_asked a) n lead.now other.now) b = sym (get_or-take n x b no_cell two.0) ∙ ap (λ l. cell_at l b) now in
+    let is : cell_at x b ≡ cell_at (now_of (is_asked a) n lead.now other.now) b = sym (get_or-take n x b no_cell two.0)
+    ∙ ap (λ l. cell_at l b) now in
     let F : Cell → Type 0 = λ y. Contains (may b) y in
-    subst F (sym (two.1 ∙ is)) (asked_has a o n may (now_of (is_asked a) n lead.now other.now) lead other (done_asked a o done)
+    subst F (sym (two.1 ∙ is))
+    (asked_has a o n may (now_of (is_asked a) n lead.now other.now) lead other (done_asked a o done)
     s.lead_is s.other_is s.lead_fits s.other_fits s.lead_tells s.other_tells s.mirrored b two.0)
 
 -- a side that flushed may hold its present cells alone
-settled_covers : (n : ℕ) (x now : List Cell) (side : DiskState) → n ≤ side.blocks → IsSettled side → take n side.now ≡ now → take n x ≡ now
+settled_covers : (n : ℕ) (x now : List Cell) (side : DiskState) → n ≤ side.blocks → IsSettled side
+    → take n side.now ≡ now → take n x ≡ now
     → Covers n (only_below n x) side.may
 settled_covers n x now side fits settled p q b c low has =
     let is : c ≡ cell_at x b = settled b c (omega arith) has ∙ first_cell n b side.now x low (p ∙ sym q) in
@@ -181,9 +196,11 @@ side_blocks Done old new f = f.disk.blocks
 side_blocks Fault old new f = f.1.disk.blocks
 
 -- what holds of the cells after a flush that succeeded
-flush_settles : (a o : SideAnswer) (n : ℕ) (may : ℕ → List Cell) (x : List Cell) (lead lead_new other other_new : DiskState)
+flush_settles : (a o : SideAnswer) (n : ℕ) (may : ℕ → List Cell) (x : List Cell)
+    (lead lead_new other other_new : DiskState)
     → FlushedSides a o n may x lead lead_new other other_new → any_done a o ≡ true
-    → IsMirrored n (only_below n x) (now_of (lead_stays a o) n lead_new.now other_new.now) (lead_stays a o) (other_stays a o) lead_new other_new
+    → IsMirrored n (only_below n x) (now_of (lead_stays a o) n lead_new.now other_new.now) (lead_stays a o)
+    (other_stays a o) lead_new other_new
 flush_settles a o n may x lead lead_new other other_new s done =
     let now = ap (take n) (s.flushed done) in
     let lead_blocks = side_blocks a lead lead_new s.lead_flushes in
@@ -199,7 +216,8 @@ flush_settles a o n may x lead lead_new other other_new s done =
                 (side_settled a lead lead_new (lead_done a o done stays) s.lead_flushes) here now;
           };
       other = λ stays.
-          let here = other_now a o n lead lead_new other other_new s.lead_flushes s.other_flushes (same_now a o n may x lead lead_new other other_new s)
+          let here = other_now a o n lead lead_new other other_new s.lead_flushes s.other_flushes
+          (same_now a o n may x lead lead_new other other_new s)
           stays in
           record {
             now = here;
@@ -208,34 +226,42 @@ flush_settles a o n may x lead lead_new other other_new s done =
           };
       within = record {
         beyond = λ b c past has. let two = below_in n b x c has in let low = two.0 in omega arith;
-        sized = λ b c has. s.mirrored.within.sized b c (settled_back a o n may x lead lead_new other other_new s done b c has);
+        sized = λ b c has. s.mirrored.within.sized b c
+            (settled_back a o n may x lead lead_new other other_new s done b c has);
       };
     }
 
 -- and after one that failed
-flush_fails : (a o : SideAnswer) (n : ℕ) (may : ℕ → List Cell) (x : List Cell) (lead lead_new other other_new : DiskState)
+flush_fails : (a o : SideAnswer) (n : ℕ) (may : ℕ → List Cell) (x : List Cell)
+    (lead lead_new other other_new : DiskState)
     → FlushedSides a o n may x lead lead_new other other_new
-    → IsMirrored n may (now_of (lead_stays a o) n lead_new.now other_new.now) (lead_stays a o) (other_stays a o) lead_new other_new
+    → IsMirrored n may (now_of (lead_stays a o) n lead_new.now other_new.now) (lead_stays a o)
+    (other_stays a o) lead_new other_new
 flush_fails a o n may x lead lead_new other other_new s = record {
   lead = λ stays.
       let asked = lead_stays-asked a o stays in
       record {
         now = lead_now (lead_stays a o) n lead_new.now other_new.now stays;
         covers =
-            λ b c low has. (s.mirrored.lead asked).covers b c low (side_may a n lead lead_new asked s.lead_fits s.lead_flushes b c low has);
+            λ b c low has. (s.mirrored.lead asked).covers b c low
+            (side_may a n lead lead_new asked s.lead_fits s.lead_flushes b c low has);
       };
   other = λ stays.
       let asked = other_stays-asked a o stays in
       record {
-        now = other_now a o n lead lead_new other other_new s.lead_flushes s.other_flushes (same_now a o n may x lead lead_new other other_new s) stays;
-        covers = λ b c low has. (s.mirrored.other asked).covers b c low (side_may o n other other_new asked s.other_fits s.other_flushes b c low has);
+        now = other_now a o n lead lead_new other other_new s.lead_flushes s.other_flushes
+            (same_now a o n may x lead lead_new other other_new s) stays;
+        covers = λ b c low has. (s.mirrored.other asked).covers b c low
+            (side_may o n other other_new asked s.other_fits s.other_flushes b c low has);
       };
   within = s.mirrored.within;
 }
 
-pub flush_mirrored : (a o : SideAnswer) (n : ℕ) (may : ℕ → List Cell) (x : List Cell) (lead lead_new other other_new : DiskState)
+pub flush_mirrored : (a o : SideAnswer) (n : ℕ) (may : ℕ → List Cell) (x : List Cell)
+    (lead lead_new other other_new : DiskState)
     → FlushedSides a o n may x lead lead_new other other_new
-    → IsMirrored n (may_step n x may (flush_effect a o)) (now_of (lead_stays a o) n lead_new.now other_new.now) (lead_stays a o) (other_stays a o)
+    → IsMirrored n (may_step n x may (flush_effect a o)) (now_of (lead_stays a o) n lead_new.now other_new.now)
+    (lead_stays a o) (other_stays a o)
     lead_new other_new
 flush_mirrored a o n may x lead lead_new other other_new s = go (any_done a o) refl
   where

@@ -1,5 +1,6 @@
 -- What is told of earlier moments stays.
-use Rattle.std.proofs.Common.{◌≡◌, ◌⊎◌, ℕ, ◌*◌, ◌≤◌, Bool, ◌&&◌, List, [], ◌∷◌, ◌++◌, length, take, cond, arith, inl, inr, refl, sym, ◌∙◌}
+use Rattle.std.proofs.Common.{◌≡◌, ◌⊎◌, ℕ, ◌*◌, ◌≤◌, Bool, ◌&&◌, List, [], ◌∷◌, ◌++◌, length, take, cond, arith, inl}
+use Rattle.std.proofs.Common.{inr, refl, sym, ◌∙◌}
 use Rattle.std.specs.Prelude.{eqb}
 use Rattle.std.proofs.lemmas.Bool.{eq-eqb, ne_eqb}
 use Rattle.nofs_disk.specs.declared.tag.Cell.{Cell}
@@ -9,7 +10,8 @@ use Rattle.nofs_mirror.specs.declared.sides.past.MirrorCall.{MirrorCall}
 use Rattle.nofs_mirror.specs.declared.sides.past.Effect.{Effect}
 use Rattle.nofs_mirror.specs.declared.sides.past.Effect.TheVariants.{Write, Settle, Nothing}
 use Rattle.nofs_mirror.specs.declared.sides.past.Span.{Span}
-use Rattle.nofs_mirror.specs.Mirror.{IsMarkedBySide, SideLeft, both_tell, flushed_cells, may_after, may_step, mirror_state, only_below, if_told}
+use Rattle.nofs_mirror.specs.Mirror.{IsMarkedBySide, SideLeft, both_tell, flushed_cells, may_after, may_step}
+use Rattle.nofs_mirror.specs.Mirror.{mirror_state, only_below, if_told}
 use Rattle.nofs_mirror.specs.Mirror.{was_after}
 use Rattle.nofs_mirror.proofs.OnSides.{marked_tail, moves_no_less, moves_no_more, stays_no_less, stays_no_more}
 
@@ -36,7 +38,8 @@ flushed_keeps a a' b b' lead other call past u v k =
     let q = k.other_was call.other.ended (k.other_marked.ends 0 (omega arith)) in
     λ i. cond call.lead.is_in (p i) (q i)
 
-pub was_keeps : (a a' b b' : ℕ → List Cell) (lead other : Span) (n : ℕ) (past : List MirrorCall) (u v m : ℕ) → KeepsWas a a' b b' lead other past u v
+pub was_keeps : (a a' b b' : ℕ → List Cell) (lead other : Span) (n : ℕ) (past : List MirrorCall) (u v m : ℕ)
+    → KeepsWas a a' b b' lead other past u v
     → was_after a' b' n past m ≡ was_after a b n past m
 was_keeps a a' b b' lead other n [] u v m k = refl
 was_keeps a a' b b' lead other n (call ∷ past) u v m k =
@@ -50,11 +53,13 @@ step_keeps n x' x may' may (Write block cell) b p q = λ i. cond (eqb b block) (
 step_keeps n x' x may' may Settle b p q = λ i. only_below n (p i) b
 step_keeps n x' x may' may Nothing b p q = q
 
-pub may_keeps : (a a' b b' : ℕ → List Cell) (lead other : Span) (n : ℕ) (first : ℕ → List Cell) (past : List MirrorCall) (u v k : ℕ)
+pub may_keeps : (a a' b b' : ℕ → List Cell) (lead other : Span) (n : ℕ) (first : ℕ → List Cell)
+    (past : List MirrorCall) (u v k : ℕ)
     → KeepsWas a a' b b' lead other past u v → may_after a' b' n first past k ≡ may_after a b n first past k
 may_keeps a a' b b' lead other n first [] u v k keeps = refl
 may_keeps a a' b b' lead other n first (call ∷ past) u v k keeps =
-    step_keeps n (flushed_cells a' b' call) (flushed_cells a b call) (may_after a' b' n first past) (may_after a b n first past) call.effect k
+    step_keeps n (flushed_cells a' b' call) (flushed_cells a b call) (may_after a' b' n first past)
+    (may_after a b n first past) call.effect k
     (flushed_keeps a a' b b' lead other call past u v keeps)
     (may_keeps a a' b b' lead other n first past u v k (tail a a' b b' lead other call past u v keeps))
 
@@ -67,24 +72,33 @@ pub was_now : (a b : ℕ → List Cell) (n : ℕ) (past : List MirrorCall) (call
 was_now a b n past call = rw (eq-eqb (2 * length (call ∷ past)) (2 * length (call ∷ past)) refl) refl
 
 -- a side of a mirror before and after a call
-pub record SideKeeps (side : MirrorCall → Span) (opened : Span) (calls : List MirrorCall) (old new : DiskState) : Type 0 where
+pub record SideKeeps (side : MirrorCall → Span) (opened : Span) (calls : List MirrorCall)
+    (old new : DiskState) : Type 0 where
   pub disk : IsSameDisk old new
   pub past : KeepsPast old new
   pub marked : IsMarkedBySide side opened calls old.moment
 
 -- the sides of a mirror before and after a call
-pub record Goes (lead lead_new other other_new : DiskState) (opening : MirrorStart) (past : List MirrorCall) : Type 0 where
+pub record Goes (lead lead_new other other_new : DiskState) (opening : MirrorStart)
+    (past : List MirrorCall) : Type 0 where
   pub on_lead : SideKeeps (λ c. c.lead) opening.lead past lead lead_new
   pub on_other : SideKeeps (λ c. c.other) opening.other past other other_new
 
-pub goes_was : (lead lead_new other other_new : DiskState) (opening : MirrorStart) (past : List MirrorCall) → Goes lead lead_new other other_new opening past
+pub goes_was : (lead lead_new other other_new : DiskState) (opening : MirrorStart) (past : List MirrorCall)
+    → Goes lead lead_new other other_new opening past
     → KeepsWas lead.was lead_new.was other.was other_new.was opening.lead opening.other past lead.moment other.moment
 goes_was lead lead_new other other_new opening past g =
-    record { lead_was = g.on_lead.past.was; other_was = g.on_other.past.was; lead_marked = g.on_lead.marked; other_marked = g.on_other.marked }
+    record {
+      lead_was = g.on_lead.past.was;
+      other_was = g.on_other.past.was;
+      lead_marked = g.on_lead.marked;
+      other_marked = g.on_other.marked;
+    }
 
 pub tells_same : (lead lead_new other other_new : DiskState) (opening : MirrorStart) (past : List MirrorCall)
     → Goes lead lead_new other other_new opening past → both_tell lead_new other_new ≡ both_tell lead other
-tells_same lead lead_new other other_new opening past g = let p = g.on_lead.disk.tells in let q = g.on_other.disk.tells in λ i. p i && q i
+tells_same lead lead_new other other_new opening past g = let p = g.on_lead.disk.tells in
+    let q = g.on_other.disk.tells in λ i. p i && q i
 
 pub told_same : {A : Type 0} (t t' : Bool) (xs xs' : List A) → t' ≡ t → xs' ≡ xs → if_told t' xs' ≡ if_told t xs
 told_same t t' xs xs' p q = λ i. if_told (p i) (q i)
@@ -96,49 +110,69 @@ SidesLeave lead other opening past m image =
     ⊎ SideLeft (λ c. c.other) other.left opening.blocks opening.other past other.moment m image
 
 -- a call that makes no moment
-pub past_stays : (lead lead_new other other_new first : DiskState) (opening : MirrorStart) (past : List MirrorCall) (s t e f : ℕ)
+pub past_stays : (lead lead_new other other_new first : DiskState) (opening : MirrorStart)
+    (past : List MirrorCall) (s t e f : ℕ)
     → Goes lead lead_new other other_new opening past → lead_new.moment ≡ lead.moment → other_new.moment ≡ other.moment
-    → KeepsPast (mirror_state lead other first opening past s e) (mirror_state lead_new other_new first opening past t f)
+    → KeepsPast (mirror_state lead other first opening past s e)
+    (mirror_state lead_new other_new first opening past t f)
 past_stays lead lead_new other other_new first opening past s t e f g lead_at other_at = record {
-  was = λ m low. told_same (both_tell lead other) (both_tell lead_new other_new) _ _ (tells_same lead lead_new other other_new opening past g)
+  was = λ m low. told_same (both_tell lead other) (both_tell lead_new other_new) _ _
+      (tells_same lead lead_new other other_new opening past g)
       (was_keeps _ _ _ _ _ _ opening.blocks past _ _ m (goes_was lead lead_new other other_new opening past g));
-  no_more = λ m image low left. (sym (tells_same lead lead_new other other_new opening past g) ∙ left.0, more m image left.1);
+  no_more = λ m image low left.
+      (sym (tells_same lead lead_new other other_new opening past g) ∙ left.0, more m image left.1);
   no_less = λ m image low left. (tells_same lead lead_new other other_new opening past g ∙ left.0, less m image left.1);
 }
   where
-    more : (m : ℕ) (image : List Cell) → SidesLeave lead_new other_new opening past m image → SidesLeave lead other opening past m image
+    more : (m : ℕ) (image : List Cell) → SidesLeave lead_new other_new opening past m image
+        → SidesLeave lead other opening past m image
     more m image (inl left) =
-        inl (stays_no_more (λ c. c.lead) opening.blocks opening.lead past lead lead_new m image g.on_lead.past lead_at g.on_lead.marked left)
+        inl (stays_no_more (λ c. c.lead) opening.blocks opening.lead past lead lead_new m image g.on_lead.past lead_at
+        g.on_lead.marked left)
     more m image (inr left) =
-        inr (stays_no_more (λ c. c.other) opening.blocks opening.other past other other_new m image g.on_other.past other_at g.on_other.marked left)
+        inr (stays_no_more (λ c. c.other) opening.blocks opening.other past other other_new m image g.on_other.past
+        other_at g.on_other.marked left)
 
-    less : (m : ℕ) (image : List Cell) → SidesLeave lead other opening past m image → SidesLeave lead_new other_new opening past m image
+    less : (m : ℕ) (image : List Cell) → SidesLeave lead other opening past m image
+        → SidesLeave lead_new other_new opening past m image
     less m image (inl left) =
-        inl (stays_no_less (λ c. c.lead) opening.blocks opening.lead past lead lead_new m image g.on_lead.past lead_at g.on_lead.marked left)
+        inl (stays_no_less (λ c. c.lead) opening.blocks opening.lead past lead lead_new m image g.on_lead.past lead_at
+        g.on_lead.marked left)
     less m image (inr left) =
-        inr (stays_no_less (λ c. c.other) opening.blocks opening.other past other other_new m image g.on_other.past other_at g.on_other.marked left)
+        inr (stays_no_less (λ c. c.other) opening.blocks opening.other past other other_new m image g.on_other.past
+        other_at g.on_other.marked left)
 
 -- a write or flush
-pub past_moves : (lead lead_new other other_new first : DiskState) (opening : MirrorStart) (past : List MirrorCall) (call : MirrorCall) (s t e f : ℕ)
+pub past_moves : (lead lead_new other other_new first : DiskState) (opening : MirrorStart) (past : List MirrorCall)
+    (call : MirrorCall) (s t e f : ℕ)
     → Goes lead lead_new other other_new opening past → call.lead.began ≡ lead.moment → call.other.began ≡ other.moment
-    → KeepsPast (mirror_state lead other first opening past s e) (mirror_state lead_new other_new first opening (call ∷ past) t f)
+    → KeepsPast (mirror_state lead other first opening past s e)
+    (mirror_state lead_new other_new first opening (call ∷ past) t f)
 past_moves lead lead_new other other_new first opening past call s t e f g lead_at other_at = record {
-  was = λ m low. told_same (both_tell lead other) (both_tell lead_new other_new) _ _ (tells_same lead lead_new other other_new opening past g)
+  was = λ m low. told_same (both_tell lead other) (both_tell lead_new other_new) _ _
+      (tells_same lead lead_new other other_new opening past g)
       (was_before lead_new.was other_new.was opening.blocks past call m low
       ∙ was_keeps _ _ _ _ _ _ opening.blocks past _ _ m (goes_was lead lead_new other other_new opening past g));
-  no_more = λ m image low left. (sym (tells_same lead lead_new other other_new opening past g) ∙ left.0, more m image low left.1);
+  no_more = λ m image low left.
+      (sym (tells_same lead lead_new other other_new opening past g) ∙ left.0, more m image low left.1);
   no_less = λ m image low left. (tells_same lead lead_new other other_new opening past g ∙ left.0, less m image left.1);
 }
   where
-    more : (m : ℕ) (image : List Cell) → m ≤ 2 * length past → SidesLeave lead_new other_new opening (call ∷ past) m image
+    more : (m : ℕ) (image : List Cell) → m ≤ 2 * length past
+        → SidesLeave lead_new other_new opening (call ∷ past) m image
         → SidesLeave lead other opening past m image
     more m image low (inl left) =
-        inl (moves_no_more (λ c. c.lead) opening.blocks opening.lead past call lead lead_new m image g.on_lead.past lead_at g.on_lead.marked low left)
+        inl (moves_no_more (λ c. c.lead) opening.blocks opening.lead past call lead lead_new m image g.on_lead.past
+        lead_at g.on_lead.marked low left)
     more m image low (inr left) =
-        inr (moves_no_more (λ c. c.other) opening.blocks opening.other past call other other_new m image g.on_other.past other_at g.on_other.marked low left)
+        inr (moves_no_more (λ c. c.other) opening.blocks opening.other past call other other_new m image g.on_other.past
+        other_at g.on_other.marked low left)
 
-    less : (m : ℕ) (image : List Cell) → SidesLeave lead other opening past m image → SidesLeave lead_new other_new opening (call ∷ past) m image
+    less : (m : ℕ) (image : List Cell) → SidesLeave lead other opening past m image
+        → SidesLeave lead_new other_new opening (call ∷ past) m image
     less m image (inl left) =
-        inl (moves_no_less (λ c. c.lead) opening.blocks opening.lead past call lead lead_new m image g.on_lead.past lead_at g.on_lead.marked left)
+        inl (moves_no_less (λ c. c.lead) opening.blocks opening.lead past call lead lead_new m image g.on_lead.past
+        lead_at g.on_lead.marked left)
     less m image (inr left) =
-        inr (moves_no_less (λ c. c.other) opening.blocks opening.other past call other other_new m image g.on_other.past other_at g.on_other.marked left)
+        inr (moves_no_less (λ c. c.other) opening.blocks opening.other past call other other_new m image g.on_other.past
+        other_at g.on_other.marked left)

@@ -1,5 +1,6 @@
 -- Calls of a mirror that make no moment.
-use Rattle.std.proofs.Common.{◌≡◌, ◌⊎◌, ℕ, ◌*◌, ◌<◌, ◌≤◌, Bool, List, [], ◌∷◌, length, take, arith, inl, inr, refl, sym, ap, subst, ◌∙◌, Result, Ok, Err}
+use Rattle.std.proofs.Common.{◌≡◌, ◌⊎◌, ℕ, ◌*◌, ◌<◌, ◌≤◌, Bool, List, [], ◌∷◌, length, take, arith, inl, inr, refl, sym}
+use Rattle.std.proofs.Common.{ap, subst, ◌∙◌, Result, Ok, Err}
 use Rattle.std.specs.Prelude.{Contains, IsTrue, OnErr, OnOk}
 use Rattle.std.proofs.Math.Logic.{∥∥₁_elim, ∥∥₁_prop}
 use Rattle.std.proofs.lemmas.Bool.{and_parts}
@@ -7,7 +8,8 @@ use Rattle.std.proofs.lemmas.List.{get_or-take}
 use Rattle.nofs_disk.specs.declared.disk.Disk.{Ghosts}
 use Rattle.nofs_disk.specs.declared.Failed.{Failed}
 use Rattle.nofs_disk.specs.declared.tag.Cell.{Cell}
-use Rattle.nofs_disk.specs.Disk.{DiskState, IsSameDisk, KeepsCells, KeepsPast, MakesReady, Reads, Rose, StaysButFaults, cell_at, no_cell}
+use Rattle.nofs_disk.specs.Disk.{DiskState, IsSameDisk, KeepsCells, KeepsPast, MakesReady, Reads, Rose, StaysButFaults}
+use Rattle.nofs_disk.specs.Disk.{cell_at, no_cell}
 use Rattle.nofs_mirror.specs.declared.sides.log.Sides.{Sides}
 use Rattle.nofs_mirror.specs.declared.mirror.Mirror.{Mirror}
 use Rattle.nofs_mirror.specs.declared.sides.choices.MirrorStart.{MirrorStart}
@@ -15,7 +17,8 @@ use Rattle.nofs_mirror.specs.declared.sides.past.MirrorCall.{MirrorCall}
 use Rattle.nofs_mirror.specs.declared.sides.past.Span.{Span}
 use Rattle.nofs_mirror.specs.Sides.Calls.{Rests}
 use Rattle.nofs_mirror.specs.Laws.{MirrorKeeps, told-is}
-use Rattle.nofs_mirror.specs.Mirror.{EitherReads, IsFrom, IsMirrored, IsMirrorSide, IsSide, SideLeft, SideServes, both_tell, last_span, mirror_state}
+use Rattle.nofs_mirror.specs.Mirror.{EitherReads, IsFrom, IsMirrored, IsMirrorSide, IsSide, SideLeft, SideServes}
+use Rattle.nofs_mirror.specs.Mirror.{both_tell, last_span, mirror_state}
 use Rattle.nofs_mirror.specs.Mirror.{now_of, if_told}
 use Rattle.nofs_mirror.specs.Sides.Past.{mirror_calls}
 use Rattle.nofs_mirror.proofs.OnMirror.Cells.{Holds, cells_known, cells_of, may_of, mirrored_same}
@@ -23,10 +26,12 @@ use Rattle.nofs_mirror.proofs.OnMirror.Past.{Goes, goes_was, may_keeps, past_sta
 use Rattle.nofs_mirror.proofs.OnSides.{marked_later}
 
 pub stays_rests : (old new : DiskState) → StaysButFaults old new → Rests old new
-stays_rests old new s = record { disk = s.disk; past = s.past; cells = s.cells; spare = (let e = s.spare in omega arith) }
+stays_rests old new s =
+    record { disk = s.disk; past = s.past; cells = s.cells; spare = (let e = s.spare in omega arith) }
 
 -- a side after a call that makes no moment
-pub side_stays : (n s t : ℕ) (side : MirrorCall → Span) (opened : Span) (past : List MirrorCall) (old new : DiskState) → Rests old new → t ≤ new.spare
+pub side_stays : (n s t : ℕ) (side : MirrorCall → Span) (opened : Span) (past : List MirrorCall) (old new : DiskState)
+    → Rests old new → t ≤ new.spare
     → IsSide n s side opened past old → IsSide n t side opened past new
 side_stays n s t side opened past old new r room is = record {
   fits = (let e = is.fits in let f = r.disk.blocks in omega arith);
@@ -36,18 +41,21 @@ side_stays n s t side opened past old new r room is = record {
 }
 
 -- both sides make no moment
-pub record BothRest (lead lead_new other other_new : DiskState) (opening : MirrorStart) (past : List MirrorCall) (s : ℕ) : Type 0 where
+pub record BothRest (lead lead_new other other_new : DiskState) (opening : MirrorStart) (past : List MirrorCall)
+    (s : ℕ) : Type 0 where
   pub lead_rests : Rests lead lead_new
   pub other_rests : Rests other other_new
   pub lead_side : IsSide opening.blocks s (λ c. c.lead) opening.lead past lead
   pub other_side : IsSide opening.blocks s (λ c. c.other) opening.other past other
 
 -- a side that is in goes on
-serves_on : (n : ℕ) (may : ℕ → List Cell) (now now_new : List Cell) (old new : DiskState) → Rests old new → now_new ≡ now → IsMirrorSide n may now old
+serves_on : (n : ℕ) (may : ℕ → List Cell) (now now_new : List Cell) (old new : DiskState) → Rests old new
+    → now_new ≡ now → IsMirrorSide n may now old
     → IsMirrorSide n may now_new new
 serves_on n may now now_new old new r same s = record {
   now = ap (take n) r.cells.now ∙ s.now ∙ sym same;
-  covers = λ b c low has. let F : List Cell → Type 0 = λ l. Contains l c in let p = r.cells.may in s.covers b c low (subst F (λ i. p i b) has);
+  covers = λ b c low has. let F : List Cell → Type 0 = λ l. Contains l c in let p = r.cells.may in
+      s.covers b c low (subst F (λ i. p i b) has);
 }
 
 module _ {lead lead_new other other_new : DiskState} {opening : MirrorStart} {past : List MirrorCall} {s : ℕ}
@@ -61,8 +69,10 @@ module _ {lead lead_new other other_new : DiskState} {opening : MirrorStart} {pa
   rest_tells : both_tell lead_new other_new ≡ both_tell lead other
   rest_tells = tells_same lead lead_new other other_new opening past rest_goes
 
-  rest_may : (first : DiskState) (b : ℕ) → may_of lead_new other_new first opening past b ≡ may_of lead other first opening past b
-  rest_may first b = may_keeps _ _ _ _ _ _ opening.blocks first.may past _ _ b (goes_was lead lead_new other other_new opening past rest_goes)
+  rest_may : (first : DiskState) (b : ℕ)
+      → may_of lead_new other_new first opening past b ≡ may_of lead other first opening past b
+  rest_may first b = may_keeps _ _ _ _ _ _ opening.blocks first.may past _ _ b
+      (goes_was lead lead_new other other_new opening past rest_goes)
 
   rest_now : cells_of lead_new other_new opening past ≡ cells_of lead other opening past
   rest_now =
@@ -70,7 +80,8 @@ module _ {lead lead_new other other_new : DiskState} {opening : MirrorStart} {pa
       let q = r.other_rests.cells.now in
       λ i. now_of (last_span (λ c. c.lead) opening.lead past).is_in opening.blocks (p i) (q i)
 
-  pub rest_kept : (first : DiskState) → ∥ MirrorKeeps lead other first opening past ∥₁ → ∥ MirrorKeeps lead_new other_new first opening past ∥₁
+  pub rest_kept : (first : DiskState) → ∥ MirrorKeeps lead other first opening past ∥₁
+      → ∥ MirrorKeeps lead_new other_new first opening past ∥₁
   rest_kept first kept = ∥∥₁_elim kept ∥∥₁_prop (λ k. ∣ (λ t. goes (k (sym rest_tells ∙ t))) ∣₁)
     where
       lead_in : Bool
@@ -79,25 +90,32 @@ module _ {lead lead_new other other_new : DiskState} {opening : MirrorStart} {pa
       other_in : Bool
       other_in = (last_span (λ c. c.other) opening.other past).is_in
 
-      goes : IsMirrored opening.blocks (may_of lead other first opening past) (cells_of lead other opening past) lead_in other_in lead other
-          → IsMirrored opening.blocks (may_of lead_new other_new first opening past) (cells_of lead_new other_new opening past) lead_in other_in
+      goes : IsMirrored opening.blocks (may_of lead other first opening past)
+          (cells_of lead other opening past) lead_in other_in lead other
+          → IsMirrored opening.blocks (may_of lead_new other_new first opening past)
+          (cells_of lead_new other_new opening past) lead_in other_in
           lead_new other_new
-      goes m = mirrored_same opening.blocks (may_of lead other first opening past) _ _ lead_in other_in lead_new other_new (rest_may first) (record {
-        lead = λ e. serves_on opening.blocks _ _ _ lead lead_new r.lead_rests rest_now (m.lead e);
-        other = λ e. serves_on opening.blocks _ _ _ other other_new r.other_rests rest_now (m.other e);
-        within = m.within;
-      })
+      goes m = mirrored_same opening.blocks
+          (may_of lead other first opening past) _ _ lead_in other_in lead_new other_new (rest_may first) (record {
+            lead = λ e. serves_on opening.blocks _ _ _ lead lead_new r.lead_rests rest_now (m.lead e);
+            other = λ e. serves_on opening.blocks _ _ _ other other_new r.other_rests rest_now (m.other e);
+            within = m.within;
+          })
 
   rest_disk : (first : DiskState) (t e f : ℕ) → e ≤ f
-      → IsSameDisk (mirror_state lead other first opening past s e) (mirror_state lead_new other_new first opening past t f)
+      → IsSameDisk (mirror_state lead other first opening past s e)
+      (mirror_state lead_new other_new first opening past t f)
   rest_disk first t e f more = record { blocks = refl; tells = rest_tells; holds_back = refl; faults = more }
 
   rest_past : (first : DiskState) (t e f : ℕ)
-      → KeepsPast (mirror_state lead other first opening past s e) (mirror_state lead_new other_new first opening past t f)
-  rest_past first t e f = past_stays lead lead_new other other_new first opening past s t e f rest_goes r.lead_rests.cells.moment r.other_rests.cells.moment
+      → KeepsPast (mirror_state lead other first opening past s e)
+      (mirror_state lead_new other_new first opening past t f)
+  rest_past first t e f = past_stays lead lead_new other other_new first opening past s t e f rest_goes
+      r.lead_rests.cells.moment r.other_rests.cells.moment
 
   rest_cells : (first : DiskState) (t e f : ℕ)
-      → KeepsCells (mirror_state lead other first opening past s e) (mirror_state lead_new other_new first opening past t f)
+      → KeepsCells (mirror_state lead other first opening past s e)
+      (mirror_state lead_new other_new first opening past t f)
   rest_cells first t e f = record {
     now = told_same (both_tell lead other) (both_tell lead_new other_new) _ _ rest_tells rest_now;
     may = λ i b. told_same (both_tell lead other) (both_tell lead_new other_new) _ _ rest_tells (rest_may first b) i;
@@ -105,16 +123,39 @@ module _ {lead lead_new other other_new : DiskState} {opening : MirrorStart} {pa
   }
 
 -- what a side that is in may leave at its present moment
-left_here : (side : MirrorCall → Span) (leaves : ℕ → List Cell → Type 0) (n : ℕ) (opened : Span) (past : List MirrorCall) (at : ℕ) (whole : List Cell)
+left_here : (side : MirrorCall → Span) (leaves : ℕ → List Cell → Type 0) (n : ℕ) (opened : Span)
+    (past : List MirrorCall) (at : ℕ) (whole : List Cell)
     → IsTrue (last_span side opened past).is_in → (last_span side opened past).ended ≡ at → leaves at whole
     → SideLeft side leaves n opened past at (2 * length past) (take n whole)
-left_here side leaves n opened [] at whole is_in ends left =
-    (refl, record { in_then = is_in; at = at; low = (omega arith); high = (omega arith); whole = whole; left = left; first = refl })
+left_here side leaves n opened [] at whole is_in ends left = (
+  refl,
+  record {
+    in_then = is_in;
+    at = at;
+    low = (omega arith);
+    high = (omega arith);
+    whole = whole;
+    left = left;
+    first = refl;
+  },
+)
 left_here side leaves n opened (call ∷ past) at whole is_in ends left =
-    inl (refl, record { in_then = is_in; at = at; low = (omega arith); high = (omega arith); whole = whole; left = left; first = refl })
+    inl (
+      refl,
+      record {
+        in_then = is_in;
+        at = at;
+        low = (omega arith);
+        high = (omega arith);
+        whole = whole;
+        left = left;
+        first = refl;
+      },
+    )
 
 -- a cell that a side that is in gave
-given : (n block : ℕ) (t : Bool) (side now : List Cell) (into : Cell) → block < n → IsTrue t → into ≡ cell_at side block → take n side ≡ now
+given : (n block : ℕ) (t : Bool) (side now : List Cell) (into : Cell) → block < n → IsTrue t → into ≡ cell_at side block
+    → take n side ≡ now
     → into ≡ cell_at (if_told t now) block
 given n block t side now into low if_told gave same = gave ∙ sym (get_or-take n side block no_cell low)
     ∙ ap (λ l. cell_at l block) (same ∙ sym (told-is t now if_told))
@@ -125,10 +166,12 @@ module _ {A B : Type 0} {α : Ghosts A} {β : Ghosts B} (m : Mirror A B α β) w
   calls = mirror_calls m.log.past.value
 
   abbrev seen : DiskState
-  seen = mirror_state (α.state m.lead) (β.state m.other) (α.state m.first.value) m.opening calls m.log.spare m.log.faults
+  seen = mirror_state (α.state m.lead) (β.state m.other)
+      (α.state m.first.value) m.opening calls m.log.spare m.log.faults
 
   -- the first cells of each side that is in are the mirror's
-  lead_serves : IsTrue seen.tells → IsTrue m.log.sides.lead_in → take m.opening.blocks (α.state m.lead).now ≡ cells_of (α.state m.lead)
+  lead_serves : IsTrue seen.tells → IsTrue m.log.sides.lead_in
+      → take m.opening.blocks (α.state m.lead).now ≡ cells_of (α.state m.lead)
       (β.state m.other) m.opening calls
   lead_serves t e = cells_known _ _ (∥∥₁_elim m.kept ∥∥₁_prop (λ k. ∣ ((k t).lead (sym m.lead_in ∙ e)).now ∣₁))
 
@@ -139,13 +182,15 @@ module _ {A B : Type 0} {α : Ghosts A} {β : Ghosts B} (m : Mirror A B α β) w
   pub lead_served : SideServes m.log.sides.lead_in seen (α.state m.lead)
   lead_served = record {
     now = λ i t. lead_serves t i ∙ sym (told-is seen.tells _ t);
-    left = λ i t image left. (t, inl (left_here (λ c. c.lead) _ _ _ calls _ image (sym m.lead_in ∙ i) m.lead_side.last left));
+    left = λ i t image left.
+        (t, inl (left_here (λ c. c.lead) _ _ _ calls _ image (sym m.lead_in ∙ i) m.lead_side.last left));
   }
 
   pub other_served : SideServes m.log.sides.other_in seen (β.state m.other)
   other_served = record {
     now = λ i t. other_serves t i ∙ sym (told-is seen.tells _ t);
-    left = λ i t image left. (t, inr (left_here (λ c. c.other) _ _ _ calls _ image (sym m.other_in ∙ i) m.other_side.last left));
+    left = λ i t image left.
+        (t, inr (left_here (λ c. c.other) _ _ _ calls _ image (sym m.other_in ∙ i) m.other_side.last left));
   }
 
   module _ {lead other : DiskState} (f : Rests (α.state m.lead) lead) (h : Rests (β.state m.other) other) where
@@ -153,7 +198,8 @@ module _ {A B : Type 0} {α : Ghosts A} {β : Ghosts B} (m : Mirror A B α β) w
     pub both_rest : BothRest (α.state m.lead) lead (β.state m.other) other m.opening calls m.log.spare
     both_rest = record { lead_rests = f; other_rests = h; lead_side = m.lead_side; other_side = m.other_side }
 
-    pub rest_holds : (t : ℕ) → t ≤ lead.spare → t ≤ other.spare → Holds lead other (α.state m.first.value) m.opening calls t m.log.sides
+    pub rest_holds : (t : ℕ)
+        → t ≤ lead.spare → t ≤ other.spare → Holds lead other (α.state m.first.value) m.opening calls t m.log.sides
     rest_holds t lead_room other_room = record {
       lead_side = side_stays _ _ t (λ c. c.lead) _ _ _ _ f lead_room m.lead_side;
       other_side = side_stays _ _ t (λ c. c.other) _ _ _ _ h other_room m.other_side;
@@ -173,7 +219,8 @@ module _ {A B : Type 0} {α : Ghosts A} {β : Ghosts B} (m : Mirror A B α β) w
         rest_holds m.log.spare (omega arith) (omega arith)
 
     -- as it is noted
-    pub rest_noted : {next : List MirrorCall} {t : ℕ} {sides : Sides} → next ≡ calls → t ≡ m.log.spare → sides ≡ m.log.sides
+    pub rest_noted : {next : List MirrorCall} {t : ℕ} {sides : Sides}
+        → next ≡ calls → t ≡ m.log.spare → sides ≡ m.log.sides
         → Holds lead other (α.state m.first.value) m.opening next t sides
     rest_noted same room sides = rw (same, room, sides) rest_stays
 
@@ -190,7 +237,8 @@ module _ {A B : Type 0} {α : Ghosts A} {β : Ghosts B} (m : Mirror A B α β) w
     }
 
   pub mirror_reads : {lead other : DiskState} (e block : ℕ) (into : Cell) (result : Result (Unit {0}) Failed)
-      → EitherReads (α.state m.lead) lead (β.state m.other) other m.log.sides block into result → block < m.opening.blocks
+      → EitherReads (α.state m.lead) lead (β.state m.other) other m.log.sides block into result
+      → block < m.opening.blocks
       → m.log.faults ≤ e → OnErr result (Rose m.log.faults e) → OnOk result (e ≡ m.log.faults)
       → Reads seen (mirror_state lead other (α.state m.first.value) m.opening calls m.log.spare e) block into result
   mirror_reads {lead} {other} e block into result reads inside more cause no_fault = record {
@@ -209,17 +257,21 @@ module _ {A B : Type 0} {α : Ghosts A} {β : Ghosts B} (m : Mirror A B α β) w
       r : BothRest (α.state m.lead) lead (β.state m.other) other m.opening calls m.log.spare
       r = both_rest (stays_rests _ _ reads.lead) (stays_rests _ _ reads.other)
 
-      given_by : IsFrom m.log.sides.lead_in (α.state m.lead) block into ⊎ IsFrom m.log.sides.other_in (β.state m.other) block into → IsTrue seen.tells
+      given_by : IsFrom m.log.sides.lead_in (α.state m.lead) block into
+          ⊎ IsFrom m.log.sides.other_in (β.state m.other) block into → IsTrue seen.tells
           → into ≡ cell_at seen.now block
       given_by (inl (is_in, gave)) t =
-          given m.opening.blocks block seen.tells (α.state m.lead).now (cells_of (α.state m.lead) (β.state m.other) m.opening calls) into inside t
+          given m.opening.blocks block seen.tells
+          (α.state m.lead).now (cells_of (α.state m.lead) (β.state m.other) m.opening calls) into inside t
           (gave (and_parts (α.state m.lead).tells (β.state m.other).tells t).0) (lead_serves t is_in)
       given_by (inr (is_in, gave)) t =
-          given m.opening.blocks block seen.tells (β.state m.other).now (cells_of (α.state m.lead) (β.state m.other) m.opening calls) into inside t
+          given m.opening.blocks block seen.tells
+          (β.state m.other).now (cells_of (α.state m.lead) (β.state m.other) m.opening calls) into inside t
           (gave (and_parts (α.state m.lead).tells (β.state m.other).tells t).1) (other_serves t is_in)
 
       gives : (res : Result (Unit {0}) Failed) → OnOk res
-          (IsFrom m.log.sides.lead_in (α.state m.lead) block into ⊎ IsFrom m.log.sides.other_in (β.state m.other) block into)
+          (IsFrom m.log.sides.lead_in (α.state m.lead) block into
+          ⊎ IsFrom m.log.sides.other_in (β.state m.other) block into)
           → OnOk res (IsTrue seen.tells → into ≡ cell_at seen.now block)
       gives (Ok u) from = given_by from
       gives (Err failed) from = tt

@@ -1,8 +1,10 @@
 -- What a side does in a call, and what the answers of two sides make together.
-use Rattle.std.specs.Prelude.{◌≡◌, ℕ, ◌+◌, ◌-◌, ◌^◌, ◌≤◌, min, Bool, true, false, not, ◌||◌, if◌then◌else◌, Ok, Err, IsTrue}
+use Rattle.std.specs.Prelude.{◌≡◌, ℕ, ◌+◌, ◌-◌, ◌^◌, ◌≤◌, min, Bool, true, false, not, ◌||◌, if◌then◌else◌, Ok, Err}
+use Rattle.std.specs.Prelude.{IsTrue}
 use Rattle.nofs_disk.specs.declared.Failed.{Failed}
 use Rattle.nofs_disk.specs.declared.tag.Cell.{Cell}
-use Rattle.nofs_disk.specs.Disk.{DiskState, Flushes, IsSameDisk, KeepsCells, KeepsPast, Rose, StaysButFaults, Writes, cell_at}
+use Rattle.nofs_disk.specs.Disk.{DiskState, Flushes, IsSameDisk, KeepsCells, KeepsPast, Rose, StaysButFaults, Writes}
+use Rattle.nofs_disk.specs.Disk.{cell_at}
 use Rattle.nofs_mirror.specs.declared.sides.calls.SideAnswer.{SideAnswer}
 use Rattle.nofs_mirror.specs.declared.sides.calls.SideAnswer.TheVariants.{Out, Done, Fault}
 use Rattle.nofs_mirror.specs.declared.sides.calls.SideCall.{SideCall}

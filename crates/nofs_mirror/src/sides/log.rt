@@ -133,7 +133,8 @@ impl Log {
     /// failed goes out, but for the last one.
     pub fn note(&mut self, effect: Effect, lead: &SideCall, other: &SideCall) -> Result<(), Failed>
         requires { 1 ≤ self.old.spare }
-        ensures past { mirror_calls self.new.past.value ≡ answered_call effect lead.now other.now ∷ mirror_calls self.old.past.value }
+        ensures past { mirror_calls self.new.past.value ≡ answered_call effect lead.now other.now
+            ∷ mirror_calls self.old.past.value }
         ensures sides { self.new.sides ≡ sides_after lead.now.answer other.now.answer }
         ensures spare { self.new.spare + 1 ≡ self.old.spare }
         ensures result { is_ok result ≡ any_done lead.now.answer other.now.answer }

@@ -1,10 +1,13 @@
 -- An entry, a pair and an agreed inode are what the computing words say.
-use Rattle.std.proofs.Common.{◌≡◌, ◌≢◌, ℕ, ◌/◌, ◌<◌, ◌⊎◌, inl, inr, Bool, true, false, cond, eqb, ltb, ◌&&◌, ◌||◌, not, List, Option, Some, None, is_some}
+use Rattle.std.proofs.Common.{◌≡◌, ◌≢◌, ℕ, ◌/◌, ◌<◌, ◌⊎◌, inl, inr, Bool, true, false, cond, eqb, ltb, ◌&&◌, ◌||◌, not}
+use Rattle.std.proofs.Common.{List, Option, Some, None, is_some}
 use Rattle.std.proofs.Common.{refl, sym, ap, ◌∙◌, subst, Contains, eqb-true, eq-eqb, ne_eqb, ltb-true, lt-ltb}
 use Rattle.nofs_model.specs.Kinds.{File, Directory as Folder}
 use Rattle.nofs_model.specs.Cells.{FileKind, BackLink, Entry, is_live, entry_limit}
-use Rattle.nofs_model.specs.Image.{Image, cell_at, inode, path_of, find, value, value_in, FileState, file_from, files_in, is_folder, entry_held}
-use Rattle.nofs_model.specs.Image.{entry_in_file, names, is_a, pairs, is_pair, links_of, links_in_file, is_root, is_special, agreed, Agreed, root}
+use Rattle.nofs_model.specs.Image.{Image, cell_at, inode, path_of, find, value, value_in, FileState, file_from}
+use Rattle.nofs_model.specs.Image.{files_in, is_folder, entry_held}
+use Rattle.nofs_model.specs.Image.{entry_in_file, names, is_a, pairs, is_pair, links_of, links_in_file, is_root}
+use Rattle.nofs_model.specs.Image.{is_special, agreed, Agreed, root}
 use Rattle.nofs_model.specs.Image.{linked}
 use Rattle.nofs_model.specs.Definitions.{bytes, IsEntry, IsPair, IsAgreed, the_root, the_label, named, LawPairs}
 use Rattle.nofs_model.specs.declared.image.path.PathAnswer.{PathAnswer}
@@ -23,24 +26,30 @@ entry-fact : (X : Image) (d e : ℕ) (it : Entry) → IsEntry X d e it → entry
 entry-fact X d e it h =
     let v : value X d (e / 16) ≡ Bytes (cell_at X h.pointer.block).payload =
     fact-value X d (e / 16) (Bytes (cell_at X h.pointer.block).payload) (bytes h.pointer h.holds) in
-    let inside : entry_in_file (file_from X d (Some Folder)) e ≡ entry_held (value X d (e / 16)) e = rw (lt-ltb e entry_limit h.range) refl in
-    ap (λ (o : Option FileState). entry_in_file o e) (file-is X d (Some Folder) h.directory) ∙ inside ∙ ap (λ (q : Value). entry_held q e) v ∙ h.spelled
+    let inside : entry_in_file (file_from X d (Some Folder)) e ≡ entry_held (value X d (e / 16)) e =
+    rw (lt-ltb e entry_limit h.range) refl in
+    ap (λ (o : Option FileState). entry_in_file o e) (file-is X d (Some Folder) h.directory)
+    ∙ inside ∙ ap (λ (q : Value). entry_held q e) v ∙ h.spelled
 
 fact-entry : (X : Image) (d e : ℕ) (it : Entry) → entry_in_file (files_in X d) e ≡ Some it → IsEntry X d e it
 fact-entry X d e it h = by-kind (inode X d).kind refl h
   where
-    by-find : (inode X d).kind ≡ Some Folder → e < entry_limit → (f : PathAnswer) → find X d (path_of (e / 16)) ≡ f → entry_held (value_in X f) e ≡ Some it
+    by-find : (inode X d).kind ≡ Some Folder
+        → e < entry_limit → (f : PathAnswer) → find X d (path_of (e / 16)) ≡ f → entry_held (value_in X f) e ≡ Some it
         → IsEntry X d e it
     by-find k lt answer.Hole ef q = cc
     by-find k lt answer.Lost ef q = cc
-    by-find k lt (answer.Holds x) ef q = record { directory = k; range = lt; pointer = x; holds = find-holds X d (path_of (e / 16)) x ef; spelled = q }
+    by-find k lt (answer.Holds x) ef q =
+        record { directory = k; range = lt; pointer = x; holds = find-holds X d (path_of (e / 16)) x ef; spelled = q }
 
-    by-range : (inode X d).kind ≡ Some Folder → (b : Bool) → ltb e entry_limit ≡ b → cond b (entry_held (value X d (e / 16)) e) None ≡ Some it
+    by-range : (inode X d).kind ≡ Some Folder
+        → (b : Bool) → ltb e entry_limit ≡ b → cond b (entry_held (value X d (e / 16)) e) None ≡ Some it
         → IsEntry X d e it
     by-range k true eb q = by-find k (ltb-true e entry_limit eb) (find X d (path_of (e / 16))) refl q
     by-range k false eb q = cc
 
-    by-kind : (k : Option FileKind) → (inode X d).kind ≡ k → entry_in_file (file_from X d k) e ≡ Some it → IsEntry X d e it
+    by-kind : (k : Option FileKind) → (inode X d).kind ≡ k → entry_in_file (file_from X d k) e ≡ Some it
+        → IsEntry X d e it
     by-kind None ek q = cc
     by-kind (Some File) ek q = cc
     by-kind (Some Folder) ek q = by-range ek (ltb e entry_limit) refl q
@@ -57,8 +66,10 @@ older-fact Folder g h e s = ltb-true g h e
 some-kind : (a b : FileKind) → Some a ≡ Some b → a ≡ b
 some-kind a b e = cc e
 
-names-test : (o : Option Entry) (it : Entry) (i g : ℕ) → o ≡ Some it → it.inode ≡ i → it.generation ≡ g → names o i g ≡ true
-names-test o it i g e ei eg = ap (λ (q : Option Entry). names q i g) e ∙ rw (eq-eqb it.inode i ei, eq-eqb it.generation g eg) refl
+names-test : (o : Option Entry) (it : Entry) (i g : ℕ) → o ≡ Some it
+    → it.inode ≡ i → it.generation ≡ g → names o i g ≡ true
+names-test o it i g e ei eg = ap (λ (q : Option Entry). names q i g) e
+    ∙ rw (eq-eqb it.inode i ei, eq-eqb it.generation g eg) refl
 
 pub pair-test : (X : Image) (i : ℕ) (link : BackLink) → IsPair X i link → is_pair (files_in X) i link ≡ true
 pair-test X i link h = by-kind (inode X i).kind refl
@@ -71,8 +82,10 @@ pair-test X i link h = by-kind (inode X i).kind refl
         let named : names (entry_in_file (files_in X link.directory) link.entry) i (inode X i).generation ≡ true =
         names-test (entry_in_file (files_in X link.directory) link.entry) h.entry i (inode X i).generation
         (entry-fact X link.directory link.entry h.entry h.there) h.names_inode h.names_generation in
-        let named' : names (entry_in_file (file_from X link.directory (Some Folder)) link.entry) i (inode X i).generation ≡ true =
-        subst (λ (o : Option FileState). names (entry_in_file o link.entry) i (inode X i).generation ≡ true) parent named in
+        let named' : names (entry_in_file (file_from X link.directory (Some Folder)) link.entry) i
+        (inode X i).generation ≡ true =
+        subst (λ (o : Option FileState). names (entry_in_file o link.entry) i
+        (inode X i).generation ≡ true) parent named in
         let older = older-test k link.generation (inode X i).generation (λ s. h.older (ek ∙ ap Some s)) in
         let whole : pairs (file_from X i (Some k)) (file_from X link.directory (Some Folder)) i link ≡ true =
         rw (eq-eqb (inode X link.directory).generation link.generation h.generation, named', older) refl in
@@ -80,7 +93,8 @@ pair-test X i link h = by-kind (inode X i).kind refl
         ∙ ap (λ (o : Option FileState). pairs (file_from X i (Some k)) o i link) parent ∙ whole
 
 -- what an entry that names an inode is
-named-by : (o : Option Entry) (i g : ℕ) → names o i g ≡ true → (it : Entry) × (o ≡ Some it) × (it.inode ≡ i) × (it.generation ≡ g)
+named-by : (o : Option Entry) (i g : ℕ) → names o i g ≡ true → (it : Entry) × (o ≡ Some it) × (it.inode ≡ i)
+    × (it.generation ≡ g)
 named-by None i g e = cc
 named-by (Some it) i g e =
     let p = and-both (eqb it.inode i) (eqb it.generation g) e in
@@ -97,21 +111,25 @@ test-pair X i link h = by-own (inode X i).kind refl h
         let a = and-both (eqb (inode X link.directory).generation link.generation)
         (names (entry_in_file (file_from X link.directory (Some Folder)) link.entry) i (inode X i).generation
         && (not (is_folder k) || ltb link.generation (inode X i).generation)) q in
-        let b = and-both (names (entry_in_file (file_from X link.directory (Some Folder)) link.entry) i (inode X i).generation)
+        let b = and-both
+        (names (entry_in_file (file_from X link.directory (Some Folder)) link.entry) i (inode X i).generation)
         (not (is_folder k) || ltb link.generation (inode X i).generation) a.1 in
-        let (it, there, ei, eg) = named-by (entry_in_file (file_from X link.directory (Some Folder)) link.entry) i (inode X i).generation b.0 in
+        let (it, there, ei, eg) = named-by (entry_in_file (file_from X link.directory (Some Folder)) link.entry) i
+        (inode X i).generation b.0 in
         let parent = file-is X link.directory (Some Folder) ed in
         record {
           live = ap is_some ek;
           generation = eqb-true (inode X link.directory).generation link.generation a.0;
           entry = it;
-          there = fact-entry X link.directory link.entry it (ap (λ (o : Option FileState). entry_in_file o link.entry) parent ∙ there);
+          there = fact-entry X link.directory link.entry it
+              (ap (λ (o : Option FileState). entry_in_file o link.entry) parent ∙ there);
           names_inode = ei;
           names_generation = eg;
           older = λ s. older-fact k link.generation (inode X i).generation b.1 (some-kind k Folder (sym ek ∙ s));
         }
 
-    by-own : (k : Option FileKind) → (inode X i).kind ≡ k → pairs (file_from X i k) (files_in X link.directory) i link ≡ true → IsPair X i link
+    by-own : (k : Option FileKind)
+        → (inode X i).kind ≡ k → pairs (file_from X i k) (files_in X link.directory) i link ≡ true → IsPair X i link
     by-own None ek q = cc
     by-own (Some k) ek q = by-parent k ek (inode X link.directory).kind refl q
 
@@ -135,20 +153,24 @@ pair-live X i l = go (inode X i).kind refl
 
 pub agreed-relation : (X : Image) (i : ℕ) → IsAgreed X i → Agreed (files_in X) i
 agreed-relation X _ (the_root k g) =
-    let one : is_a Folder 1 (files_in X 1) ≡ true = ap (is_a Folder 1) (file-is X 1 (Some Folder) k) ∙ eq-eqb (inode X 1).generation 1 g in
+    let one : is_a Folder 1 (files_in X 1) ≡ true = ap (is_a Folder 1) (file-is X 1 (Some Folder) k)
+    ∙ eq-eqb (inode X 1).generation 1 g in
     root (rw one refl)
 agreed-relation X _ (the_label k g) =
-    let one : is_a File 2 (files_in X 2) ≡ true = ap (is_a File 2) (file-is X 2 (Some File) k) ∙ eq-eqb (inode X 2).generation 2 g in
+    let one : is_a File 2 (files_in X 2) ≡ true = ap (is_a File 2) (file-is X 2 (Some File) k)
+    ∙ eq-eqb (inode X 2).generation 2 g in
     root one
 agreed-relation X i (named link a b there pair up) =
-    linked link (special-not i a b) (subst (λ (q : List BackLink). Contains q link) (sym (pair-live X i pair.live)) there) (pair-test X i link pair)
+    linked link (special-not i a b)
+    (subst (λ (q : List BackLink). Contains q link) (sym (pair-live X i pair.live)) there) (pair-test X i link pair)
     (agreed-relation X link.directory up)
 
 or-cases : (a b : Bool) → (a || b) ≡ true → (a ≡ true) ⊎ (b ≡ true)
 or-cases true b e = inl refl
 or-cases false b e = inr e
 
-kind-of : (X : Image) (i : ℕ) (kind : FileKind) (g : ℕ) → is_a kind g (files_in X i) ≡ true → ((inode X i).kind ≡ Some kind) × ((inode X i).generation ≡ g)
+kind-of : (X : Image) (i : ℕ) (kind : FileKind) (g : ℕ)
+    → is_a kind g (files_in X i) ≡ true → ((inode X i).kind ≡ Some kind) × ((inode X i).generation ≡ g)
 kind-of X i kind g e = go kind (inode X i).kind refl e
   where
     go : (kind : FileKind) (k : Option FileKind) → (inode X i).kind ≡ k → is_a kind g (file_from X i k) ≡ true
@@ -161,23 +183,25 @@ kind-of X i kind g e = go kind (inode X i).kind refl e
     go File (Some File) ek q = (ek, eqb-true (inode X i).generation g q)
 
 root-agreed : (X : Image) (i : ℕ) → is_root (files_in X) i ≡ true → IsAgreed X i
-root-agreed X i e = elim (or-cases ((eqb i 1) && is_a Folder 1 (files_in X 1)) ((eqb i 2) && is_a File 2 (files_in X 2)) e) [
-  | inl q ↦
-      let p = and-both (eqb i 1) (is_a Folder 1 (files_in X 1)) q in
-      let k = kind-of X 1 Folder 1 p.1 in
-      subst (λ (j : ℕ). IsAgreed X j) (sym (eqb-true i 1 p.0)) (the_root k.0 k.1)
-  | inr q ↦
-      let p = and-both (eqb i 2) (is_a File 2 (files_in X 2)) q in
-      let k = kind-of X 2 File 2 p.1 in
-      subst (λ (j : ℕ). IsAgreed X j) (sym (eqb-true i 2 p.0)) (the_label k.0 k.1)
-]
+root-agreed X i e =
+    elim (or-cases ((eqb i 1) && is_a Folder 1 (files_in X 1)) ((eqb i 2) && is_a File 2 (files_in X 2)) e) [
+      | inl q ↦
+          let p = and-both (eqb i 1) (is_a Folder 1 (files_in X 1)) q in
+          let k = kind-of X 1 Folder 1 p.1 in
+          subst (λ (j : ℕ). IsAgreed X j) (sym (eqb-true i 1 p.0)) (the_root k.0 k.1)
+      | inr q ↦
+          let p = and-both (eqb i 2) (is_a File 2 (files_in X 2)) q in
+          let k = kind-of X 2 File 2 p.1 in
+          subst (λ (j : ℕ). IsAgreed X j) (sym (eqb-true i 2 p.0)) (the_label k.0 k.1)
+    ]
 
 pub relation-agreed : (X : Image) (i : ℕ) → Agreed (files_in X) i → IsAgreed X i
 relation-agreed X i (root r) = root-agreed X i r
 relation-agreed X i (linked link plain there pair up) =
     let p = test-pair X i link pair in
     let n = not-special i plain in
-    named link n.0 n.1 (subst (λ (q : List BackLink). Contains q link) (pair-live X i p.live) there) p (relation-agreed X link.directory up)
+    named link n.0 n.1 (subst (λ (q : List BackLink). Contains q link) (pair-live X i p.live) there) p
+    (relation-agreed X link.directory up)
 
 pub agreed-fact : (X : Image) (i : ℕ) → agreed (files_in X) i ≡ true → IsAgreed X i
 agreed-fact X i e = relation-agreed X i (agreed-holds (files_in X) i e)

@@ -1,13 +1,18 @@
 -- A directory has one back link at most, so the way up from it does not branch.
-use Rattle.std.proofs.Common.{◌≡◌, ℕ, zero, suc, ◌+◌, ◌-◌, ◌*◌, ◌/◌, ◌%◌, ◌<◌, ◌≤◌, Bool, true, false, cond, eqb, leb, ltb, ◌&&◌, ◌||◌, not, List, [], ◌∷◌}
-use Rattle.std.proofs.Common.{length, get_or, Option, Some, None, refl, sym, ap, ◌∙◌, subst, arith, leb-true, eqb-true, ltb-false}
+use Rattle.std.proofs.Common.{◌≡◌, ℕ, zero, suc, ◌+◌, ◌-◌, ◌*◌, ◌/◌, ◌%◌, ◌<◌, ◌≤◌, Bool, true, false, cond, eqb, leb}
+use Rattle.std.proofs.Common.{ltb, ◌&&◌, ◌||◌, not, List, [], ◌∷◌}
+use Rattle.std.proofs.Common.{length, get_or, Option, Some, None, refl, sym, ap, ◌∙◌, subst, arith, leb-true, eqb-true}
+use Rattle.std.proofs.Common.{ltb-false}
 use Rattle.std.specs.List.{list_any, list_all, count_by, position, position_or_len}
 use Rattle.std.proofs.lemmas.List.Folds.{list_any_none}
 use Rattle.std.proofs.lemmas.List.Sums.{fails_before_first, sum_by-cons}
-use Rattle.nofs_inode.specs.InodeRecords.{allows_kind, allows_record, is_tidy_link, link_count, has_rest, record_with, record_or_free}
+use Rattle.nofs_inode.specs.InodeRecords.{allows_kind, allows_record, is_tidy_link, link_count, has_rest, record_with}
+use Rattle.nofs_inode.specs.InodeRecords.{record_or_free}
 use Rattle.nofs_inode.specs.declared.inode.FileKind.TheVariants.{File, Directory as Folder}
-use Rattle.nofs_model.specs.Cells.{FileKind, BackLink, Record, is_null, is_empty_link, free_record, record_of, record_at, fields_in}
-use Rattle.nofs_model.specs.Image.{Image, cell_at, is_inode, inode, FileState, Files, file_from, files_in, is_folder, pairs, is_pair, agreed}
+use Rattle.nofs_model.specs.Cells.{FileKind, BackLink, Record, is_null, is_empty_link, free_record, record_of}
+use Rattle.nofs_model.specs.Cells.{record_at, fields_in}
+use Rattle.nofs_model.specs.Image.{Image, cell_at, is_inode, inode, FileState, Files, file_from, files_in, is_folder}
+use Rattle.nofs_model.specs.Image.{pairs, is_pair, agreed}
 use Rattle.nofs_model.specs.Image.{links_of, links_in_file, is_root, is_special}
 use Rattle.nofs_model.specs.Files.{has_agreed_link, IsParent}
 use Rattle.nofs_model.proofs.OnSlots.Find.{and-both}
@@ -27,7 +32,8 @@ module _ (P Q E : BackLink → Bool) (empty : (l : BackLink) → E l ≡ true �
       go false e = e
 
   -- the places that are full, counted one by one
-  counted : (x : BackLink) (xs : List BackLink) → count_by (λ l. not (E l)) (x ∷ xs) ≡ weight (E x) + count_by (λ l. not (E l)) xs
+  counted : (x : BackLink) (xs : List BackLink)
+      → count_by (λ l. not (E l)) (x ∷ xs) ≡ weight (E x) + count_by (λ l. not (E l)) xs
   counted x xs = sum_by-cons (λ l. cond (not (E l)) 1 0) x xs
 
   -- where no place is full, none passes
@@ -38,22 +44,27 @@ module _ (P Q E : BackLink → Bool) (empty : (l : BackLink) → E l ≡ true �
       let rest = none-full xs (omega (arith, e, n)) in
       go (E x) refl (omega (arith, e, n)) rest
     where
-      go : (b : Bool) → E x ≡ b → weight b ≡ 0 → list_any (λ l. P l && Q l) xs ≡ false → ((P x && Q x) || list_any (λ l. P l && Q l) xs) ≡ false
+      go : (b : Bool) → E x ≡ b → weight b ≡ 0 → list_any (λ l. P l && Q l) xs ≡ false
+          → ((P x && Q x) || list_any (λ l. P l && Q l) xs) ≡ false
       go true ex h rest = rw (empty x ex) rest
       go false ex h rest = absurd (omega (arith, h))
 
   -- a place that is full is counted
-  full-counts : (links : List BackLink) (i : ℕ) (d : BackLink) → i < length links → E (get_or links i d) ≡ false → 1 ≤ count_by (λ l. not (E l)) links
+  full-counts : (links : List BackLink) (i : ℕ) (d : BackLink) → i < length links
+      → E (get_or links i d) ≡ false → 1 ≤ count_by (λ l. not (E l)) links
   full-counts [] i d lt e = absurd (omega (arith, lt))
-  full-counts (x ∷ xs) zero d lt e = let n = counted x xs in let one : weight (E x) ≡ 1 = rw e refl in omega (arith, n, one)
-  full-counts (x ∷ xs) (suc i) d lt e = let rest = full-counts xs i d (omega (arith, lt)) e in let n = counted x xs in omega (arith, rest, n)
+  full-counts (x ∷ xs) zero d lt e = let n = counted x xs in let one : weight (E x) ≡ 1 = rw e refl in
+      omega (arith, n, one)
+  full-counts (x ∷ xs) (suc i) d lt e = let rest = full-counts xs i d (omega (arith, lt)) e in let n = counted x xs in
+      omega (arith, rest, n)
 
   or-false : (b : Bool) → (b || false) ≡ b
   or-false true = refl
   or-false false = refl
 
   -- where one place is full at most, what passes first decides
-  pub lone-any : (links : List BackLink) → count_by (λ l. not (E l)) links ≤ 1 → (i : ℕ) (d : BackLink) → i < length links → P (get_or links i d) ≡ true
+  pub lone-any : (links : List BackLink) → count_by (λ l. not (E l)) links ≤ 1 → (i : ℕ) (d : BackLink)
+      → i < length links → P (get_or links i d) ≡ true
       → list_any (λ l. P l && Q l) links ≡ Q (get_or links i d)
   lone-any [] few i d lt p = absurd (omega (arith, lt))
   lone-any (x ∷ xs) few zero d lt p =
@@ -72,26 +83,31 @@ module _ (P Q E : BackLink → Bool) (empty : (l : BackLink) → E l ≡ true �
       go false ex h rest = absurd (omega (arith, h))
 
 -- where nothing passes, nothing passes a sharper test
-pub none-any : (P Q : BackLink → Bool) (links : List BackLink) → position P links ≡ None → list_any (λ l. P l && Q l) links ≡ false
+pub none-any : (P Q : BackLink → Bool) (links : List BackLink)
+    → position P links ≡ None → list_any (λ l. P l && Q l) links ≡ false
 none-any P Q links e = go (ltb (position_or_len P links) (length links)) refl e
   where
-    go : (b : Bool) → ltb (position_or_len P links) (length links) ≡ b → cond b (Some (position_or_len P links)) None ≡ None
+    go : (b : Bool)
+        → ltb (position_or_len P links) (length links) ≡ b → cond b (Some (position_or_len P links)) None ≡ None
         → list_any (λ l. P l && Q l) links ≡ false
     go true eb h = cc
     go false eb h =
         let all : length links ≤ position_or_len P links = ltb-false (position_or_len P links) (length links) eb in
-        list_any_none (λ l. P l && Q l) links (λ k d lt. rw (fails_before_first P links k d (omega (arith, lt, all))) refl)
+        list_any_none (λ l. P l && Q l) links
+        (λ k d lt. rw (fails_before_first P links k d (omega (arith, lt, all))) refl)
 
 -- the record of a directory has one back link at most
 links-with : (at : ℕ) (bytes : List ℕ) (r : Record) → (record_or_free (record_with at bytes r)).kind ≡ Some Folder
     → link_count (record_or_free (record_with at bytes r)).links ≤ 1
 links-with at bytes r e = go (has_rest at bytes r && allows_record r.kind r) refl e
   where
-    go : (b : Bool) → (has_rest at bytes r && allows_record r.kind r) ≡ b → (record_or_free (cond b (Some r) None)).kind ≡ Some Folder
+    go : (b : Bool) → (has_rest at bytes r && allows_record r.kind r) ≡ b
+        → (record_or_free (cond b (Some r) None)).kind ≡ Some Folder
         → link_count (record_or_free (cond b (Some r) None)).links ≤ 1
     go true eb k =
         let allowed = (and-both (has_rest at bytes r) (allows_record r.kind r) eb).1 in
-        let folder : allows_record (Some Folder) r ≡ true = subst (λ (q : Option FileKind). allows_record q r ≡ true) k allowed in
+        let folder : allows_record (Some Folder) r ≡ true =
+        subst (λ (q : Option FileKind). allows_record q r ≡ true) k allowed in
         let parts = and-both (leb 1 r.generation && list_all is_tidy_link r.links) (allows_kind Folder r) folder in
         let sizes = and-both ((eqb r.size 0) && leb (link_count r.links) 1) (is_null r.top) parts.1 in
         leb-true (link_count r.links) 1 (and-both (eqb r.size 0) (leb (link_count r.links) 1) sizes.0).1
@@ -101,9 +117,12 @@ pub few-links : (X : Image) (i : ℕ) → (inode X i).kind ≡ Some Folder → l
 unfolding inode record_at record_of
 few-links X i e = go (is_inode X i) e
   where
-    go : (b : Bool) → (cond b (record_or_free (record_of ((i - 1) % 4) (cell_at X (1 + (i - 1) / 4)).payload)) free_record).kind ≡ Some Folder
-        → link_count (cond b (record_or_free (record_of ((i - 1) % 4) (cell_at X (1 + (i - 1) / 4)).payload)) free_record).links ≤ 1
-    go true k = links-with (256 * ((i - 1) % 4)) (cell_at X (1 + (i - 1) / 4)).payload (fields_in (256 * ((i - 1) % 4)) (cell_at X (1 + (i - 1) / 4)).payload) k
+    go : (b : Bool) → (cond b
+        (record_or_free (record_of ((i - 1) % 4) (cell_at X (1 + (i - 1) / 4)).payload)) free_record).kind ≡ Some Folder
+        → link_count
+        (cond b (record_or_free (record_of ((i - 1) % 4) (cell_at X (1 + (i - 1) / 4)).payload)) free_record).links ≤ 1
+    go true k = links-with (256 * ((i - 1) % 4))
+        (cell_at X (1 + (i - 1) / 4)).payload (fields_in (256 * ((i - 1) % 4)) (cell_at X (1 + (i - 1) / 4)).payload) k
     go false k = cc
 
 some-same : (a b : FileState) → Some a ≡ Some b → a ≡ b
@@ -171,15 +190,19 @@ parent-is X i folder k d e =
     record {
       directory = parent.kind ∙ ap Some (folder-kind p.parent.kind p.parent_folder);
       older = omega (arith, older, pg, og, dg);
-      same = ap (λ (q : List BackLink). list_any (λ l. is_pair (files_in X) i l && agreed (files_in X) l.directory) q) (links-of X i folder)
-          ∙ lone-any (λ l. is_pair (files_in X) i l) (λ l. agreed (files_in X) l.directory) is_empty_link (empty-unpaired X i) (inode X i).links
+      same = ap (λ (q : List BackLink). list_any (λ l. is_pair (files_in X) i l && agreed (files_in X) l.directory) q)
+          (links-of X i folder)
+          ∙ lone-any (λ l. is_pair (files_in X) i l) (λ l. agreed (files_in X) l.directory) is_empty_link
+          (empty-unpaired X i) (inode X i).links
           (few-links X i folder) k d at.0 pair;
     }
 
-pub no-parent : (X : Image) (i : ℕ) → (inode X i).kind ≡ Some Folder → position (λ link. is_pair (files_in X) i link) (inode X i).links ≡ None
+pub no-parent : (X : Image) (i : ℕ) → (inode X i).kind ≡ Some Folder
+    → position (λ link. is_pair (files_in X) i link) (inode X i).links ≡ None
     → has_agreed_link (files_in X) i ≡ false
 no-parent X i folder e =
-    ap (λ (q : List BackLink). list_any (λ l. is_pair (files_in X) i l && agreed (files_in X) l.directory) q) (links-of X i folder)
+    ap (λ (q : List BackLink). list_any (λ l. is_pair (files_in X) i l && agreed (files_in X) l.directory) q)
+    (links-of X i folder)
     ∙ none-any (λ l. is_pair (files_in X) i l) (λ l. agreed (files_in X) l.directory) (inode X i).links e
 
 -- what is not a root is agreed by a link
@@ -194,10 +217,12 @@ pub root-is : (F : Files) (i : ℕ) → is_root F i ≡ true → agreed F i ≡ 
 root-is F i r = agreed-is F i ∙ rw r refl
 
 -- the same with the record that was read
-pub parent-read : (X : Image) (i : ℕ) (r : Record) → inode X i ≡ r → (inode X i).kind ≡ Some Folder → (k : ℕ) (d : BackLink)
+pub parent-read : (X : Image) (i : ℕ) (r : Record) → inode X i ≡ r → (inode X i).kind ≡ Some Folder
+    → (k : ℕ) (d : BackLink)
     → position (λ link. is_pair (files_in X) i link) r.links ≡ Some k
     → IsParent X i (get_or r.links k d).directory
-parent-read X i r same folder k d = subst (λ (q : Record). position (λ link. is_pair (files_in X) i link) q.links ≡ Some k
+parent-read X i r same folder k d =
+    subst (λ (q : Record). position (λ link. is_pair (files_in X) i link) q.links ≡ Some k
     → IsParent X i (get_or q.links k d).directory) same (parent-is X i folder k d)
 
 pub no-parent-read : (X : Image) (i : ℕ) (r : Record) → inode X i ≡ r → (inode X i).kind ≡ Some Folder
@@ -210,17 +235,24 @@ pairs-unlive d i l = refl
 
 -- the back links of a record decide, live or not
 pub any-links : (X : Image) (i : ℕ) (r : Record) → inode X i ≡ r
-    → list_any (λ l. is_pair (files_in X) i l && agreed (files_in X) l.directory) r.links ≡ has_agreed_link (files_in X) i
-any-links X i r same = ap (λ (q : Record). list_any (λ l. is_pair (files_in X) i l && agreed (files_in X) l.directory) q.links) (sym same)
+    → list_any (λ l. is_pair (files_in X) i l && agreed (files_in X) l.directory) r.links
+    ≡ has_agreed_link (files_in X) i
+any-links X i r same =
+    ap (λ (q : Record). list_any (λ l. is_pair (files_in X) i l && agreed (files_in X) l.directory) q.links) (sym same)
     ∙ go (inode X i).kind refl
   where
-    go : (k : Option FileKind) → (inode X i).kind ≡ k → list_any (λ l. is_pair (files_in X) i l && agreed (files_in X) l.directory)
+    go : (k : Option FileKind)
+        → (inode X i).kind ≡ k → list_any (λ l. is_pair (files_in X) i l && agreed (files_in X) l.directory)
         (inode X i).links ≡ has_agreed_link (files_in X) i
     go None e =
         let none : files_in X i ≡ None = ap (file_from X i) e in
         let off : (l : BackLink) → (is_pair (files_in X) i l && agreed (files_in X) l.directory) ≡ false =
-        λ l. ap (λ (o : Option FileState). pairs o (files_in X l.directory) i l && agreed (files_in X) l.directory) none in
-        list_any_none (λ l. is_pair (files_in X) i l && agreed (files_in X) l.directory) (inode X i).links (λ k d lt. off (get_or (inode X i).links k d))
-        ∙ sym (ap (λ (o : Option FileState). list_any (λ l. is_pair (files_in X) i l && agreed (files_in X) l.directory) (links_in_file o)) none)
-    go (Some kind) e = sym (ap (λ (o : Option FileState). list_any (λ l. is_pair (files_in X) i l && agreed (files_in X) l.directory) (links_in_file o))
+        λ l. ap (λ (o : Option FileState). pairs o (files_in X l.directory) i l
+        && agreed (files_in X) l.directory) none in
+        list_any_none (λ l. is_pair (files_in X) i l && agreed (files_in X) l.directory)
+        (inode X i).links (λ k d lt. off (get_or (inode X i).links k d))
+        ∙ sym (ap (λ (o : Option FileState). list_any (λ l. is_pair (files_in X) i l && agreed (files_in X) l.directory)
+        (links_in_file o)) none)
+    go (Some kind) e = sym (ap (λ (o : Option FileState).
+        list_any (λ l. is_pair (files_in X) i l && agreed (files_in X) l.directory) (links_in_file o))
         (ap (file_from X i) e))

@@ -1,5 +1,6 @@
 -- What the cell of a superblock spells.
-use Rattle.std.proofs.Common.{◌≡◌, ℕ, ◌^◌, ◌<◌, Bool, true, false, cond, ◌||◌, eqb, eqb-true, List, Some, None, refl, arith}
+use Rattle.std.proofs.Common.{◌≡◌, ℕ, ◌^◌, ◌<◌, Bool, true, false, cond, ◌||◌, eqb, eqb-true, List, Some, None, refl}
+use Rattle.std.proofs.Common.{arith}
 use Rattle.nofs_disk.specs.OneSpelling.{SpellsTag-tag_bytes, tag_of-spells}
 use Rattle.nofs_disk.specs.Tag.{tag_bytes}
 use Rattle.nofs_super.specs.Format.{super_cell}
@@ -39,7 +40,8 @@ super_tag = record { kind = Super; inode = 0; generation = 0; slot = 0; stamp = 
 tag-spelled : tag_of (tag_bytes super_tag) ≡ Some super_tag
 tag-spelled =
     tag_of-spells (tag_bytes super_tag) super_tag
-    (SpellsTag-tag_bytes super_tag (record { inode = omega arith; generation = omega arith; slot = omega arith; stamp = omega arith }) tt)
+    (SpellsTag-tag_bytes super_tag
+    (record { inode = omega arith; generation = omega arith; slot = omega arith; stamp = omega arith }) tt)
 
 pub super-tag : (it : SuperBlock) → tag_of (super_cell it).tag ≡ Some super_tag
 unfolding super_cell

@@ -1,8 +1,10 @@
 -- The formats, at bytes that stand in their document.
 use Rattle.std.proofs.Common.{◌≡◌, ℕ, ◌+◌, ◌^◌, List, [], ◌∷◌, ◌++◌, Some, replicate, refl, true}
-use Rattle.nofs_model.specs.Cells.{no_link, FileKind, Record, number_at, fields_in, record_at, Cell, Content, File, tag_of, pointer_at, pointer_in}
+use Rattle.nofs_model.specs.Cells.{no_link, FileKind, Record, number_at, fields_in, record_at, Cell, Content, File}
+use Rattle.nofs_model.specs.Cells.{tag_of, pointer_at, pointer_in}
 use Rattle.nofs_model.specs.Cells.{record_of, entry_of, null, link_in}
-use Rattle.nofs_model.specs.Image.{is_super, is_geometry, Image, find, InRecord, value, files_in, agreed, owner, inode, super_at, is_mountable}
+use Rattle.nofs_model.specs.Image.{is_super, is_geometry, Image, find, InRecord, value, files_in, agreed, owner, inode}
+use Rattle.nofs_model.specs.Image.{super_at, is_mountable}
 use Rattle.nofs_model.specs.Image.{path_of, slot_of, home_at}
 use Rattle.nofs_super.specs.Geometry.{format_fault}
 use Rattle.nofs_model.specs.declared.image.value.Value.TheVariants.{Lost}
@@ -40,7 +42,8 @@ record_vector : record_of 0 (2 ∷ z 7 ++ 1 ∷ z 3 ++ z 4 ++ 3 ∷ z 7 ++ z 8 +
 unfolding record_of record_at pointer_at number_at pointer_in link_in fields_in
 record_vector = refl
 
-entry_vector : entry_of (3 ∷ 0 ∷ 0 ∷ 0 ∷ 1 ∷ 0 ∷ 0 ∷ 0 ∷ z 5 ++ 1 ∷ 0 ∷ 0 ∷ 97 ∷ z 47) ≡ Some (record { inode = 3; generation = 2 ^ 40; name = 97 ∷ [] })
+entry_vector : entry_of (3 ∷ 0 ∷ 0 ∷ 0 ∷ 1 ∷ 0 ∷ 0 ∷ 0 ∷ z 5 ++ 1 ∷ 0 ∷ 0 ∷ 97 ∷ z 47)
+    ≡ Some (record { inode = 3; generation = 2 ^ 40; name = 97 ∷ [] })
 unfolding entry_of entry_fields is_name number_at
 entry_vector = refl
 
@@ -48,7 +51,8 @@ entry_vector = refl
 abbrev pub table : List ℕ
 table = (1 ∷ z 7 ++ 2 ∷ z 3 ++ z 4 ++ z 8 ++ z 8 ++ z 64 ++ 6 ∷ z 7 ++ z 5 ++ 1 ∷ 0 ∷ 0 ∷ z 112 ++ z 32)
     ++ (2 ∷ z 7 ++ 1 ∷ z 3 ++ z 4 ++ z 8 ++ z 8 ++ z 224)
-    ++ (1 ∷ z 4 ++ 1 ∷ 0 ∷ 0 ∷ 1 ∷ z 3 ++ 1 ∷ z 3 ++ 1 ∷ z 7 ++ z 8 ++ 1 ∷ z 3 ++ z 4 ++ 1 ∷ z 7 ++ z 48 ++ 7 ∷ z 7 ++ 2 ∷ z 4 ++ 1 ∷ 0 ∷ 0 ∷ z 112 ++ z 32)
+    ++ (1 ∷ z 4 ++ 1 ∷ 0 ∷ 0 ∷ 1 ∷ z 3 ++ 1 ∷ z 3 ++ 1 ∷ z 7 ++ z 8 ++ 1 ∷ z 3 ++ z 4 ++ 1 ∷ z 7 ++ z 48 ++ 7 ∷ z 7
+    ++ 2 ∷ z 4 ++ 1 ∷ 0 ∷ 0 ∷ z 112 ++ z 32)
     ++ z 256
 
 abbrev pub cell : List ℕ → List ℕ → Cell
@@ -58,11 +62,14 @@ abbrev pub blank : Cell
 blank = cell (z 1024) (z 32)
 
 abbrev pub image : ℕ → Image
-image stamp = cell (78 ∷ 111 ∷ 70 ∷ 83 ∷ 118 ∷ 48 ∷ 48 ∷ 49 ∷ 1 ∷ z 3 ++ z 4 ++ 16 ∷ z 7 ++ 4 ∷ z 7 ++ 1 ∷ z 7 ++ z 984) (5 ∷ z 31)
+image stamp = cell (78 ∷ 111 ∷ 70 ∷ 83 ∷ 118 ∷ 48 ∷ 48 ∷ 49 ∷ 1 ∷ z 3 ++ z 4 ++ 16 ∷ z 7 ++ 4 ∷ z 7 ++ 1 ∷ z 7
+    ++ z 984) (5 ∷ z 31)
     ∷ cell table (4 ∷ z 3 ++ z 4 ++ z 8 ++ 1 ∷ z 7 ++ z 8)
     ∷ blank ∷ blank ∷ blank ∷ blank
-    ∷ cell (3 ∷ z 3 ++ 1 ∷ z 3 ++ 1 ∷ z 4 ++ 1 ∷ 0 ∷ 0 ∷ 97 ∷ z 47 ++ z 960) (2 ∷ z 3 ++ 1 ∷ z 3 ++ 1 ∷ z 7 ++ z 8 ++ z 5 ++ 1 ∷ 0 ∷ 0 ∷ [])
-    ∷ cell (111 ∷ 108 ∷ 100 ∷ z 1021) (1 ∷ z 3 ++ 3 ∷ z 3 ++ 1 ∷ z 4 ++ 1 ∷ 0 ∷ 0 ∷ z 8 ++ stamp ∷ z 4 ++ 1 ∷ 0 ∷ 0 ∷ [])
+    ∷ cell (3 ∷ z 3 ++ 1 ∷ z 3 ++ 1 ∷ z 4 ++ 1 ∷ 0 ∷ 0 ∷ 97 ∷ z 47 ++ z 960)
+    (2 ∷ z 3 ++ 1 ∷ z 3 ++ 1 ∷ z 7 ++ z 8 ++ z 5 ++ 1 ∷ 0 ∷ 0 ∷ [])
+    ∷ cell (111 ∷ 108 ∷ 100 ∷ z 1021)
+    (1 ∷ z 3 ++ 3 ∷ z 3 ++ 1 ∷ z 4 ++ 1 ∷ 0 ∷ 0 ∷ z 8 ++ stamp ∷ z 4 ++ 1 ∷ 0 ∷ 0 ∷ [])
     ∷ blank ∷ blank ∷ blank ∷ blank ∷ blank ∷ blank ∷ blank ∷ blank ∷ []
 
 mountable : is_mountable (image 2) ≡ true
@@ -76,15 +83,18 @@ holds = refl
 
 -- all but the stamp agree: the slot is lost
 lost : value (image 3) 3 0 ≡ Lost
-unfolding super_at super_in inode record_of record_at pointer_at tag_of slot_of path_of number_at pointer_in link_in fields_in
+unfolding super_at super_in inode record_of record_at pointer_at tag_of slot_of path_of number_at pointer_in
+    link_in fields_in
 lost = refl
 
 named : agreed (files_in (image 2)) 3 ≡ true
-unfolding super_at super_in inode record_of record_at pointer_at tag_of slot_of path_of agreed entry_of entry_fields is_name number_at pointer_in link_in
+unfolding super_at super_in inode record_of record_at pointer_at tag_of slot_of path_of agreed entry_of entry_fields
+    is_name number_at pointer_in link_in
     fields_in
 named = refl
 
 owned : owner (image 2) 7 ≡ Some (home_at 3 0)
-unfolding super_at super_in inode record_of record_at pointer_at tag_of slot_of path_of agreed entry_of entry_fields is_name owner number_at pointer_in
+unfolding super_at super_in inode record_of record_at pointer_at tag_of slot_of path_of agreed entry_of entry_fields
+    is_name owner number_at pointer_in
     link_in fields_in
 owned = refl

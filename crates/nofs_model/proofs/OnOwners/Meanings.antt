@@ -1,7 +1,9 @@
 -- An owner, a used inode and a used block are what the computing words say.
-use Rattle.std.proofs.Common.{◌≡◌, ℕ, ◌/◌, ◌⊎◌, inl, inr, Bool, true, false, eqb, ◌||◌, Option, Some, None, is_some, refl, sym, ◌∙◌, subst₂, eqb-true, eq-eqb}
+use Rattle.std.proofs.Common.{◌≡◌, ℕ, ◌/◌, ◌⊎◌, inl, inr, Bool, true, false, eqb, ◌||◌, Option, Some, None, is_some}
+use Rattle.std.proofs.Common.{refl, sym, ◌∙◌, subst₂, eqb-true, eq-eqb}
 use Rattle.std.proofs.Common.{leb-true, le-leb}
-use Rattle.nofs_model.specs.Image.{Image, super_at, path_of, files_in, agreed, owner, Home, home_at, is_special, is_used_inode, is_fixed_block}
+use Rattle.nofs_model.specs.Image.{Image, super_at, path_of, files_in, agreed, owner, Home, home_at, is_special}
+use Rattle.nofs_model.specs.Image.{is_used_inode, is_fixed_block}
 use Rattle.nofs_model.specs.Image.{is_used_block}
 use Rattle.nofs_model.specs.Definitions.{IsOwner, IsUsedInode, IsUsedBlock, LawOwners}
 use Rattle.nofs_model.proofs.OnSlots.Paths.{path_of-number}
@@ -12,13 +14,20 @@ use Rattle.nofs_model.proofs.OnFiles.Meanings.{agreed-fact, fact-agreed}
 fact-owner : (X : Image) (p i k : ℕ) → IsOwner X p i k → owner X p ≡ Some (home_at i k)
 fact-owner X p i k h =
     let s = path_of-number k h.slot in
-    let o = owner-of X i (path_of k) h.pointer s.0 (fact-agreed X i h.agreed) (holds-find X i (path_of k) h.pointer h.holds) in
+    let o = owner-of X i (path_of k) h.pointer s.0 (fact-agreed X i h.agreed)
+    (holds-find X i (path_of k) h.pointer h.holds) in
     subst₂ (λ (q r : ℕ). owner X q ≡ Some (home_at i r)) h.names s.1 o
 
 owner-fact : (X : Image) (p i k : ℕ) → owner X p ≡ Some (home_at i k) → IsOwner X p i k
 owner-fact X p i k e =
     let (x, a, f, b) = owner-holds X p i k e in
-    record { agreed = agreed-fact X i a; slot = owner-slot X p i k e; pointer = x; holds = find-holds X i (path_of k) x f; names = b }
+    record {
+      agreed = agreed-fact X i a;
+      slot = owner-slot X p i k e;
+      pointer = x;
+      holds = find-holds X i (path_of k) x f;
+      names = b;
+    }
 
 one-owner : (X : Image) (p i k j l : ℕ) → IsOwner X p i k → IsOwner X p j l → (i ≡ j) × (k ≡ l)
 one-owner X p i k j l a b = same-home i k j l (sym (fact-owner X p i k a) ∙ fact-owner X p j l b)
@@ -39,7 +48,8 @@ used-inode X i (inr (inr e)) = rw (eq-eqb i 2 e, or-right (eqb i 1)) refl
 inode-used : (X : Image) (i : ℕ) → is_used_inode X i ≡ true → IsUsedInode X i
 inode-used X i e = elim (or-cases (is_special i) (agreed (files_in X) i) e) [
   | inr a ↦ inl (agreed-fact X i a)
-  | inl s ↦ elim (or-cases (eqb i 1) (eqb i 2) s) [ inl one ↦ inr (inl (eqb-true i 1 one)) | inr two ↦ inr (inr (eqb-true i 2 two)) ]
+  | inl s ↦ elim (or-cases (eqb i 1) (eqb i 2) s)
+      [ inl one ↦ inr (inl (eqb-true i 1 one)) | inr two ↦ inr (inr (eqb-true i 2 two)) ]
 ]
 
 used-block : (X : Image) (p : ℕ) → IsUsedBlock X p → is_used_block X p ≡ true

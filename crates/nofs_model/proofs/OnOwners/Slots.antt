@@ -1,9 +1,11 @@
 -- A block has an owner exactly where some agreed slot holds it, and then just that one.
-use Rattle.std.proofs.Common.{◌≡◌, ℕ, ◌≤◌, [], length, Bool, true, false, cond, eqb, ◌&&◌, Option, Some, None, refl, ap, ◌∙◌, subst, subst₂, eqb-true, eq-eqb}
+use Rattle.std.proofs.Common.{◌≡◌, ℕ, ◌≤◌, [], length, Bool, true, false, cond, eqb, ◌&&◌, Option, Some, None, refl, ap}
+use Rattle.std.proofs.Common.{◌∙◌, subst, subst₂, eqb-true, eq-eqb}
 use Rattle.std.proofs.lemmas.List.{get_or_past}
 use Rattle.nofs_disk.specs.Disk.{no_cell}
 use Rattle.nofs_model.specs.Cells.{Cell, Tag, Pointer, tag_of, number_at}
-use Rattle.nofs_model.specs.Image.{Image, cell_at, inode, files_in, agreed, Path, path_of, slot_of, IsSlot, is_slot, tag_for, find, owner_found}
+use Rattle.nofs_model.specs.Image.{Image, cell_at, inode, files_in, agreed, Path, path_of, slot_of, IsSlot, is_slot}
+use Rattle.nofs_model.specs.Image.{tag_for, find, owner_found}
 use Rattle.nofs_model.specs.Image.{owner_by, owner, IsFree, Home, home_at}
 use Rattle.nofs_model.specs.declared.image.path.PathAnswer.{PathAnswer}
 use Rattle.nofs_model.specs.declared.image.path.PathAnswer.TheVariants as answer
@@ -11,7 +13,8 @@ use Rattle.nofs_model.proofs.OnSlots.Find.{and-both, find-held}
 use Rattle.nofs_model.proofs.OnSlots.Paths.{path_of-slot_of, slot_of-slot}
 
 -- what an agreed slot holds is owned by it
-pub owner-of : (X : Image) (i : ℕ) (path : Path) (x : Pointer) → IsSlot path → agreed (files_in X) i ≡ true → find X i path ≡ answer.Holds x
+pub owner-of : (X : Image) (i : ℕ) (path : Path) (x : Pointer) → IsSlot path
+    → agreed (files_in X) i ≡ true → find X i path ≡ answer.Holds x
     → owner X x.block ≡ Some (home_at i (slot_of path))
 unfolding owner
 owner-of X i path x slot a e =
@@ -19,18 +22,22 @@ owner-of X i path x slot a e =
     let p : path_of (slot_of path) ≡ path = path_of-slot_of path slot in
     let f : find X i (path_of (slot_of path)) ≡ answer.Holds x = ap (λ (q : Path). find X i q) p ∙ e in
     let s : is_slot (slot_of path) ≡ true = slot_of-slot path slot in
-    let by : owner_by X x.block (Some (tag_for X i path x.stamp)) ≡ owner_found X x.block (tag_for X i path x.stamp) (find X i (path_of (slot_of path))) =
+    let by : owner_by X x.block (Some (tag_for X i path x.stamp)) ≡ owner_found X x.block (tag_for X i path x.stamp)
+    (find X i (path_of (slot_of path))) =
     rw s refl in
-    ap (λ (o : Option Tag). owner_by X x.block o) t ∙ by ∙ ap (λ (q : PathAnswer). owner_found X x.block (tag_for X i path x.stamp) q) f
+    ap (λ (o : Option Tag). owner_by X x.block o) t
+    ∙ by ∙ ap (λ (q : PathAnswer). owner_found X x.block (tag_for X i path x.stamp) q) f
     ∙ rw (eq-eqb x.block x.block refl, a) refl
 
 pub same-home : (a b i k : ℕ) → Some (home_at a b) ≡ Some (home_at i k) → (a ≡ i) × (b ≡ k)
-same-home a b i k e = let s : home_at a b ≡ home_at i k = cc e in (ap (λ (q : Home). q.inode) s, ap (λ (q : Home). q.slot) s)
+same-home a b i k e = let s : home_at a b ≡ home_at i k = cc e in
+    (ap (λ (q : Home). q.inode) s, ap (λ (q : Home). q.slot) s)
 
 pub unowned-free : (X : Image) (p : ℕ) → owner X p ≡ None → IsFree X p
 unowned-free X p none i path x slot a e eb =
     let o = owner-of X i path x slot a e in
-    let o' : owner X p ≡ Some (home_at i (slot_of path)) = subst (λ (q : ℕ). owner X q ≡ Some (home_at i (slot_of path))) eb o in
+    let o' : owner X p ≡ Some (home_at i (slot_of path)) =
+    subst (λ (q : ℕ). owner X q ≡ Some (home_at i (slot_of path))) eb o in
     cc (none, o')
 
 -- the slot of an owner's tag, where it is one
@@ -55,13 +62,15 @@ found-owner : (X : Image) (p i k : ℕ) → owner X p ≡ Some (home_at i k) →
 unfolding owner
 found-owner X p i k e = by-tag (tag_of (cell_at X p).tag) e
   where
-    by-find : (t : Tag) (f : PathAnswer) → is_slot t.slot ≡ true → find X t.inode (path_of t.slot) ≡ f → owner_found X p t f ≡ Some (home_at i k)
+    by-find : (t : Tag) (f : PathAnswer)
+        → is_slot t.slot ≡ true → find X t.inode (path_of t.slot) ≡ f → owner_found X p t f ≡ Some (home_at i k)
         → IsFound X p i k
     by-find t answer.Hole s ef h = cc
     by-find t answer.Lost s ef h = cc
     by-find t (answer.Holds x) s ef h = go ((eqb x.block p) && agreed (files_in X) t.inode) refl h
       where
-        go : (b : Bool) → ((eqb x.block p) && agreed (files_in X) t.inode) ≡ b → cond b (Some (home_at t.inode t.slot)) None ≡ Some (home_at i k)
+        go : (b : Bool) → ((eqb x.block p) && agreed (files_in X) t.inode) ≡ b
+            → cond b (Some (home_at t.inode t.slot)) None ≡ Some (home_at i k)
             → IsFound X p i k
         go false eb h = cc
         go true eb h =
@@ -79,7 +88,8 @@ found-owner X p i k e = by-tag (tag_of (cell_at X p).tag) e
 
     by-tag : (o : Option Tag) → owner_by X p o ≡ Some (home_at i k) → IsFound X p i k
     by-tag None h = cc
-    by-tag (Some t) h = let s = tag-slot X p t (home_at i k) h in by-find t (find X t.inode (path_of t.slot)) s.0 refl s.1
+    by-tag (Some t) h = let s = tag-slot X p t (home_at i k) h in
+        by-find t (find X t.inode (path_of t.slot)) s.0 refl s.1
 
 -- an owner is an agreed inode's slot that holds the block
 pub owner-holds : (X : Image) (p i k : ℕ) → owner X p ≡ Some (home_at i k)

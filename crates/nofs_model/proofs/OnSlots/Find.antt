@@ -1,10 +1,13 @@
 -- What it means that a slot holds, is empty or is broken.
-use Rattle.std.proofs.Common.{◌≡◌, ℕ, ◌⊎◌, inl, inr, Bool, true, false, cond, eqb, ◌&&◌, Option, Some, None, refl, sym, ap, subst, arith, eqb-true}
+use Rattle.std.proofs.Common.{◌≡◌, ℕ, ◌⊎◌, inl, inr, Bool, true, false, cond, eqb, ◌&&◌, Option, Some, None, refl, sym}
+use Rattle.std.proofs.Common.{ap, subst, arith, eqb-true}
 use Rattle.std.proofs.lemmas.Bool.Decides.{nat_tests}
-use Rattle.nofs_model.specs.Cells.{Kind, Nothing, Content, Directory, Leaf, Table, Super, Tag, Pointer, same_kind, same_tag, tag_of, is_null}
+use Rattle.nofs_model.specs.Cells.{Kind, Nothing, Content, Directory, Leaf, Table, Super, Tag, Pointer, same_kind}
+use Rattle.nofs_model.specs.Cells.{same_tag, tag_of, is_null}
 use Rattle.nofs_model.specs.Cells.{pointer_at, is_live}
 use Rattle.nofs_model.specs.declared.image.path.PathAnswer.{PathAnswer}
-use Rattle.nofs_model.specs.Image.{Image, cell_at, is_data_block, inode, Path, InRecord, Under, tag_for, is_tag, agrees, record_pointer, judged, find}
+use Rattle.nofs_model.specs.Image.{Image, cell_at, is_data_block, inode, Path, InRecord, Under, tag_for, is_tag, agrees}
+use Rattle.nofs_model.specs.Image.{record_pointer, judged, find}
 use Rattle.nofs_model.specs.Image.{pointer, AboveHolds}
 use Rattle.nofs_model.specs.declared.image.path.PathAnswer.TheVariants as answer
 
@@ -28,9 +31,11 @@ same_kind-true Super _ e = grind arith
 
 pub same_tag-true : (a b : Tag) → same_tag a b ≡ true → a ≡ b
 same_tag-true a b e =
-    let p = and-both (same_kind a.kind b.kind) ((eqb a.inode b.inode) && ((eqb a.generation b.generation) && ((eqb a.slot b.slot) && (eqb a.stamp b.stamp))))
+    let p = and-both (same_kind a.kind b.kind)
+    ((eqb a.inode b.inode) && ((eqb a.generation b.generation) && ((eqb a.slot b.slot) && (eqb a.stamp b.stamp))))
     e in
-    let q = and-both (eqb a.inode b.inode) ((eqb a.generation b.generation) && ((eqb a.slot b.slot) && (eqb a.stamp b.stamp))) p.1 in
+    let q = and-both (eqb a.inode b.inode)
+    ((eqb a.generation b.generation) && ((eqb a.slot b.slot) && (eqb a.stamp b.stamp))) p.1 in
     let r = and-both (eqb a.generation b.generation) ((eqb a.slot b.slot) && (eqb a.stamp b.stamp)) q.1 in
     let s = and-both (eqb a.slot b.slot) (eqb a.stamp b.stamp) r.1 in
     let k : a.kind ≡ b.kind = same_kind-true a.kind b.kind p.0 in
@@ -52,25 +57,33 @@ pub record Agrees (X : Image) (i : ℕ) (path : Path) (x : Pointer) : Type 0 whe
 
 pub agrees-true : (X : Image) (i : ℕ) (path : Path) (x : Pointer) → agrees X i path x ≡ true → Agrees X i path x
 agrees-true X i path x e =
-    let p = and-both (is_live (inode X i)) (is_data_block X x.block && is_tag (tag_of (cell_at X x.block).tag) (tag_for X i path x.stamp)) e in
-    let q = and-both (is_data_block X x.block) (is_tag (tag_of (cell_at X x.block).tag) (tag_for X i path x.stamp)) p.1 in
+    let p = and-both (is_live (inode X i))
+    (is_data_block X x.block && is_tag (tag_of (cell_at X x.block).tag) (tag_for X i path x.stamp)) e in
+    let q = and-both (is_data_block X x.block)
+    (is_tag (tag_of (cell_at X x.block).tag) (tag_for X i path x.stamp)) p.1 in
     record { live = p.0; area = q.0; tag = is_tag-true (tag_of (cell_at X x.block).tag) (tag_for X i path x.stamp) q.1 }
 
-pub judged-held : (X : Image) (i : ℕ) (path : Path) (z x : Pointer) → judged X i path z ≡ answer.Holds x → (z ≡ x) × Agrees X i path x × (is_null x ≡ false)
+pub judged-held : (X : Image) (i : ℕ) (path : Path) (z x : Pointer) → judged X i path z ≡ answer.Holds x
+    → (z ≡ x) × Agrees X i path x × (is_null x ≡ false)
 judged-held X i path z x e = go (is_null z) refl (agrees X i path z) refl e
   where
-    go : (n : Bool) → is_null z ≡ n → (a : Bool) → agrees X i path z ≡ a → cond n answer.Hole (cond a (answer.Holds z) answer.Lost) ≡ answer.Holds x
+    go : (n : Bool) → is_null z ≡ n → (a : Bool)
+        → agrees X i path z ≡ a → cond n answer.Hole (cond a (answer.Holds z) answer.Lost) ≡ answer.Holds x
         → (z ≡ x) × Agrees X i path x × (is_null x ≡ false)
     go true en a ea h = cc
     go false en true ea h =
-        let s : z ≡ x = cc in
-        (s, subst (λ (w : Pointer). Agrees X i path w) s (agrees-true X i path z ea), subst (λ (w : Pointer). is_null w ≡ false) s en)
+        let s : z ≡ x = cc in (
+          s,
+          subst (λ (w : Pointer). Agrees X i path w) s (agrees-true X i path z ea),
+          subst (λ (w : Pointer). is_null w ≡ false) s en,
+        )
     go false en false ea h = cc
 
 pub judged-null : (X : Image) (i : ℕ) (path : Path) (z : Pointer) → judged X i path z ≡ answer.Hole → is_null z ≡ true
 judged-null X i path z e = go (is_null z) refl (agrees X i path z) e
   where
-    go : (n : Bool) → is_null z ≡ n → (a : Bool) → cond n answer.Hole (cond a (answer.Holds z) answer.Lost) ≡ answer.Hole → is_null z ≡ true
+    go : (n : Bool) → is_null z ≡ n → (a : Bool)
+        → cond n answer.Hole (cond a (answer.Holds z) answer.Lost) ≡ answer.Hole → is_null z ≡ true
     go true en a h = en
     go false en true h = cc
     go false en false h = cc
@@ -105,11 +118,13 @@ find-held X i (Under a n) x e = go (find X i a) refl e
 
 -- a slot is empty where the one above it is, or where its pointer is null
 pub find-null : (X : Image) (i : ℕ) (a : Path) (n : ℕ) → find X i (Under a n) ≡ answer.Hole
-    → (find X i a ≡ answer.Hole) ⊎ ((y : Pointer) × (find X i a ≡ answer.Holds y) × (is_null (pointer_at (cell_at X y.block).payload n) ≡ true))
+    → (find X i a ≡ answer.Hole)
+    ⊎ ((y : Pointer) × (find X i a ≡ answer.Holds y) × (is_null (pointer_at (cell_at X y.block).payload n) ≡ true))
 find-null X i a n e = go (find X i a) refl e
   where
     go : (f : PathAnswer) → find X i a ≡ f → found_under X i a n f ≡ answer.Hole
-        → (find X i a ≡ answer.Hole) ⊎ ((y : Pointer) × (find X i a ≡ answer.Holds y) × (is_null (pointer_at (cell_at X y.block).payload n) ≡ true))
+        → (find X i a ≡ answer.Hole)
+        ⊎ ((y : Pointer) × (find X i a ≡ answer.Holds y) × (is_null (pointer_at (cell_at X y.block).payload n) ≡ true))
     go answer.Hole ef h = inl ef
     go answer.Lost ef h = cc
     go (answer.Holds y) ef h = inr (y, ef, judged-null X i (Under a n) (pointer_at (cell_at X y.block).payload n) h)
@@ -131,32 +146,40 @@ same_tag-refl a = rw (same_kind-refl a.kind, eqb-refl a.inode, eqb-refl a.genera
 pub agrees-built : (X : Image) (i : ℕ) (path : Path) (x : Pointer) → Agrees X i path x → agrees X i path x ≡ true
 agrees-built X i path x h =
     let t : is_tag (tag_of (cell_at X x.block).tag) (tag_for X i path x.stamp) ≡ true =
-    subst (λ (o : Option Tag). is_tag o (tag_for X i path x.stamp) ≡ true) (sym h.tag) (same_tag-refl (tag_for X i path x.stamp)) in
+    subst (λ (o : Option Tag). is_tag o (tag_for X i path x.stamp) ≡ true) (sym h.tag)
+    (same_tag-refl (tag_for X i path x.stamp)) in
     rw (h.live, h.area, t)
 
-judged-built : (X : Image) (i : ℕ) (path : Path) (z x : Pointer) → z ≡ x → agrees X i path x ≡ true → is_null x ≡ false → judged X i path z ≡ answer.Holds x
+judged-built : (X : Image) (i : ℕ) (path : Path) (z x : Pointer)
+    → z ≡ x → agrees X i path x ≡ true → is_null x ≡ false → judged X i path z ≡ answer.Holds x
 judged-built X i path z x e a n =
     let a' : agrees X i path z ≡ true = subst (λ (w : Pointer). agrees X i path w ≡ true) (sym e) a in
     let n' : is_null z ≡ false = subst (λ (w : Pointer). is_null w ≡ false) (sym e) n in
     go (is_null z) n' (agrees X i path z) a'
   where
-    go : (b : Bool) → b ≡ false → (c : Bool) → c ≡ true → cond b answer.Hole (cond c (answer.Holds z) answer.Lost) ≡ answer.Holds x
+    go : (b : Bool) → b ≡ false → (c : Bool)
+        → c ≡ true → cond b answer.Hole (cond c (answer.Holds z) answer.Lost) ≡ answer.Holds x
     go true eb c ec = cc
     go false eb true ec = ap answer.Holds e
     go false eb false ec = cc
 
-pub find-built : (X : Image) (i : ℕ) (path : Path) (x : Pointer) → AboveHolds X i path → pointer X i path ≡ x → agrees X i path x ≡ true → is_null x ≡ false
+pub find-built : (X : Image) (i : ℕ) (path : Path) (x : Pointer) → AboveHolds X i path
+    → pointer X i path ≡ x → agrees X i path x ≡ true → is_null x ≡ false
     → find X i path ≡ answer.Holds x
 find-built X i (InRecord n) x above e a z = judged-built X i (InRecord n) (record_pointer (inode X i) n) x e a z
-find-built X i (Under b n) x (y, eb) e a z = rw (eb, find) (judged-built X i (Under b n) (pointer_at (cell_at X y.block).payload n) x (rw (eb, pointer) at e)
+find-built X i (Under b n) x (y, eb) e a z =
+    rw (eb, find) (judged-built X i (Under b n) (pointer_at (cell_at X y.block).payload n) x (rw (eb, pointer) at e)
     a z)
 
-pub judged-built-null : (X : Image) (i : ℕ) (path : Path) (z : Pointer) → is_null z ≡ true → judged X i path z ≡ answer.Hole
+pub judged-built-null : (X : Image) (i : ℕ) (path : Path) (z : Pointer)
+    → is_null z ≡ true → judged X i path z ≡ answer.Hole
 judged-built-null X i path z e = rw e
 
-pub null-kept : (X : Image) (i : ℕ) (a : Path) (n : ℕ) → AboveHolds X i (Under a n) → is_null (pointer X i (Under a n)) ≡ true
+pub null-kept : (X : Image) (i : ℕ) (a : Path) (n : ℕ) → AboveHolds X i (Under a n)
+    → is_null (pointer X i (Under a n)) ≡ true
     → find X i (Under a n) ≡ answer.Hole
 null-kept X i a n (y, ea) z =
     let same : pointer X i (Under a n) ≡ pointer_at (cell_at X y.block).payload n = rw (ea, pointer) in
-    let z' : is_null (pointer_at (cell_at X y.block).payload n) ≡ true = subst (λ (q : Pointer). is_null q ≡ true) same z in
+    let z' : is_null (pointer_at (cell_at X y.block).payload n) ≡ true =
+    subst (λ (q : Pointer). is_null q ≡ true) same z in
     rw (ea, find) (judged-built-null X i (Under a n) (pointer_at (cell_at X y.block).payload n) z')

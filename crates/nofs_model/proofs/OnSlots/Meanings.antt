@@ -1,8 +1,10 @@
 -- A slot holds, is empty and has its value where the computing words say so.
-use Rattle.std.proofs.Common.{◌≡◌, ◌≢◌, ℕ, ◌<◌, ◌≤◌, inl, inr, Bool, true, false, eqb, leb, ltb, refl, sym, ap, ◌∙◌, subst, eqb-true, leb-true, ltb-true}
+use Rattle.std.proofs.Common.{◌≡◌, ◌≢◌, ℕ, ◌<◌, ◌≤◌, inl, inr, Bool, true, false, eqb, leb, ltb, refl, sym, ap, ◌∙◌}
+use Rattle.std.proofs.Common.{subst, eqb-true, leb-true, ltb-true}
 use Rattle.std.proofs.Common.{le-leb, lt-ltb}
 use Rattle.nofs_model.specs.Cells.{Pointer, null, is_null, pointer_at}
-use Rattle.nofs_model.specs.Image.{Image, cell_at, inode, first_data, is_data_block, super_at, Path, InRecord, Under, path_of, record_pointer, find}
+use Rattle.nofs_model.specs.Image.{Image, cell_at, inode, first_data, is_data_block, super_at, Path, InRecord, Under}
+use Rattle.nofs_model.specs.Image.{path_of, record_pointer, find}
 use Rattle.nofs_model.specs.Image.{pointer, value, value_in}
 use Rattle.nofs_model.specs.Definitions.{TagFits, Holds, IsEmpty, IsValue, hole, bytes, lost, LawSlots}
 use Rattle.nofs_model.specs.declared.image.path.PathAnswer.{PathAnswer}
@@ -52,14 +54,17 @@ agrees-fits X i path x h =
     }
 
 pub holds-find : (X : Image) (i : ℕ) (path : Path) (x : Pointer) → Holds X i path x → find X i path ≡ answer.Holds x
-holds-find X i (InRecord n) x (e, f) = find-built X i (InRecord n) x tt (sym e) (agrees-built X i (InRecord n) x (fits-agrees X i (InRecord n) x f))
+holds-find X i (InRecord n) x (e, f) =
+    find-built X i (InRecord n) x tt (sym e) (agrees-built X i (InRecord n) x (fits-agrees X i (InRecord n) x f))
     (not-null x f.not_null)
 holds-find X i (Under a n) x (y, h, e, f) =
     let up = holds-find X i a y h in
-    find-built X i (Under a n) x (y, up) (rw (up, pointer) (sym e)) (agrees-built X i (Under a n) x (fits-agrees X i (Under a n) x f)) (not-null x f.not_null)
+    find-built X i (Under a n) x (y, up) (rw (up, pointer) (sym e))
+    (agrees-built X i (Under a n) x (fits-agrees X i (Under a n) x f)) (not-null x f.not_null)
 
 pub find-holds : (X : Image) (i : ℕ) (path : Path) (x : Pointer) → find X i path ≡ answer.Holds x → Holds X i path x
-find-holds X i (InRecord n) x e = let h = find-held X i (InRecord n) x e in (sym h.same, agrees-fits X i (InRecord n) x h)
+find-holds X i (InRecord n) x e = let h = find-held X i (InRecord n) x e in
+    (sym h.same, agrees-fits X i (InRecord n) x h)
 find-holds X i (Under a n) x e =
     let h = find-held X i (Under a n) x e in
     let (y, up) = h.above in
@@ -67,13 +72,16 @@ find-holds X i (Under a n) x e =
     (y, find-holds X i a y up, sym h.same ∙ same, agrees-fits X i (Under a n) x h)
 
 pub empty-find : (X : Image) (i : ℕ) (path : Path) → IsEmpty X i path → find X i path ≡ answer.Hole
-empty-find X i (InRecord n) e = judged-built-null X i (InRecord n) (record_pointer (inode X i) n) (null-is (record_pointer (inode X i) n) e)
+empty-find X i (InRecord n) e =
+    judged-built-null X i (InRecord n) (record_pointer (inode X i) n) (null-is (record_pointer (inode X i) n) e)
 empty-find X i (Under a n) (inl up) = rw (empty-find X i a up, find) refl
 empty-find X i (Under a n) (inr (y, h, e)) = rw (holds-find X i a y h, find)
-    (judged-built-null X i (Under a n) (pointer_at (cell_at X y.block).payload n) (null-is (pointer_at (cell_at X y.block).payload n) e))
+    (judged-built-null X i (Under a n) (pointer_at (cell_at X y.block).payload n)
+    (null-is (pointer_at (cell_at X y.block).payload n) e))
 
 pub find-empty : (X : Image) (i : ℕ) (path : Path) → find X i path ≡ answer.Hole → IsEmpty X i path
-find-empty X i (InRecord n) e = null-true (record_pointer (inode X i) n) (judged-null X i (InRecord n) (record_pointer (inode X i) n) e)
+find-empty X i (InRecord n) e =
+    null-true (record_pointer (inode X i) n) (judged-null X i (InRecord n) (record_pointer (inode X i) n) e)
 find-empty X i (Under a n) e = elim (find-null X i a n e) [
   | inl up ↦ inl (find-empty X i a up)
   | inr (y, h, z) ↦ inr (y, find-holds X i a y h, null-true (pointer_at (cell_at X y.block).payload n) z)

@@ -1,11 +1,14 @@
 -- The numbers of slots, and which slot lies above which.
-use Rattle.std.proofs.Common.{◌≡◌, ℕ, ◌+◌, ◌-◌, ◌*◌, ◌^◌, ◌<◌, ◌≤◌, ◌⊎◌, inl, inr, Bool, true, false, leb, ltb, ◌&&◌, refl, sym, subst, arith, leb-true}
+use Rattle.std.proofs.Common.{◌≡◌, ℕ, ◌+◌, ◌-◌, ◌*◌, ◌^◌, ◌<◌, ◌≤◌, ◌⊎◌, inl, inr, Bool, true, false, leb, ltb, ◌&&◌}
+use Rattle.std.proofs.Common.{refl, sym, subst, arith, leb-true}
 use Rattle.std.proofs.Common.{ltb-true, lt-ltb, le-ltb, le-leb}
 use Rattle.std.proofs.lemmas.Bool.{cases_lt, false≢true}
 use Rattle.std.proofs.lemmas.Bool.Decides.{nat_tests}
-pub use Rattle.nofs_ptrs.specs.PathLaws.{path-direct, path-leaf, path-far, path_of-slot_of, slot_of-path_of, slot_of-path_of-node, path_of-slot}
+pub use Rattle.nofs_ptrs.specs.PathLaws.{path-direct, path-leaf, path-far, path_of-slot_of, slot_of-path_of}
+pub use Rattle.nofs_ptrs.specs.PathLaws.{slot_of-path_of-node, path_of-slot}
 use Rattle.nofs_ptrs.specs.Paths.{slot_limit}
-use Rattle.nofs_model.specs.Slots.{Path, InRecord, Under, child, path_of, slot_of, is_pointer_slot, IsSlot, is_slot, IsAbove, find}
+use Rattle.nofs_model.specs.Slots.{Path, InRecord, Under, child, path_of, slot_of, is_pointer_slot, IsSlot, is_slot}
+use Rattle.nofs_model.specs.Slots.{IsAbove, find}
 use Rattle.nofs_model.specs.Geometry.{Image}
 use Rattle.nofs_model.specs.declared.image.path.PathAnswer.TheVariants as answer
 
@@ -32,16 +35,19 @@ slot_of-slot (Under (InRecord n) j) h = let low = h.1 in elim (pointer-record n 
   | inl e ↦ rw e (slot-small (8 + j) (omega arith))
   | inr e ↦ rw e (slot-node (2 ^ 32 + 2 + j) (omega arith) (omega arith))
 ]
-slot_of-slot (Under (Under (InRecord n) j) q) h = let low = h.1 in let less = h.2.1 in slot-small (72 + 64 * j + q) (omega arith)
+slot_of-slot (Under (Under (InRecord n) j) q) h = let low = h.1 in let less = h.2.1 in
+    slot-small (72 + 64 * j + q) (omega arith)
 slot_of-slot (Under (Under (Under a i) j) q) h = absurd (false≢true h.0)
 
 pub path-record : (k : ℕ) → slot_limit ≤ k → k < 2 ^ 32 + 2 → path_of k ≡ InRecord (8 + (k - 2 ^ 32))
 unfolding path_of
-path-record k l h = rw (le-ltb k 8 (omega arith), le-ltb k 72 (omega arith), le-ltb k slot_limit l, lt-ltb k (2 ^ 32 + 2) h)
+path-record k l h =
+    rw (le-ltb k 8 (omega arith), le-ltb k 72 (omega arith), le-ltb k slot_limit l, lt-ltb k (2 ^ 32 + 2) h)
 
 pub path-child : (k : ℕ) → 2 ^ 32 + 2 ≤ k → path_of k ≡ child (k - (2 ^ 32 + 2))
 unfolding path_of
-path-child k l = rw (le-ltb k 8 (omega arith), le-ltb k 72 (omega arith), le-ltb k slot_limit (omega arith), le-ltb k (2 ^ 32 + 2) l)
+path-child k l =
+    rw (le-ltb k 8 (omega arith), le-ltb k 72 (omega arith), le-ltb k slot_limit (omega arith), le-ltb k (2 ^ 32 + 2) l)
 
 -- the place of a leaf, a top or a child
 path_of-node : (k : ℕ) → 2 ^ 32 ≤ k → k < 2 ^ 32 + 66 → IsSlot (path_of k)

@@ -1,5 +1,6 @@
 -- What a format leaves is sound.
-use Rattle.std.proofs.Common.{◌≡◌, ◌≢◌, ℕ, zero, suc, ◌+◌, ◌-◌, ◌*◌, ◌/◌, ◌%◌, ◌^◌, ◌<◌, Bool, true, false, cond, eqb, leb, length, get_or, Option}
+use Rattle.std.proofs.Common.{◌≡◌, ◌≢◌, ℕ, zero, suc, ◌+◌, ◌-◌, ◌*◌, ◌/◌, ◌%◌, ◌^◌, ◌<◌, Bool, true, false, cond, eqb}
+use Rattle.std.proofs.Common.{leb, length, get_or, Option}
 use Rattle.std.proofs.Common.{Some, IfSome, refl, sym, ap, ◌∙◌, subst, arith, eqb-true}
 use Rattle.nofs_disk.specs.Number.{zeros, put_number}
 use Rattle.nofs_disk.specs.Tag.{tag_bytes, zero_cell}
@@ -7,9 +8,11 @@ use Rattle.nofs_disk.specs.OneSpelling.{SpellsTag-tag_bytes, tag_of-spells}
 use Rattle.nofs_super.specs.Spelling.{super_of-payload}
 use Rattle.nofs_super.specs.Format.{super_payload, super_cell, first_records, table_cell, fresh_super, formatted_cell}
 use Rattle.nofs_model.specs.Kinds as file
-use Rattle.nofs_model.specs.Cells.{Cell, Kind, Nothing, Directory, Leaf, Table, Super, Tag, FileKind, SuperBlock, number_at, tag_of, free_record}
+use Rattle.nofs_model.specs.Cells.{Cell, Kind, Nothing, Directory, Leaf, Table, Super, Tag, FileKind, SuperBlock}
+use Rattle.nofs_model.specs.Cells.{number_at, tag_of, free_record}
 use Rattle.nofs_model.specs.Cells.{is_live, record_of, record_at, fields_in, link_in, pointer_in, pointer_at, entry_in}
-use Rattle.nofs_model.specs.Image.{Image, cell_at, super_at, super_in, is_super, record_pointer, TagBelow, RecordBelow, CellBelow}
+use Rattle.nofs_model.specs.Image.{Image, cell_at, super_at, super_in, is_super, record_pointer, TagBelow, RecordBelow}
+use Rattle.nofs_model.specs.Image.{CellBelow}
 use Rattle.nofs_model.specs.Geometry.{IsGeometry}
 use Rattle.nofs_model.specs.Sound.{LawFormatted}
 use Rattle.nofs_model.proofs.OnSound.Writes.{mountable-law}
@@ -28,10 +31,13 @@ plain-below bound c t some e p =
     let g = p.generation in
     let s = p.stamp in
     record {
-      own = subst (λ (o : Option Tag). IfSome o (λ t. (t.generation < bound) × (t.stamp < bound))) (sym e) (omega (arith, some, g), omega (arith, some, s));
-      entries = subst (λ (o : Option Tag). IfSome o (λ t. t.kind ≡ Directory → (j : ℕ) → j < 16 → IfSome (entry_in c.payload j) (λ e. e.generation < bound)))
+      own = subst (λ (o : Option Tag). IfSome o (λ t. (t.generation < bound) × (t.stamp < bound))) (sym e)
+          (omega (arith, some, g), omega (arith, some, s));
+      entries = subst (λ (o : Option Tag). IfSome o
+          (λ t. t.kind ≡ Directory → (j : ℕ) → j < 16 → IfSome (entry_in c.payload j) (λ e. e.generation < bound)))
           (sym e) (λ k. absurd (p.not_directory k));
-      pointers = subst (λ (o : Option Tag). IfSome o (λ t. t.kind ≡ Leaf → (j : ℕ) → j < 64 → (pointer_at c.payload j).stamp < bound)) (sym e)
+      pointers = subst (λ (o : Option Tag). IfSome o
+          (λ t. t.kind ≡ Leaf → (j : ℕ) → j < 64 → (pointer_at c.payload j).stamp < bound)) (sym e)
           (λ k. absurd (p.not_leaf k));
     }
 
@@ -40,11 +46,13 @@ tag_with kind slot = record { kind = kind; inode = 0; generation = 0; slot = slo
 
 super-tag : tag_of (tag_bytes (tag_with Super 0)) ≡ Some (tag_with Super 0)
 super-tag = tag_of-spells (tag_bytes (tag_with Super 0)) (tag_with Super 0)
-    (SpellsTag-tag_bytes (tag_with Super 0) (record { inode = omega arith; generation = omega arith; slot = omega arith; stamp = omega arith }) tt)
+    (SpellsTag-tag_bytes (tag_with Super 0)
+    (record { inode = omega arith; generation = omega arith; slot = omega arith; stamp = omega arith }) tt)
 
 table-tag : (b : ℕ) → b < 2 ^ 64 → tag_of (tag_bytes (tag_with Table b)) ≡ Some (tag_with Table b)
 table-tag b lt = tag_of-spells (tag_bytes (tag_with Table b)) (tag_with Table b)
-    (SpellsTag-tag_bytes (tag_with Table b) (record { inode = omega arith; generation = omega arith; slot = lt; stamp = omega arith }) tt)
+    (SpellsTag-tag_bytes (tag_with Table b)
+    (record { inode = omega arith; generation = omega arith; slot = lt; stamp = omega arith }) tt)
 
 zero-tag : tag_of (zero_cell.tag) ≡ Some (tag_with Nothing 0)
 unfolding tag_of number_at zero_cell zeros
@@ -103,21 +111,27 @@ new-below bound g kind lt = record {
 }
 
 -- each live record of a fresh table cell is one of the two
-first-below : (bound j : ℕ) → 2 < bound → j < 4 → is_live (record_at first_records j) ≡ true → RecordBelow bound (record_at first_records j)
-first-below bound zero big lt live = subst (RecordBelow bound) (sym root-record) (new-below bound 1 file.Directory (omega (arith, big)))
-first-below bound (suc zero) big lt live = subst (RecordBelow bound) (sym label-record) (new-below bound 2 file.File big)
+first-below : (bound j : ℕ)
+    → 2 < bound → j < 4 → is_live (record_at first_records j) ≡ true → RecordBelow bound (record_at first_records j)
+first-below bound zero big lt live =
+    subst (RecordBelow bound) (sym root-record) (new-below bound 1 file.Directory (omega (arith, big)))
+first-below bound (suc zero) big lt live =
+    subst (RecordBelow bound) (sym label-record) (new-below bound 2 file.File big)
 first-below bound (suc (suc zero)) big lt live = cc (ap is_live third-record, live)
 first-below bound (suc (suc (suc zero))) big lt live = cc (ap is_live fourth-record, live)
 first-below bound (suc (suc (suc (suc j)))) big lt live = absurd (omega (arith, lt))
 
-zeros-below : (bound j : ℕ) → j < 4 → is_live (record_at (zeros 1024) j) ≡ true → RecordBelow bound (record_at (zeros 1024) j)
+zeros-below : (bound j : ℕ)
+    → j < 4 → is_live (record_at (zeros 1024) j) ≡ true → RecordBelow bound (record_at (zeros 1024) j)
 zeros-below bound j lt live = cc (ap is_live (no-record j lt), live)
 
-table-below : (bound j b : ℕ) → 2 < bound → j < 4 → is_live (record_at (table_cell b).payload j) ≡ true → RecordBelow bound (record_at (table_cell b).payload j)
+table-below : (bound j b : ℕ) → 2 < bound → j < 4 → is_live (record_at (table_cell b).payload j) ≡ true
+    → RecordBelow bound (record_at (table_cell b).payload j)
 unfolding table_cell
 table-below bound j b big lt live = go (eqb b 1) live
   where
-    go : (q : Bool) → is_live (record_at (cond q first_records (zeros 1024)) j) ≡ true → RecordBelow bound (record_at (cond q first_records (zeros 1024)) j)
+    go : (q : Bool) → is_live (record_at (cond q first_records (zeros 1024)) j) ≡ true
+        → RecordBelow bound (record_at (cond q first_records (zeros 1024)) j)
     go true live = first-below bound j big lt live
     go false live = zeros-below bound j lt live
 
@@ -145,17 +159,20 @@ zero-below bound b X big = record {
   records = λ i range eb live. zeros-below bound ((i - 1) % 4) (omega arith) live;
 }
 
-cell-below : (bound blocks inodes b : ℕ) (X : Image) → 2 < bound → b < 2 ^ 64 → CellBelow bound X b (formatted_cell blocks inodes b)
+cell-below : (bound blocks inodes b : ℕ) (X : Image)
+    → 2 < bound → b < 2 ^ 64 → CellBelow bound X b (formatted_cell blocks inodes b)
 unfolding formatted_cell
 cell-below bound blocks inodes b X big lt = go (eqb b 0) refl (leb b (inodes / 4))
   where
-    go : (z : Bool) → eqb b 0 ≡ z → (q : Bool) → CellBelow bound X b (cond z (super_cell (fresh_super blocks inodes)) (cond q (table_cell b) zero_cell))
+    go : (z : Bool) → eqb b 0 ≡ z → (q : Bool)
+        → CellBelow bound X b (cond z (super_cell (fresh_super blocks inodes)) (cond q (table_cell b) zero_cell))
     go true e q = subst (λ (n : ℕ). CellBelow bound X n (super_cell (fresh_super blocks inodes))) (sym (eqb-true b 0 e))
         (super-below bound X (fresh_super blocks inodes) big)
     go false e true = table-cell-below bound b X big lt
     go false e false = zero-below bound b X big
 
-super-payload : (blocks inodes : ℕ) → (super_cell (fresh_super blocks inodes)).payload ≡ super_payload (fresh_super blocks inodes)
+super-payload : (blocks inodes : ℕ)
+    → (super_cell (fresh_super blocks inodes)).payload ≡ super_payload (fresh_super blocks inodes)
 unfolding super_cell
 super-payload blocks inodes = refl
 
@@ -170,7 +187,8 @@ formatted-law X blocks inodes g cells =
     let it : SuperBlock = fresh_super blocks inodes in
     let payload : (cell_at X 0).payload ≡ super_payload it =
     ap (λ (c : Cell). c.payload) (cells 0 (omega arith) ∙ first-cell blocks inodes) ∙ super-payload blocks inodes in
-    let s = spells (super_payload it) it (super_of-payload it (omega arith) (omega arith) (omega arith) (omega arith) refl) in
+    let s = spells (super_payload it) it
+    (super_of-payload it (omega arith) (omega arith) (omega arith) (omega arith) refl) in
     let numbers : super_at X ≡ it = ap super_in payload ∙ s.numbers in
     let spelled : is_super (cell_at X 0).payload ≡ true = ap is_super payload ∙ s.spelled in
     let b_is : (super_at X).blocks ≡ blocks = ap (λ (q : SuperBlock). q.blocks) numbers in
@@ -184,5 +202,6 @@ formatted-law X blocks inodes g cells =
       below = λ b lt.
           let lt' : b < blocks = omega (arith, lt, b_is) in
           subst (λ (c : Cell). CellBelow (((super_at X).mount + 1) * 2 ^ 40) X b c) (sym (cells b lt'))
-          (cell-below (((super_at X).mount + 1) * 2 ^ 40) blocks inodes b X (omega (arith, m_is)) (omega (arith, lt', most)));
+          (cell-below (((super_at X).mount + 1) * 2 ^ 40) blocks inodes b X (omega (arith, m_is))
+          (omega (arith, lt', most)));
     }

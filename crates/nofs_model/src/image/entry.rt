@@ -48,7 +48,8 @@ fn is_entry(bytes: &[u8]) -> bool
 fn has_spelling(bytes: &[u8], size: usize) -> bool
     requires len { length bytes.now ≡ 64 }
     requires size { size ≤ 48 }
-    ensures { result ≡ has_entry_spelling (entry_with (number_at 4 0 bytes.now) (number_at 8 8 bytes.now) (take size (drop 16 bytes.now))) }
+    ensures { result ≡ has_entry_spelling
+        (entry_with (number_at 4 0 bytes.now) (number_at 8 8 bytes.now) (take size (drop 16 bytes.now))) }
 {
     read_u32_at(bytes, 0) >= 1 && read_u64_at(bytes, 8) >= 1 && name_ok(&bytes[16..16 + size])
 }

@@ -1,6 +1,8 @@
 -- The blocks of an inode, slot by slot.
-use Rattle.std.proofs.Common.{◌≡◌, ℕ, ◌+◌, ◌-◌, ◌*◌, ◌/◌, ◌%◌, ◌^◌, ◌<◌, ◌≤◌, ◌⊎◌, inl, inr, Bool, true, false, eqb, eqb-true, eq-eqb, leb, ltb, leb-true}
-use Rattle.std.proofs.Common.{ltb-true, ◌&&◌, ◌||◌, List, length, replicate, Option, Some, None, IsTrue, Result, Ok, Err, refl, sym, ap, ◌∙◌, subst, subst₂}
+use Rattle.std.proofs.Common.{◌≡◌, ℕ, ◌+◌, ◌-◌, ◌*◌, ◌/◌, ◌%◌, ◌^◌, ◌<◌, ◌≤◌, ◌⊎◌, inl, inr, Bool, true, false, eqb}
+use Rattle.std.proofs.Common.{eqb-true, eq-eqb, leb, ltb, leb-true}
+use Rattle.std.proofs.Common.{ltb-true, ◌&&◌, ◌||◌, List, length, replicate, Option, Some, None, IsTrue, Result, Ok}
+use Rattle.std.proofs.Common.{Err, refl, sym, ap, ◌∙◌, subst, subst₂}
 use Rattle.std.proofs.Common.{arith}
 use Rattle.std.proofs.lemmas.Bool.{cases_lt, and_parts}
 use Rattle.std.proofs.lemmas.Bool.Decides.{nat_tests}
@@ -29,7 +31,8 @@ use Rattle.nofs_state.specs.Inodes.Blocks.{MarkFails, MarksAll, Marked, IsBlockA
 
 -- all slots
 
-module _ (X : Image) (told : Bool) (at : SuperBlock) (i : ℕ) (b c : List Bool) (first : Marked X told at i 0 slot_limit (replicate at.blocks false) b)
+module _ (X : Image) (told : Bool) (at : SuperBlock) (i : ℕ) (b c : List Bool)
+    (first : Marked X told at i 0 slot_limit (replicate at.blocks false) b)
     (second : Marked X told at i (2 ^ 32) (2 ^ 32 + 66) b c) where
   pub all-size : length c ≡ at.blocks
   all-size = second.size ∙ first.size ∙ length-replicate at.blocks false
@@ -46,8 +49,10 @@ module _ (X : Image) (told : Bool) (at : SuperBlock) (i : ℕ) (b c : List Bool)
   pub all-owned : IsTrue told → agreed (files_in X) i ≡ true → (q : ℕ) → is_set c q ≡ is_of i (owner X q)
   all-owned t a q = by-bit (is_set c q) refl
     where
-      owns : (k : ℕ) (x : Pointer) → is_slot k ≡ true → find X i (path_of k) ≡ answer.Holds x → x.block ≡ q → is_of i (owner X q) ≡ true
-      owns k x s h e = let o = owner-of X i (path_of k) x (path_of-number k s).0 a h in ap (λ (n : ℕ). is_of i (owner X n)) (sym e) ∙ ap (is_of i) o ∙ eq-eqb
+      owns : (k : ℕ) (x : Pointer) → is_slot k ≡ true → find X i (path_of k) ≡ answer.Holds x
+          → x.block ≡ q → is_of i (owner X q) ≡ true
+      owns k x s h e = let o = owner-of X i (path_of k) x (path_of-number k s).0 a h in
+          ap (λ (n : ℕ). is_of i (owner X n)) (sym e) ∙ ap (is_of i) o ∙ eq-eqb
           i i refl
 
       low-slot : (k : ℕ) → k < slot_limit → is_slot k ≡ true
@@ -78,13 +83,16 @@ module _ (X : Image) (told : Bool) (at : SuperBlock) (i : ℕ) (b c : List Bool)
       marks h e own =
           let w = owner-holds X q h.inode h.slot e in
           let s = owner-slot X q h.inode h.slot e in
-          let f : find X i (path_of h.slot) ≡ answer.Holds w.0 = subst (λ (n : ℕ). find X n (path_of h.slot) ≡ answer.Holds w.0) own w.2 in
+          let f : find X i (path_of h.slot) ≡ answer.Holds w.0 =
+          subst (λ (n : ℕ). find X n (path_of h.slot) ≡ answer.Holds w.0) own w.2 in
           subst (λ (n : ℕ). is_set c n ≡ true) w.3 (by-slot h.slot w.0 (ltb h.slot slot_limit) refl s f)
         where
-          by-slot : (k : ℕ) (x : Pointer) (p : Bool) → ltb k slot_limit ≡ p → is_slot k ≡ true → find X i (path_of k) ≡ answer.Holds x → is_set c x.block ≡ true
+          by-slot : (k : ℕ) (x : Pointer) (p : Bool) → ltb k slot_limit ≡ p → is_slot k ≡ true
+              → find X i (path_of k) ≡ answer.Holds x → is_set c x.block ≡ true
           by-slot k x true e s f = second.keeps x.block (first.whole t k x (omega arith) (ltb-true k slot_limit e) f)
           by-slot k x false e s f =
-              let r = and_parts (leb (2 ^ 32) k) (ltb k (2 ^ 32 + 66)) (sym (ap (λ (p : Bool). p || (leb (2 ^ 32) k && ltb k (2 ^ 32 + 66))) e) ∙ s) in
+              let r = and_parts (leb (2 ^ 32) k) (ltb k (2 ^ 32 + 66))
+              (sym (ap (λ (p : Bool). p || (leb (2 ^ 32) k && ltb k (2 ^ 32 + 66))) e) ∙ s) in
               second.whole t k x (leb-true (2 ^ 32) k r.0) (ltb-true k (2 ^ 32 + 66) r.1) f
 
       from-owner : (o : Option Home) → owner X q ≡ o → is_set c q ≡ false → false ≡ is_of i o
@@ -107,8 +115,10 @@ module _ (X : Image) (told : Bool) (at : SuperBlock) (i : ℕ) (b c : List Bool)
 
 -- what lies below is passed over
 
-pub marks-after : (old mid new : DiskState) (at : SuperBlock) (i from to : ℕ) (bits b : List Bool) (last : LastRead) (res : Result (Unit {0}) Refusal)
-    → StaysButFaults old mid → MarksAll mid new at i from to bits b last res → MarksAll old new at i from to bits b last res
+pub marks-after : (old mid new : DiskState) (at : SuperBlock) (i from to : ℕ) (bits b : List Bool) (last : LastRead)
+    (res : Result (Unit {0}) Refusal)
+    → StaysButFaults old mid → MarksAll mid new at i from to bits b last res
+    → MarksAll old new at i from to bits b last res
 marks-after old mid new at i from to bits b last res stays m = record {
   stays = StaysButFaults-trans old mid new stays m.stays;
   marked_as = on-ok res m.marked_as;
@@ -116,21 +126,26 @@ marks-after old mid new at i from to bits b last res stays m = record {
   refused = on-err res m.refused;
 }
   where
-    on-ok : (r : Result (Unit {0}) Refusal) → OnOk r (Marked mid.now mid.tells at i from to bits b) → OnOk r (Marked old.now old.tells at i from to bits b)
+    on-ok : (r : Result (Unit {0}) Refusal) → OnOk r (Marked mid.now mid.tells at i from to bits b)
+        → OnOk r (Marked old.now old.tells at i from to bits b)
     on-ok (Err e) h = tt
-    on-ok (Ok it) h = subst₂ (λ (X : Image) (told : Bool). Marked X told at i from to bits b) stays.cells.now stays.disk.tells h
+    on-ok (Ok it) h =
+        subst₂ (λ (X : Image) (told : Bool). Marked X told at i from to bits b) stays.cells.now stays.disk.tells h
 
     on-err : (r : Result (Unit {0}) Refusal) → IfErr r (MarkFails mid new) → IfErr r (MarkFails old new)
     on-err (Err why) h = fails-on old mid new stays why h
     on-err (Ok it) h = tt
 
 -- where none of the slots holds
-pub marks-none : (old mid : DiskState) (at : SuperBlock) (i from to : ℕ) (path : Path) (bits : List Bool) (last : LastRead) (res : Result PathAnswer Failed)
+pub marks-none : (old mid : DiskState) (at : SuperBlock) (i from to : ℕ) (path : Path) (bits : List Bool)
+    (last : LastRead) (res : Result PathAnswer Failed)
     (a b : PathAnswer) → FindsSlot old mid at (λ X. find X i path) last res → res ≡ Ok a → a ≡ b
-    → ((X : Image) → find X i path ≡ b → (k : ℕ) (x : Pointer) → from ≤ k → k < to → find X i (path_of k) ≡ answer.Holds x → ⊥)
+    → ((X : Image) → find X i path ≡ b → (k : ℕ) (x : Pointer)
+    → from ≤ k → k < to → find X i (path_of k) ≡ answer.Holds x → ⊥)
     → MarksAll old mid at i from to bits bits last (Ok tt)
 marks-none old mid at i from to path bits last res a b finds e h none =
-    let f : FindsSlot old mid at (λ X. find X i path) last (Ok b) = subst (λ (r : Result PathAnswer Failed). FindsSlot old mid at (λ X. find X i path) last r)
+    let f : FindsSlot old mid at (λ X. find X i path) last (Ok b) =
+    subst (λ (r : Result PathAnswer Failed). FindsSlot old mid at (λ X. find X i path) last r)
     (e ∙ ap Ok h) finds in
     record {
       stays = f.stays;
@@ -147,14 +162,16 @@ marks-none old mid at i from to path bits last res a b finds e h none =
     }
 
 -- below a block of pointers that does not hold no slot does
-none-below : (X : Image) (i n : ℕ) (a : Path) (b : PathAnswer) → ((x : Pointer) → b ≡ answer.Holds x → ⊥) → find X i a ≡ b → (x : Pointer)
+none-below : (X : Image) (i n : ℕ) (a : Path) (b : PathAnswer) → ((x : Pointer) → b ≡ answer.Holds x → ⊥)
+    → find X i a ≡ b → (x : Pointer)
     → find X i (Under a n) ≡ answer.Holds x → ⊥
 none-below X i n a (answer.Holds y) off e x held = off y refl
 none-below X i n a answer.Hole off e x held = let h : find X i (Under a n) ≡ answer.Hole = rw (e, find) in cc (h, held)
 none-below X i n a answer.Lost off e x held = let h : find X i (Under a n) ≡ answer.Lost = rw (e, find) in cc (h, held)
 
 -- nor does one below a child of it
-none-far : (X : Image) (i n m : ℕ) (a : Path) (b : PathAnswer) → ((x : Pointer) → b ≡ answer.Holds x → ⊥) → find X i a ≡ b → (x : Pointer)
+none-far : (X : Image) (i n m : ℕ) (a : Path) (b : PathAnswer) → ((x : Pointer) → b ≡ answer.Holds x → ⊥)
+    → find X i a ≡ b → (x : Pointer)
     → find X i (Under (Under a n) m) ≡ answer.Holds x → ⊥
 none-far X i n m a b off e x held = go (find X i (Under a n)) refl
   where
@@ -163,12 +180,14 @@ none-far X i n m a b off e x held = go (find X i (Under a n)) refl
     go answer.Hole h = none-below X i m (Under a n) answer.Hole (λ y q. cc q) h x held
     go answer.Lost h = none-below X i m (Under a n) answer.Lost (λ y q. cc q) h x held
 
-pub none-under-top : (i : ℕ) (b : PathAnswer) → ((x : Pointer) → b ≡ answer.Holds x → ⊥) → (X : Image) → find X i (InRecord 9) ≡ b → (k : ℕ) (x : Pointer)
+pub none-under-top : (i : ℕ) (b : PathAnswer) → ((x : Pointer) → b ≡ answer.Holds x → ⊥)
+    → (X : Image) → find X i (InRecord 9) ≡ b → (k : ℕ) (x : Pointer)
     → 72 ≤ k → k < slot_limit → find X i (path_of k) ≡ answer.Holds x → ⊥
 none-under-top i b off X e k x low high held = none-far X i ((k - 72) / 64) ((k - 72) % 64) (InRecord 9) b off e x
     (sym (ap (find X i) (path-far k low high)) ∙ held)
 
-pub none-under-child : (i c : ℕ) (b : PathAnswer) → ((x : Pointer) → b ≡ answer.Holds x → ⊥) → c < 64 → (X : Image) → find X i (Under (InRecord 9) c) ≡ b
+pub none-under-child : (i c : ℕ) (b : PathAnswer) → ((x : Pointer) → b ≡ answer.Holds x → ⊥)
+    → c < 64 → (X : Image) → find X i (Under (InRecord 9) c) ≡ b
     → (k : ℕ) (x : Pointer) → 72 + 64 * c ≤ k → k < 72 + 64 * (c + 1) → find X i (path_of k) ≡ answer.Holds x → ⊥
 none-under-child i c b off small X e k x low high held =
     let here : (k - 72) / 64 ≡ c = omega (arith, low, high) in
@@ -177,7 +196,8 @@ none-under-child i c b off small X e k x low high held =
     (ap (find X i) (path-far k (omega (arith, low)) (omega (arith, small, high)))) ∙ held)
 
 -- some slots, and those after them
-marked-join : (X : Image) (told : Bool) (at : SuperBlock) (i from mid to : ℕ) (bits b c : List Bool) → from ≤ mid → mid ≤ to
+marked-join : (X : Image) (told : Bool) (at : SuperBlock) (i from mid to : ℕ) (bits b c : List Bool)
+    → from ≤ mid → mid ≤ to
     → Marked X told at i from mid bits b → Marked X told at i mid to b c → Marked X told at i from to bits c
 marked-join X told at i from mid to bits b c low high f s = record {
   size = s.size ∙ f.size;
@@ -187,14 +207,17 @@ marked-join X told at i from mid to bits b c low high f s = record {
     | inl was ↦ longer q (f.sound t q was)
     | inr w ↦ let l = w.2 in inr (w.0, w.1, omega (arith, l, low), w.3, w.4, w.5)
   ];
-  whole = λ t k x one two e. elim (cases_lt k mid) [ inl before ↦ s.keeps x.block (f.whole t k x one before e) | inr after ↦ s.whole t k x after two e ];
+  whole = λ t k x one two e. elim (cases_lt k mid)
+      [ inl before ↦ s.keeps x.block (f.whole t k x one before e) | inr after ↦ s.whole t k x after two e ];
 }
   where
-    longer : (q : ℕ) → (is_set bits q ≡ true) ⊎ IsBlockAmong X i from mid q → (is_set bits q ≡ true) ⊎ IsBlockAmong X i from to q
+    longer : (q : ℕ) → (is_set bits q ≡ true) ⊎ IsBlockAmong X i from mid q
+        → (is_set bits q ≡ true) ⊎ IsBlockAmong X i from to q
     longer q (inl was) = inl was
     longer q (inr w) = let h = w.3 in inr (w.0, w.1, w.2, omega (arith, h, high), w.4, w.5)
 
-pub marks-join : (old mid new : DiskState) (at : SuperBlock) (i from cut to : ℕ) (bits b c : List Bool) (last next : LastRead) → from ≤ cut → cut ≤ to
+pub marks-join : (old mid new : DiskState) (at : SuperBlock) (i from cut to : ℕ) (bits b c : List Bool)
+    (last next : LastRead) → from ≤ cut → cut ≤ to
     → MarksAll old mid at i from cut bits b last (Ok tt) → MarksAll mid new at i cut to b c next (Ok tt)
     → MarksAll old new at i from to bits c next (Ok tt)
 marks-join old mid new at i from cut to bits b c last next low high f s =
@@ -206,8 +229,10 @@ marks-join old mid new at i from cut to bits b c last next low high f s =
       refused = tt;
     }
 
-pub inode-marked : (old mid new : DiskState) (at : SuperBlock) (i : ℕ) (z b c : List Bool) (last next : LastRead) → z ≡ replicate at.blocks false
-    → MarksAll old mid at i 0 slot_limit z b last (Ok tt) → MarksAll mid new at i (2 ^ 32) (2 ^ 32 + 66) b c next (Ok tt)
+pub inode-marked : (old mid new : DiskState) (at : SuperBlock) (i : ℕ) (z b c : List Bool) (last next : LastRead)
+    → z ≡ replicate at.blocks false
+    → MarksAll old mid at i 0 slot_limit z b last (Ok tt)
+    → MarksAll mid new at i (2 ^ 32) (2 ^ 32 + 66) b c next (Ok tt)
     → MarksInode old new at i c next (Ok tt)
 inode-marked old mid new at i z b c last next ez first second = record {
   stays = StaysButFaults-trans old mid new first.stays second.stays;
@@ -228,21 +253,26 @@ inode-marked old mid new at i z b c last next ez first second = record {
 
     one : Marked new.now new.tells at i 0 slot_limit (replicate at.blocks false) b
     one = subst (λ (l : List Bool). Marked new.now new.tells at i 0 slot_limit l b) ez
-        (subst₂ (λ (X : Image) (told : Bool). Marked X told at i 0 slot_limit z b) (sym now-one) (sym tells-one) first.marked_as)
+        (subst₂ (λ (X : Image) (told : Bool). Marked X told at i 0 slot_limit z b) (sym now-one)
+        (sym tells-one) first.marked_as)
 
     two : Marked new.now new.tells at i (2 ^ 32) (2 ^ 32 + 66) b c
-    two = subst₂ (λ (X : Image) (told : Bool). Marked X told at i (2 ^ 32) (2 ^ 32 + 66) b c) (sym second.stays.cells.now) (sym second.stays.disk.tells)
+    two = subst₂ (λ (X : Image) (told : Bool). Marked X told at i (2 ^ 32) (2 ^ 32 + 66) b c)
+        (sym second.stays.cells.now) (sym second.stays.disk.tells)
         second.marked_as
 
-pub inode-marks : (old one two new : DiskState) (at : SuperBlock) (i : ℕ) (z b c d : List Bool) (last later next : LastRead) (res : Result (Unit {0}) Refusal)
-    → z ≡ replicate at.blocks false → MarksAll old one at i 0 72 z b last (Ok tt) → MarksAll one two at i 72 slot_limit b c later (Ok tt)
+pub inode-marks : (old one two new : DiskState) (at : SuperBlock) (i : ℕ) (z b c d : List Bool)
+    (last later next : LastRead) (res : Result (Unit {0}) Refusal)
+    → z ≡ replicate at.blocks false → MarksAll old one at i 0 72 z b last (Ok tt)
+    → MarksAll one two at i 72 slot_limit b c later (Ok tt)
     → MarksAll two new at i (2 ^ 32) (2 ^ 32 + 66) c d next res → MarksInode old new at i d next res
 inode-marks old one two new at i z b c d last later next res ez first second third = go res third
   where
     low : MarksAll old two at i 0 slot_limit z c later (Ok tt)
     low = marks-join old one two at i 0 72 slot_limit z b c last later (omega arith) (omega arith) first second
 
-    go : (r : Result (Unit {0}) Refusal) → MarksAll two new at i (2 ^ 32) (2 ^ 32 + 66) c d next r → MarksInode old new at i d next r
+    go : (r : Result (Unit {0}) Refusal) → MarksAll two new at i (2 ^ 32) (2 ^ 32 + 66) c d next r
+        → MarksInode old new at i d next r
     go (Ok u) m = inode-marked old two new at i z c d later next ez low m
     go (Err e) m = let q = marks-after old two new at i (2 ^ 32) (2 ^ 32 + 66) c d next (Err e) low.stays m in record
         { stays = q.stays; owned = tt; kept = tt; refused = q.refused }

@@ -1,5 +1,6 @@
 -- Whether a directory has a name of a file, place by place and slot by slot.
-use Rattle.std.proofs.Common.{◌≡◌, ℕ, ◌+◌, ◌*◌, ◌<◌, inl, inr, Bool, true, false, List, [], Option, Some, None, IsTrue, Result, Ok, refl, sym, ap, ◌∙◌, subst}
+use Rattle.std.proofs.Common.{◌≡◌, ℕ, ◌+◌, ◌*◌, ◌<◌, inl, inr, Bool, true, false, List, [], Option, Some, None, IsTrue}
+use Rattle.std.proofs.Common.{Result, Ok, refl, sym, ap, ◌∙◌, subst}
 use Rattle.std.proofs.Common.{arith}
 use Rattle.std.proofs.lemmas.Bool.{cases_lt}
 use Rattle.nofs_disk.specs.Disk.{DiskState, StaysButFaults}
@@ -29,50 +30,63 @@ pub record Emptying (old now : DiskState) (d n m : ℕ) (last : LastRead) : Type
 
 -- one place
 
-module _ (old : DiskState) (at : SuperBlock) (d : ℕ) (dr : Record) (slot : ℕ) (payload : List ℕ) (known : KnowsDirectory old at d dr.generation dr)
+module _ (old : DiskState) (at : SuperBlock) (d : ℕ) (dr : Record) (slot : ℕ) (payload : List ℕ)
+    (known : KnowsDirectory old at d dr.generation dr)
     (low : slot < 72) (cell : IsTrue old.tells → value old.now d slot ≡ Bytes payload) where
   -- what the test says of an entry is what the machine says
   pair-as : IsTrue old.tells → IsThere d old.now → (F : Files) → FilesMatch F old.now → (place : ℕ) → place < 16
-      → pair_in old.now (link_to d (16 * slot + place) dr.generation) (named_in (entry_in payload place)) ≡ is_paired F d (16 * slot + place)
+      → pair_in old.now (link_to d (16 * slot + place) dr.generation) (named_in (entry_in payload place))
+      ≡ is_paired F d (16 * slot + place)
   pair-as t a F match place small = go (entry_in payload place) refl
     where
       there : entry_at F d (16 * slot + place) ≡ entry_in payload place
-      there = entry-is F old.now d dr match a (known.known.same t) known.kind (16 * slot + place) slot place payload [] low (omega (arith, small))
+      there = entry-is F old.now d dr match a (known.known.same t) known.kind
+          (16 * slot + place) slot place payload [] low (omega (arith, small))
           (omega (arith, small)) (cell t)
 
-      go : (o : Option Entry) → entry_in payload place ≡ o → pair_in old.now (link_to d (16 * slot + place) dr.generation) (named_in o) ≡ is_paired F d
+      go : (o : Option Entry) → entry_in payload place ≡ o
+          → pair_in old.now (link_to d (16 * slot + place) dr.generation) (named_in o) ≡ is_paired F d
           (16 * slot + place)
       go None e = let n = there ∙ e in sym (rw (n, is_paired) refl)
-      go (Some it) e = paired-is F old.now d (16 * slot + place) dr match a (known.known.same t) known.kind it (there ∙ e) (inode old.now it.inode) refl
+      go (Some it) e = paired-is F old.now d (16 * slot + place) dr match a (known.known.same t) known.kind it
+          (there ∙ e) (inode old.now it.inode) refl
 
-  module _ (now new : DiskState) (place : ℕ) (last next : LastRead) (g : Emptying old now d (16 * slot) (16 * slot + place) last) (small : place < 16) where
+  module _ (now new : DiskState) (place : ℕ) (last next : LastRead)
+      (g : Emptying old now d (16 * slot) (16 * slot + place) last) (small : place < 16) where
     told : IsTrue old.tells → IsTrue now.tells
     told t = told-on old now g.stays t
 
-    pair-is : (b : Bool) → TellsPair now new (link_to d (16 * slot + place) dr.generation) payload place next (Ok b) → IsTrue old.tells → IsThere d old.now
+    pair-is : (b : Bool) → TellsPair now new (link_to d (16 * slot + place) dr.generation) payload place next (Ok b)
+        → IsTrue old.tells → IsThere d old.now
         → (F : Files) → FilesMatch F old.now → b ≡ is_paired F d (16 * slot + place)
-    pair-is b s t a F match = subst (λ (X : Image). b ≡ pair_in X (link_to d (16 * slot + place) dr.generation) (named_in (entry_in payload place)))
+    pair-is b s t a F match = subst
+        (λ (X : Image). b ≡ pair_in X (link_to d (16 * slot + place) dr.generation) (named_in (entry_in payload place)))
         g.stays.cells.now (s.found (told t)) ∙ pair-as t a F match place small
 
-    pub place-on : (res : Result Bool Failed) → TellsPair now new (link_to d (16 * slot + place) dr.generation) payload place next res → res ≡ Ok false
+    pub place-on : (res : Result Bool Failed)
+        → TellsPair now new (link_to d (16 * slot + place) dr.generation) payload place next res → res ≡ Ok false
         → Emptying old new d (16 * slot) (16 * slot + (place + 1)) next
     place-on res tells e =
         let s : TellsPair now new (link_to d (16 * slot + place) dr.generation) payload place next (Ok false) =
-        subst (λ (r : Result Bool Failed). TellsPair now new (link_to d (16 * slot + place) dr.generation) payload place next r) e tells in
+        subst (λ (r : Result Bool Failed). TellsPair now new
+        (link_to d (16 * slot + place) dr.generation) payload place next r) e tells in
         record {
           stays = StaysButFaults-trans old now new g.stays s.stays;
           kept = s.kept;
           none = λ t a F match p n high. elim (cases_lt n (16 * slot + place)) [
             | inl before ↦ g.none t a F match p n before
-            | inr here ↦ let same : n ≡ 16 * slot + place = omega (arith, here, high) in ap (is_paired F d) same ∙ sym (pair-is false s t a F match)
+            | inr here ↦ let same : n ≡ 16 * slot + place = omega (arith, here, high) in
+                ap (is_paired F d) same ∙ sym (pair-is false s t a F match)
           ];
         }
 
-    pub place-found : (z : ℕ) (res : Result Bool Failed) → TellsPair now new (link_to d (16 * slot + place) dr.generation) payload place next res
+    pub place-found : (z : ℕ) (res : Result Bool Failed)
+        → TellsPair now new (link_to d (16 * slot + place) dr.generation) payload place next res
         → res ≡ Ok true → NamesOn old new d (16 * slot) z next (Ok true)
     place-found z res tells e =
         let s : TellsPair now new (link_to d (16 * slot + place) dr.generation) payload place next (Ok true) =
-        subst (λ (r : Result Bool Failed). TellsPair now new (link_to d (16 * slot + place) dr.generation) payload place next r) e tells in
+        subst (λ (r : Result Bool Failed). TellsPair now new
+        (link_to d (16 * slot + place) dr.generation) payload place next r) e tells in
         record {
           stays = StaysButFaults-trans old now new g.stays s.stays;
           names = λ t a F match p. (16 * slot + place, omega (arith, small, low), sym (pair-is true s t a F match));
@@ -81,9 +95,12 @@ module _ (old : DiskState) (at : SuperBlock) (d : ℕ) (dr : Record) (slot : ℕ
         }
 
 -- a slot without bytes
-pub slot-empty : (old mid : DiskState) (at : SuperBlock) (d : ℕ) (dr : Record) (slot : ℕ) (path : Path) (names last : LastRead)
-    (res : Result PathAnswer Failed) (b c : PathAnswer) → KnowsDirectory old at d dr.generation dr → slot < 72 → path ≡ path_of slot → IsLast old last
-    → FindsSlot old mid at (λ X. find X d path) names res → res ≡ Ok b → b ≡ c → ((e : ℕ) (X : Image) → entry_held (value_in X c) e ≡ None)
+pub slot-empty : (old mid : DiskState) (at : SuperBlock) (d : ℕ) (dr : Record) (slot : ℕ) (path : Path)
+    (names last : LastRead)
+    (res : Result PathAnswer Failed) (b c : PathAnswer) → KnowsDirectory old at d dr.generation dr
+    → slot < 72 → path ≡ path_of slot → IsLast old last
+    → FindsSlot old mid at (λ X. find X d path) names res → res ≡ Ok b
+    → b ≡ c → ((e : ℕ) (X : Image) → entry_held (value_in X c) e ≡ None)
     → NamesOn old mid d (16 * slot) (16 * (slot + 1)) last (Ok false)
 slot-empty old mid at d dr slot path names last res b c known low path-is kept finds eb ec none = record {
   stays = finds.stays;
@@ -91,10 +108,12 @@ slot-empty old mid at d dr slot path names last res b c known low path-is kept f
     | inl before ↦ p n before
     | inr here ↦
         let f : FindsSlot old mid at (λ X. find X d path) names (Ok c) =
-        subst (λ (r : Result PathAnswer Failed). FindsSlot old mid at (λ X. find X d path) names r) (eb ∙ ap Ok ec) finds in
+        subst (λ (r : Result PathAnswer Failed). FindsSlot old mid at (λ X. find X d path) names r)
+        (eb ∙ ap Ok ec) finds in
         let v : value old.now d slot ≡ value_in old.now c =
         sym (λ j. value_in old.now (find old.now d (path-is j))) ∙ ap (value_in old.now) (sym (f.found t)) in
-        let h : entry_at F d n ≡ None = held-at F old.now d dr match a (known.known.same t) known.kind n slot (value_in old.now c) low
+        let h : entry_at F d n ≡ None =
+        held-at F old.now d dr match a (known.known.same t) known.kind n slot (value_in old.now c) low
         (omega (arith, here, high)) v ∙ none n old.now in
         rw (h, is_paired) refl
   ];

@@ -1,6 +1,7 @@
 -- Drop: the mount stands after its writes, where the inode has another name and where it goes.
 use Rattle.std.proofs.Common.{◌≡◌, ℕ, ◌+◌, ◌-◌, ◌/◌, inl, inr, Bool, true, false, cond, eqb, eq-eqb, leb, leb-true, ltb}
-use Rattle.std.proofs.Common.{◌&&◌, not, List, [], ◌∷◌, Option, Some, None, is_some, IsTrue, refl, sym, ap, ◌∙◌, subst, arith}
+use Rattle.std.proofs.Common.{◌&&◌, not, List, [], ◌∷◌, Option, Some, None, is_some, IsTrue, refl, sym, ap, ◌∙◌, subst}
+use Rattle.std.proofs.Common.{arith}
 use Rattle.std.proofs.lemmas.Bool.{cases_lt, lt-leb}
 use Rattle.std.specs.List.{list_any}
 use Rattle.nofs_disk.specs.Disk.{DiskState, IsDisk, cell_at}
@@ -14,7 +15,8 @@ use Rattle.nofs_crashlaw.specs.Images.Moments.{during}
 use Rattle.nofs_history.specs.Meta.{Meta, Gone, Is, is_gone}
 use Rattle.nofs_history.specs.Marks.{Mark}
 use Rattle.nofs_history.specs.Machine as machine
-use Rattle.nofs_history.specs.Machine.{Given, gives, drop_given, drop_meta, meta_given, without_link, link_to, zero_bytes}
+use Rattle.nofs_history.specs.Machine.{Given, gives, drop_given, drop_meta, meta_given, without_link, link_to}
+use Rattle.nofs_history.specs.Machine.{zero_bytes}
 use Rattle.nofs_history.specs.Machine.{files_after, value_of, with_entry}
 use Rattle.nofs_history.specs.World.{World, is_fixed}
 use Rattle.nofs_history.specs.Claims.{no_claims, next_stamp, IsClaim, has_block}
@@ -38,7 +40,8 @@ use Rattle.nofs_names.proofs.OnDrops.Freed.{IsLeaving, Freed, leaving-claim, lea
 use Rattle.nofs_names.proofs.OnDrops.Writes.{entry-bytes, keeps-meta, keeps-else, Drops}
 use Rattle.nofs_names.proofs.OnDrops.Writes as writes_part
 
-module _ (old : DiskState) (k : Books) (H : List Entry1) (p : Past) (d g : ℕ) (name : List ℕ) (r : Record) (x : Pointer) (c1 c2 : Cell) (q : Paired)
+module _ (old : DiskState) (k : Books) (H : List Entry1) (p : Past) (d g : ℕ) (name : List ℕ) (r : Record) (x : Pointer)
+    (c1 c2 : Cell) (q : Paired)
     (r' : Record) (is_old : IsDisk old) (tells : IsTrue old.tells) (o : IsOpen old k H p)
     (drops : Drops old p d g name r x c1 c2 q r') where
   -- what was shown of them before
@@ -78,10 +81,12 @@ module _ (old : DiskState) (k : Books) (H : List Entry1) (p : Past) (d g : ℕ) 
   abbrev lies : DropLies W.files X Y d g q.entry (next_stamp W) own.file its.file x it
   lies = writes_part.lies old k H p d g name r x c1 c2 q r' is_old tells o drops
 
-  abbrev after-files : files_after W.files (gives W.files (step.Drop d g name) no_claims) ≡ files_after W.files (drop_given W.files d g q.entry)
+  abbrev after-files : files_after W.files (gives W.files (step.Drop d g name) no_claims) ≡ files_after W.files
+      (drop_given W.files d g q.entry)
   after-files = writes_part.after-files old k H p d g name r x c1 c2 q r' is_old tells o drops
 
-  abbrev cell-is : drop_given W.files d g q.entry ≡ machine.cell_given d g (q.entry / 16) (with_entry (value_of W.files d (q.entry / 16)) q.entry (zero_bytes 64))
+  abbrev cell-is : drop_given W.files d g q.entry ≡ machine.cell_given d g (q.entry / 16)
+      (with_entry (value_of W.files d (q.entry / 16)) q.entry (zero_bytes 64))
       (meta_given it.inode it.generation (drop_meta W.files it.inode (link_to d q.entry g)))
   cell-is = writes_part.cell-is old k H p d g name r x c1 c2 q r' is_old tells o drops
 
@@ -96,34 +101,44 @@ module _ (old : DiskState) (k : Books) (H : List Entry1) (p : Past) (d g : ℕ) 
 
   -- The inode drops.has another name
 
-  to-table : (P : ℕ → Cell → Type 0) → P (1 + (it.inode - 1) / 4) (cell_at Y (1 + (it.inode - 1) / 4)) → P (table_block q.inode) c2
-  to-table P h = subst (λ (z : Cell). P (table_block q.inode) z) in-table (subst (λ (i : ℕ). P (1 + (i - 1) / 4) (cell_at Y (1 + (i - 1) / 4))) same h)
+  to-table : (P : ℕ → Cell → Type 0) → P (1 + (it.inode - 1) / 4) (cell_at Y (1 + (it.inode - 1) / 4))
+      → P (table_block q.inode) c2
+  to-table P h = subst (λ (z : Cell). P (table_block q.inode) z) in-table
+      (subst (λ (i : ℕ). P (1 + (i - 1) / 4) (cell_at Y (1 + (i - 1) / 4))) same h)
 
   after-as : (meta : Meta) → drop_meta W.files it.inode (link_to d q.entry g) ≡ meta
-      → drop_given W.files d g q.entry ≡ machine.cell_given d g (q.entry / 16) (with_entry (value_of W.files d (q.entry / 16)) q.entry (zero_bytes 64))
+      → drop_given W.files d g q.entry ≡ machine.cell_given d g (q.entry / 16)
+      (with_entry (value_of W.files d (q.entry / 16)) q.entry (zero_bytes 64))
       (meta_given it.inode it.generation meta)
-  after-as meta e = cell-is ∙ (λ j. machine.cell_given d g (q.entry / 16) (with_entry (value_of W.files d (q.entry / 16)) q.entry (zero_bytes 64))
+  after-as meta e = cell-is ∙ (λ j. machine.cell_given d g (q.entry / 16)
+      (with_entry (value_of W.files d (q.entry / 16)) q.entry (zero_bytes 64))
       (meta_given it.inode it.generation (e j)))
 
   used-as : (meta : Meta) → drop_meta W.files it.inode (link_to d q.entry g) ≡ meta → (j : ℕ)
       → ((h : ℕ) → KeepsFile (meta_given it.inode it.generation meta j h))
       → is_some (files_after W.files (drop_given W.files d g q.entry) j) ≡ is_some (W.files j)
   used-as meta e j keeps = (λ z. is_some (files_after W.files (after-as meta e z) j))
-      ∙ file-used W.files d g (q.entry / 16) (with_entry (value_of W.files d (q.entry / 16)) q.entry (zero_bytes 64)) (meta_given it.inode it.generation meta)
+      ∙ file-used W.files d g (q.entry / 16) (with_entry (value_of W.files d (q.entry / 16)) q.entry (zero_bytes 64))
+      (meta_given it.inode it.generation meta)
       j keeps
 
   blocks-as : (meta : Meta) → drop_meta W.files it.inode (link_to d q.entry g) ≡ meta → (home : Home)
       → ((h : ℕ) → KeepsFile (meta_given it.inode it.generation meta home.inode h)) → has_block W.files home ≡ true
       → has_block (files_after W.files (drop_given W.files d g q.entry)) home ≡ true
-  blocks-as meta e home keeps h = subst (λ (z : Given). has_block (files_after W.files z) home ≡ true) (sym (after-as meta e))
-      (file-blocks W.files d g (q.entry / 16) (with_entry (value_of W.files d (q.entry / 16)) q.entry (zero_bytes 64)) (meta_given it.inode it.generation meta)
+  blocks-as meta e home keeps h =
+      subst (λ (z : Given). has_block (files_after W.files z) home ≡ true) (sym (after-as meta e))
+      (file-blocks W.files d g (q.entry / 16) (with_entry (value_of W.files d (q.entry / 16)) q.entry (zero_bytes 64))
+      (meta_given it.inode it.generation meta)
       home.inode keeps home.slot (entry-bytes (value_of W.files d (q.entry / 16)) q.entry (zero_bytes 64)) h)
 
   module _ (rec-q : inode old.now q.inode ≡ q.record) where
-    module _ (keep : drop_meta W.files it.inode (link_to d q.entry g) ≡ Is its.file.kind its.file.size (without_link (link_to d q.entry g) its.file.links))
+    module _ (keep : drop_meta W.files it.inode (link_to d q.entry g) ≡ Is its.file.kind its.file.size
+        (without_link (link_to d q.entry g) its.file.links))
         (changed : r' ≡ record q.record { links = without_link (link_to d q.entry g) q.record.links }) where
-      new-record : inode Y it.inode ≡ record (inode X it.inode) { links = without_link (link_to d q.entry g) its.file.links }
-      new-record = ap (inode Y) same ∙ here ∙ changed ∙ (λ j. record (rec-i j) { links = without_link (link_to d q.entry g) (links-i j) })
+      new-record : inode Y it.inode
+          ≡ record (inode X it.inode) { links = without_link (link_to d q.entry g) its.file.links }
+      new-record = ap (inode Y) same
+          ∙ here ∙ changed ∙ (λ j. record (rec-i j) { links = without_link (link_to d q.entry g) (links-i j) })
         where
           rec-i : q.record ≡ inode X it.inode
           rec-i = sym rec-q ∙ ap (inode X) (sym same)
@@ -140,11 +155,14 @@ module _ (old : DiskState) (k : Books) (H : List Entry1) (p : Past) (d g : ℕ) 
         pointers = λ n low. ap (λ (z : Record). record_pointer z n) new-record;
       }
 
-      keeps : (j h : ℕ) → KeepsFile (meta_given it.inode it.generation (Is its.file.kind its.file.size (without_link (link_to d q.entry g) its.file.links)) j h)
-      keeps j h = keeps-meta it.inode it.generation (Is its.file.kind its.file.size (without_link (link_to d q.entry g) its.file.links)) refl j h
+      keeps : (j h : ℕ) → KeepsFile (meta_given it.inode it.generation
+          (Is its.file.kind its.file.size (without_link (link_to d q.entry g) its.file.links)) j h)
+      keeps j h = keeps-meta it.inode it.generation
+          (Is its.file.kind its.file.size (without_link (link_to d q.entry g) its.file.links)) refl j h
 
       law-name : ((m : Mark) → super_at m.image ≡ super_at Y → is_data_block m.image (1 + (it.inode - 1) / 4) ≡ false
-          → Proper (during m (drop_given W.files d g q.entry)) X (1 + (it.inode - 1) / 4) (cell_at Y (1 + (it.inode - 1) / 4)))
+          → Proper (during m (drop_given W.files d g q.entry)) X (1 + (it.inode - 1) / 4)
+          (cell_at Y (1 + (it.inode - 1) / 4)))
           × FilesMatch (files_after W.files (drop_given W.files d g q.entry)) Y
       law-name = law-drop-name W.files X Y d g q.entry (next_stamp W) own.file its.file x it lies keep relinked
 
@@ -154,32 +172,39 @@ module _ (old : DiskState) (k : Books) (H : List Entry1) (p : Past) (d g : ℕ) 
         no_block = refl;
         none_claimed = λ b. refl;
         files = after-files;
-        used = λ j. used-as (Is its.file.kind its.file.size (without_link (link_to d q.entry g) its.file.links)) keep j (keeps j);
-        blocks = λ home h. blocks-as (Is its.file.kind its.file.size (without_link (link_to d q.entry g) its.file.links)) keep home (keeps home.inode) h;
+        used = λ j. used-as (Is its.file.kind its.file.size (without_link (link_to d q.entry g) its.file.links))
+            keep j (keeps j);
+        blocks = λ home h. blocks-as (Is its.file.kind its.file.size
+            (without_link (link_to d q.entry g) its.file.links)) keep home (keeps home.inode) h;
         sees_no_inode = λ i. refl;
         sees_no_block = λ b. refl;
       }
 
       kept-claim : IsClaim W (step.Drop d g name) no_claims
-      kept-claim = quiet-claim X k W (step.Drop d g name) (files_after W.files (drop_given W.files d g q.entry)) o.says on.match o.homes o.homes_past quiet
+      kept-claim = quiet-claim X k W (step.Drop d g name)
+          (files_after W.files (drop_given W.files d g q.entry)) o.says on.match o.homes o.homes_past quiet
 
       kept-ends : EndsWell
       kept-ends = record {
         numbered = inl relinked;
-        table = to-table (λ b z. Proper (during (mark_at p.base H (old.moment + 1) p.mark p.stamps) (drop_given W.files d g q.entry)) X b z)
+        table = to-table (λ b z.
+            Proper (during (mark_at p.base H (old.moment + 1) p.mark p.stamps) (drop_given W.files d g q.entry)) X b z)
             (law-name.0 (mark_at p.base H (old.moment + 1) p.mark p.stamps) super-after
             (ap (λ (i : ℕ). is_data_block p.mark (1 + (i - 1) / 4)) same ∙ mark-table));
         files = law-name.1;
         claim = kept-claim;
-        move = law-drop-name-homes W X Y d g q.entry (next_stamp W) name own.file its.file x it no_claims lies keep relinked kept-claim;
+        move = law-drop-name-homes W X Y d g q.entry
+            (next_stamp W) name own.file its.file x it no_claims lies keep relinked kept-claim;
         others = λ j ne. quiet.used j;
         owned = λ live. quiet.used it.inode ∙ ap is_some named;
       }
 
-      pub kept-comes : NameComes old H p k (step.Drop d g name) no_claims (reply.Dropped false) ((x.block, c1) ∷ (table_block q.inode, c2) ∷ [])
+      pub kept-comes : NameComes old H p k (step.Drop d g name) no_claims (reply.Dropped false)
+          ((x.block, c1) ∷ (table_block q.inode, c2) ∷ [])
       kept-comes = (writes_part.drop-comes old k H p d g name r x c1 c2 q r' is_old tells o drops) kept-ends k false (ap
           is_gone keep)
-          (quiet-follows X k W (step.Drop d g name) (files_after W.files (drop_given W.files d g q.entry)) o.says on.match o.homes o.homes_past quiet)
+          (quiet-follows X k W (step.Drop d g name)
+          (files_after W.files (drop_given W.files d g q.entry)) o.says on.match o.homes o.homes_past quiet)
 
     -- The inode goes
 
@@ -191,12 +216,15 @@ module _ (old : DiskState) (k : Books) (H : List Entry1) (p : Past) (d g : ℕ) 
       generation-is = drops.pair.pair.generation ∙ sym (its.generation ∙ ap (λ (z : Record). z.generation) rec-q)
 
       -- what stands at the mark is this generation
-      stood : (n : ℕ) → (mark_at p.base H (old.moment + 1) p.mark p.stamps).stands it.inode n ≡ true → its.file.generation ≡ n
-      stood n st = its.generation ∙ ap (λ (i : ℕ). (inode X i).generation) (sym same) ∙ (on.survives.keeps.records it.inode n st).1
+      stood : (n : ℕ)
+          → (mark_at p.base H (old.moment + 1) p.mark p.stamps).stands it.inode n ≡ true → its.file.generation ≡ n
+      stood n st = its.generation ∙ ap (λ (i : ℕ). (inode X i).generation) (sym same)
+          ∙ (on.survives.keeps.records it.inode n st).1
 
       law-file : ((m : Mark) → super_at m.image ≡ super_at Y → is_data_block m.image (1 + (it.inode - 1) / 4) ≡ false
           → ((n : ℕ) → m.stands it.inode n ≡ true → its.file.generation ≡ n)
-          → Proper (during m (drop_given W.files d g q.entry)) X (1 + (it.inode - 1) / 4) (cell_at Y (1 + (it.inode - 1) / 4)))
+          → Proper (during m (drop_given W.files d g q.entry)) X (1 + (it.inode - 1) / 4)
+          (cell_at Y (1 + (it.inode - 1) / 4)))
           × FilesMatch (files_after W.files (drop_given W.files d g q.entry)) Y
       law-file = law-drop-file W.files X Y d g q.entry (next_stamp W) own.file its.file x it lies goes no-kind
 
@@ -208,21 +236,25 @@ module _ (old : DiskState) (k : Books) (H : List Entry1) (p : Past) (d g : ℕ) 
           meta_of_file z = elim z [
             | None ↦ Gone
             | Some f ↦ (cond
-                (not (is_special it.inode) && not (list_any (λ l. is_pair W.files it.inode l) (without_link (link_to d q.entry g) f.links))) Gone
+                (not (is_special it.inode)
+                && not (list_any (λ l. is_pair W.files it.inode l) (without_link (link_to d q.entry g) f.links))) Gone
                 (Is f.kind f.size (without_link (link_to d q.entry g) f.links)))
           ]
 
           go : (b : Bool) → is_special it.inode ≡ b → meta_of_file (Some its.file) ≡ Gone → is_special it.inode ≡ false
           go false e h = e
-          go true e h = absurd (let z : meta_of_file (Some its.file) ≡ Is its.file.kind its.file.size (without_link (link_to d q.entry g) its.file.links) =
+          go true e h = absurd (let z : meta_of_file (Some its.file) ≡ Is its.file.kind its.file.size
+              (without_link (link_to d q.entry g) its.file.links) =
               rw e refl in let w = ap is_gone (sym z ∙ h) in cc w)
 
       gone-file-is : files_after W.files (drop_given W.files d g q.entry) it.inode ≡ None
       gone-file-is = (λ z. files_after W.files (after-as Gone goes z) it.inode)
           ∙ ap (λ (z : Option FileState). machine.file_after
-          (machine.cell_given d g (q.entry / 16) (with_entry (value_of W.files d (q.entry / 16)) q.entry (zero_bytes 64))
+          (machine.cell_given d g (q.entry / 16)
+          (with_entry (value_of W.files d (q.entry / 16)) q.entry (zero_bytes 64))
           (meta_given it.inode it.generation Gone)) it.inode z) named
-          ∙ (let a = eq-eqb it.inode it.inode refl in let b = eq-eqb it.generation its.file.generation generation-is in rw (a, b) refl)
+          ∙ (let a = eq-eqb it.inode it.inode refl in
+          let b = eq-eqb it.generation its.file.generation generation-is in rw (a, b) refl)
 
       leaving : IsLeaving W (step.Drop d g name) (files_after W.files (drop_given W.files d g q.entry)) it.inode
       leaving = record {
@@ -258,27 +290,33 @@ module _ (old : DiskState) (k : Books) (H : List Entry1) (p : Past) (d g : ℕ) 
           ]
 
       gone-claim : IsClaim W (step.Drop d g name) no_claims
-      gone-claim = leaving-claim W (step.Drop d g name) (files_after W.files (drop_given W.files d g q.entry)) it.inode leaving
+      gone-claim =
+          leaving-claim W (step.Drop d g name) (files_after W.files (drop_given W.files d g q.entry)) it.inode leaving
 
       gone-ends : EndsWell
       gone-ends = record {
         numbered = inr no-kind;
-        table = to-table (λ b z. Proper (during (mark_at p.base H (old.moment + 1) p.mark p.stamps) (drop_given W.files d g q.entry)) X b z)
+        table = to-table (λ b z.
+            Proper (during (mark_at p.base H (old.moment + 1) p.mark p.stamps) (drop_given W.files d g q.entry)) X b z)
             (law-file.0 (mark_at p.base H (old.moment + 1) p.mark p.stamps) super-after
             (ap (λ (i : ℕ). is_data_block p.mark (1 + (i - 1) / 4)) same ∙ mark-table) stood);
         files = law-file.1;
         claim = gone-claim;
-        move = law-drop-file-homes W X Y d g q.entry (next_stamp W) name own.file its.file x it no_claims lies goes no-kind gone-claim;
+        move = law-drop-file-homes W X Y d g q.entry
+            (next_stamp W) name own.file its.file x it no_claims lies goes no-kind gone-claim;
         others = λ j ne. leaving.used j ne;
-        owned = λ live. absurd (let z : is_live (inode Y it.inode) ≡ false = let n = no-kind in rw n refl in cc (z, live));
+        owned = λ live.
+            absurd (let z : is_live (inode Y it.inode) ≡ false = let n = no-kind in rw n refl in cc (z, live));
       }
 
       pub gone-step : NameStep old H p (step.Drop d g name) no_claims ((x.block, c1) ∷ (table_block q.inode, c2) ∷ [])
       gone-step = (writes_part.drop-step old k H p d g name r x c1 c2 q r' is_old tells o drops) gone-ends
 
       pub gone-comes : (l : Books) → Freed k l it.inode (λ b. is_of it.inode (W.homes b))
-          → NameComes old H p l (step.Drop d g name) no_claims (reply.Dropped true) ((x.block, c1) ∷ (table_block q.inode, c2) ∷ [])
-      gone-comes l freed = (writes_part.drop-comes old k H p d g name r x c1 c2 q r' is_old tells o drops) gone-ends l true
+          → NameComes old H p l (step.Drop d g name) no_claims (reply.Dropped true)
+          ((x.block, c1) ∷ (table_block q.inode, c2) ∷ [])
+      gone-comes l freed =
+          (writes_part.drop-comes old k H p d g name r x c1 c2 q r' is_old tells o drops) gone-ends l true
           (ap is_gone goes)
           (leaving-follows X k l W (step.Drop d g name) (files_after W.files (drop_given W.files d g q.entry))
           it.inode o.says on.match o.homes o.homes_past leaving freed)

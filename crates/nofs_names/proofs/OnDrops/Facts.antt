@@ -1,5 +1,6 @@
 -- What a mount knows before the writes of a Drop, and what stands there where the mount is open.
-use Rattle.std.proofs.Common.{◌≡◌, ℕ, ◌*◌, ◌/◌, ◌%◌, ◌<◌, length, List, [], ◌∷◌, Some, IsTrue, Bool, true, sym, ap, ◌∙◌, subst, arith}
+use Rattle.std.proofs.Common.{◌≡◌, ℕ, ◌*◌, ◌/◌, ◌%◌, ◌<◌, length, List, [], ◌∷◌, Some, IsTrue, Bool, true, sym, ap, ◌∙◌}
+use Rattle.std.proofs.Common.{subst, arith}
 use Rattle.nofs_disk.specs.Disk.{DiskState, StaysButFaults, cell_at}
 use Rattle.nofs_disk.specs.Number.{put_bytes, zeros}
 use Rattle.nofs_model.specs.Cells.{Cell, Pointer, Record, tag_of}
@@ -26,7 +27,8 @@ use Rattle.nofs_names.specs.Renames.Parts.{FoundIn}
 use Rattle.nofs_names.specs.Drops.Parts.{ClearedIn, HasNoNames}
 use Rattle.nofs_names.proofs.OnDrops.Writes.{Drops}
 
-pub record IsDropping (b : DiskState) (k : Books) (d g : ℕ) (name : List ℕ) (r : Record) (x : Pointer) (c1 : Cell) (q : Paired) : Type 0 where
+pub record IsDropping (b : DiskState) (k : Books) (d g : ℕ) (name : List ℕ) (r : Record) (x : Pointer) (c1 : Cell)
+    (q : Paired) : Type 0 where
   pub directory : KnowsDirectory b k.at d r.generation r
   pub generation : r.generation ≡ g
   pub there : IsTrue b.tells → KnownTrue k b.now → IsThere d b.now
@@ -37,9 +39,12 @@ pub record IsDropping (b : DiskState) (k : Books) (d g : ℕ) (name : List ℕ) 
   pub held : IsTrue b.tells → find b.now d (path_of (q.entry / 16)) ≡ answer.Holds x
   pub cleared : ClearedIn b x (q.entry % 16) c1
 
-pub is-dropping : (b : DiskState) (k : Books) (d g : ℕ) (name : List ℕ) (r : Record) (x : Pointer) (c1 : Cell) (q : Paired)
-    → KnowsDirectory b k.at d r.generation r → r.generation ≡ g → (IsTrue b.tells → KnownTrue k b.now → IsThere d b.now) → KnowsInode b k.at q.inode q.record
-    → FoundIn b d name q → HasNoNames b q.inode → 0 < x.block → (IsTrue b.tells → find b.now d (path_of (q.entry / 16)) ≡ answer.Holds x)
+pub is-dropping : (b : DiskState) (k : Books) (d g : ℕ) (name : List ℕ) (r : Record) (x : Pointer)
+    (c1 : Cell) (q : Paired)
+    → KnowsDirectory b k.at d r.generation r → r.generation ≡ g → (IsTrue b.tells → KnownTrue k b.now → IsThere d b.now)
+    → KnowsInode b k.at q.inode q.record
+    → FoundIn b d name q → HasNoNames b q.inode
+    → 0 < x.block → (IsTrue b.tells → find b.now d (path_of (q.entry / 16)) ≡ answer.Holds x)
     → ClearedIn b x (q.entry % 16) c1 → IsDropping b k d g name r x c1 q
 is-dropping b k d g name r x c1 q directory generation there known found no_names positive held cleared = record {
   directory = directory;
@@ -90,11 +95,16 @@ module _ (b : DiskState) (k : Books) (d g : ℕ) (name : List ℕ) (r : Record) 
   -- the same is known after reads
   pub dropping-on : (new : DiskState) → StaysButFaults b new → IsDropping new k d g name r x c1 q
   dropping-on new stays = record {
-    directory = record { known = KnowsInode-on b new k.at d r stays it.directory.known; kind = it.directory.kind; generation = it.directory.generation };
+    directory = record {
+      known = KnowsInode-on b new k.at d r stays it.directory.known;
+      kind = it.directory.kind;
+      generation = it.directory.generation;
+    };
     generation = it.generation;
     there = λ t. subst (λ (X : Image). KnownTrue k X → IsThere d X) (sym now) (it.there (told t));
     known = KnowsInode-on b new k.at q.inode q.record stays it.known;
-    found = λ t. subst (λ (X : Image). IsThere d X → (F : Files) → FilesMatch F X → IsFoundEntry F X d name q) (sym now) (it.found (told t));
+    found = λ t. subst (λ (X : Image). IsThere d X → (F : Files) → FilesMatch F X → IsFoundEntry F X d name q) (sym now)
+        (it.found (told t));
     no_names = λ t F m. it.no_names (told t) F (subst (λ (X : Image). FilesMatch F X) now m);
     positive = it.positive;
     held = λ t. subst (λ (X : Image). find X d (path_of (q.entry / 16)) ≡ answer.Holds x) (sym now) (it.held (told t));

@@ -1,5 +1,6 @@
 -- The contract of the writes of Drop where the inode goes.
-use Rattle.std.proofs.Common.{◌≡◌, ℕ, ◌+◌, ◌-◌, ◌/◌, ◌%◌, ◌^◌, ◌<◌, ◌≤◌, ◌||◌, inl, inr, Bool, true, false, List, [], ◌∷◌, length, Some, IsTrue, Result, Ok}
+use Rattle.std.proofs.Common.{◌≡◌, ℕ, ◌+◌, ◌-◌, ◌/◌, ◌%◌, ◌^◌, ◌<◌, ◌≤◌, ◌||◌, inl, inr, Bool, true, false, List, []}
+use Rattle.std.proofs.Common.{◌∷◌, length, Some, IsTrue, Result, Ok}
 use Rattle.std.proofs.Common.{Err, refl, sym, ap, ◌∙◌, subst, subst₂, None}
 use Rattle.std.proofs.lemmas.List.{length-set}
 use Rattle.nofs_disk.specs.Disk.{DiskState, IsDisk, StaysButFaults, cell_at}
@@ -45,15 +46,19 @@ use Rattle.nofs_names.proofs.OnSteps.OpenMount.{done-goes, fault-goes}
 use Rattle.std.proofs.Math.Bool.{or-false}
 
 -- the maps after the removal have the sizes, too, and free blocks of the data area alone
-pub safe-freed : (d : DiskState) (k l : Books) (i : ℕ) (freed : List Bool) → IsSafe d k → FreedAs k l i freed → length freed ≡ k.at.blocks
+pub safe-freed : (d : DiskState) (k l : Books) (i : ℕ) (freed : List Bool) → IsSafe d k → FreedAs k l i freed
+    → length freed ≡ k.at.blocks
     → ((n : ℕ) → is_set freed n ≡ true → 1 + k.at.inodes / 4 ≤ n) → IsSafe d l
 safe-freed d k l i freed s a size in_area = record {
   at = subst (λ (z : SuperBlock). IsAt d z) (sym a.at) s.at;
   mount = subst (λ (z : SuperBlock). z.mount < 2 ^ 24) (sym a.at) s.mount;
   serial = subst (λ (n : ℕ). n ≤ 2 ^ 40) (sym a.serial) s.serial;
-  unknown_inodes = ap length a.unknown_inodes ∙ set-length k.unknown_inodes (i - 1) false ∙ s.unknown_inodes ∙ sym (ap (λ (z : SuperBlock). z.inodes) a.at);
-  free_inodes = ap length a.free_inodes ∙ set-length k.free_inodes (i - 1) true ∙ s.free_inodes ∙ sym (ap (λ (z : SuperBlock). z.inodes) a.at);
-  agreement = ap length a.agreement ∙ length-set k.agreement (i - 1) None ∙ s.agreement ∙ sym (ap (λ (z : SuperBlock). z.inodes) a.at);
+  unknown_inodes = ap length a.unknown_inodes ∙ set-length k.unknown_inodes (i - 1) false
+      ∙ s.unknown_inodes ∙ sym (ap (λ (z : SuperBlock). z.inodes) a.at);
+  free_inodes = ap length a.free_inodes ∙ set-length k.free_inodes (i - 1) true
+      ∙ s.free_inodes ∙ sym (ap (λ (z : SuperBlock). z.inodes) a.at);
+  agreement = ap length a.agreement ∙ length-set k.agreement (i - 1) None
+      ∙ s.agreement ∙ sym (ap (λ (z : SuperBlock). z.inodes) a.at);
   unknown_blocks = a.blocks.unknown_size ∙ s.unknown_blocks ∙ sym (ap (λ (z : SuperBlock). z.blocks) a.at);
   free_blocks = a.blocks.free_size ∙ s.free_blocks ∙ sym (ap (λ (z : SuperBlock). z.blocks) a.at);
   in_area = λ n t. subst (λ (z : SuperBlock). 1 + z.inodes / 4 ≤ n) (sym a.at) (elim (cases_lt n k.at.blocks) [
@@ -62,24 +67,32 @@ safe-freed d k l i freed s a size in_area = record {
   ]);
 }
   where
-    by-bit : (n : ℕ) (b : Bool) → is_set freed n ≡ b → (is_set k.free_blocks n || is_set freed n) ≡ true → 1 + k.at.inodes / 4 ≤ n
+    by-bit : (n : ℕ) (b : Bool)
+        → is_set freed n ≡ b → (is_set k.free_blocks n || is_set freed n) ≡ true → 1 + k.at.inodes / 4 ≤ n
     by-bit n true e t = in_area n e
-    by-bit n false e t = s.in_area n (sym ((λ z. is_set k.free_blocks n || e z) ∙ or-false (is_set k.free_blocks n)) ∙ t)
+    by-bit n false e t =
+        s.in_area n (sym ((λ z. is_set k.free_blocks n || e z) ∙ or-false (is_set k.free_blocks n)) ∙ t)
 
-pub removed-goes : (b new : DiskState) (k l : Books) (d g : ℕ) (name : List ℕ) (r : Record) (x : Pointer) (c1 c2 : Cell) (q : Paired) (freed : List Bool)
-    → IsDisk b → IsDisk new → IsSafe b k → k.stopped ≡ false → IsDropping b k d g name r x c1 q → q.record.kind ≡ Some q.kind → LosesName b k d g q
-    → (IsTrue b.tells → RecordIn (cell_at b.now (table_block q.inode)) q.inode free_record c2) → tag_of c2.tag ≡ Some (table_tag (table_block q.inode))
+pub removed-goes : (b new : DiskState) (k l : Books) (d g : ℕ) (name : List ℕ) (r : Record) (x : Pointer) (c1 c2 : Cell)
+    (q : Paired) (freed : List Bool)
+    → IsDisk b → IsDisk new → IsSafe b k → k.stopped ≡ false → IsDropping b k d g name r x c1 q
+    → q.record.kind ≡ Some q.kind → LosesName b k d g q
+    → (IsTrue b.tells → RecordIn (cell_at b.now (table_block q.inode)) q.inode free_record c2)
+    → tag_of c2.tag ≡ Some (table_tag (table_block q.inode))
     → BlocksOf b k.at q.inode freed
     → RowsPass b k (step.Drop d g name) → (result : Result (Unit {0}) Refusal) (m : Books)
-    → Stores b k new m ((x.block, c1) ∷ (table_block q.inode, c2) ∷ []) result → (result ≡ Ok tt → FreedAs m l q.inode freed)
+    → Stores b k new m ((x.block, c1) ∷ (table_block q.inode, c2) ∷ []) result
+    → (result ≡ Ok tt → FreedAs m l q.inode freed)
     → ((why : Refusal) → result ≡ Err why → l ≡ m)
     → Goes b k new l (step.Drop d g name) no_claims (done_answer (reply.Dropped true) result)
-removed-goes b new k l d g name r x c1 c2 q freed is_b is_new safe going it q-kind loses table table-tag blocks pass result m stores ok err = go stores
+removed-goes b new k l d g name r x c1 c2 q freed is_b is_new safe going it q-kind loses table table-tag blocks pass
+    result m stores ok err = go stores
   where
     apart : IsApart ((x.block, c1) ∷ (table_block q.inode, c2) ∷ []) 0
     apart = drop-apart b k d g name r x c1 q it c2
 
-    facts : (tells : IsTrue b.tells) (H : List Entry1) (p : Past) → IsOpen b k H p → Drops b p d g name r x c1 c2 q free_record
+    facts : (tells : IsTrue b.tells) (H : List Entry1) (p : Past) → IsOpen b k H p
+        → Drops b p d g name r x c1 c2 q free_record
     facts tells H p o = drops-in b k d g name r x c1 q it H p tells safe o c2 free_record (table tells) table-tag
 
     gone : (tells : IsTrue b.tells) (H : List Entry1) (p : Past) (o : IsOpen b k H p)
@@ -94,9 +107,12 @@ removed-goes b new k l d g name r x c1 c2 q freed is_b is_new safe going it q-ki
 
     -- the maps once the blocks are freed
     freed-now : (tells : IsTrue b.tells) (H : List Entry1) (p : Past) (o : IsOpen b k H p) → FreedAs k l q.inode freed
-        → Freed k l (facts tells H p o).pair.pair.entry.inode (λ n. is_of (facts tells H p o).pair.pair.entry.inode (p.world.homes n))
-    freed-now tells H p o a = subst (λ (i : ℕ). Freed k l i (λ n. is_of i (p.world.homes n))) (sym (facts tells H p o).pair.pair.names)
-        (freed-from k l q.inode freed (λ n. is_of q.inode (p.world.homes n)) (safe.unknown_inodes, safe.free_inodes) range.0 range.1 a
+        → Freed k l (facts tells H p o).pair.pair.entry.inode
+        (λ n. is_of (facts tells H p o).pair.pair.entry.inode (p.world.homes n))
+    freed-now tells H p o a =
+        subst (λ (i : ℕ). Freed k l i (λ n. is_of i (p.world.homes n))) (sym (facts tells H p o).pair.pair.names)
+        (freed-from k l q.inode freed (λ n. is_of q.inode (p.world.homes n))
+        (safe.unknown_inodes, safe.free_inodes) range.0 range.1 a
         (λ n low. blocks.owned tells (facts tells H p o).pair.pair.agreed n low
         ∙ ap (is_of q.inode) (sym (o.homes n (subst (λ (z : ℕ). n < z) (sym o.says.blocks) low))))
         (λ n high. ap (is_of q.inode) (o.homes_past n (subst (λ (z : ℕ). z ≤ n) (sym o.says.blocks) high))))
@@ -108,45 +124,64 @@ removed-goes b new k l d g name r x c1 c2 q freed is_b is_new safe going it q-ki
         → Goes b k new l (step.Drop d g name) no_claims (done_answer (reply.Dropped true) result)
     go (Stored writes same e) =
         let a : FreedAs k l q.inode freed = subst (λ (z : Books). FreedAs z l q.inode freed) same (ok e) in
-        subst (λ (z : Result (Unit {0}) Refusal). Goes b k new l (step.Drop d g name) no_claims (done_answer (reply.Dropped true) z)) (sym e)
-        (done-goes b new k l (step.Drop d g name) no_claims (reply.Dropped true) ((x.block, c1) ∷ (table_block q.inode, c2) ∷ []) is_b is_new safe going
-        (safe-freed new k l q.inode freed (safe-writes b new k ((x.block, c1) ∷ (table_block q.inode, c2) ∷ []) (Ok tt) k.stopped writes apart safe)
-        a blocks.size blocks.in_area) (record { at = a.at; history = a.history; stopped = a.stopped }) refl refl refl refl
-        (λ tells H p o. gone-comes b k H p d g name r x c1 c2 q free_record is_b tells o (facts tells H p o) (it.known.same tells) (gone tells H p o) refl l
+        subst (λ (z : Result (Unit {0}) Refusal). Goes b k new l (step.Drop d g name) no_claims
+        (done_answer (reply.Dropped true) z)) (sym e)
+        (done-goes b new k l (step.Drop d g name) no_claims (reply.Dropped true)
+        ((x.block, c1) ∷ (table_block q.inode, c2) ∷ []) is_b is_new safe going
+        (safe-freed new k l q.inode freed
+        (safe-writes b new k ((x.block, c1) ∷ (table_block q.inode, c2) ∷ []) (Ok tt) k.stopped writes apart safe)
+        a blocks.size blocks.in_area)
+        (record { at = a.at; history = a.history; stopped = a.stopped }) refl refl refl refl
+        (λ tells H p o. gone-comes b k H p d g name r x c1 c2 q free_record is_b tells o (facts tells H p o)
+        (it.known.same tells) (gone tells H p o) refl l
         (freed-now tells H p o a)) pass writes)
-    go (NotStored f writes same e) = subst₂ (λ (z : Books) (w : Result (Unit {0}) Refusal). Goes b k new z (step.Drop d g name) no_claims
+    go (NotStored f writes same e) =
+        subst₂ (λ (z : Books) (w : Result (Unit {0}) Refusal). Goes b k new z (step.Drop d g name) no_claims
         (done_answer (reply.Dropped true) w)) (sym (err refusal.WriteFault e ∙ same)) (sym e)
-        (fault-goes b new k k (step.Drop d g name) no_claims ((x.block, c1) ∷ (table_block q.inode, c2) ∷ []) f is_b safe going safe
+        (fault-goes b new k k (step.Drop d g name) no_claims
+        ((x.block, c1) ∷ (table_block q.inode, c2) ∷ []) f is_b safe going safe
         (record { at = refl; history = refl; stopped = refl }) apart refl refl
-        (λ tells H p o. gone-step b k H p d g name r x c1 c2 q free_record is_b tells o (facts tells H p o) (it.known.same tells) (gone tells H p o) refl)
+        (λ tells H p o. gone-step b k H p d g name r x c1 c2 q free_record is_b tells o (facts tells H p o)
+        (it.known.same tells) (gone tells H p o) refl)
         pass writes)
 
 -- from the state before the table was read
-pub remove-ends : (old mid new : DiskState) (k m l : Books) (d g : ℕ) (name : List ℕ) (r : Record) (x : Pointer) (c1 before c2 : Cell) (q : Paired)
-    (freed : List Bool) (result : Result (Unit {0}) Refusal) → IsDisk mid → IsDisk new → StaysButFaults old mid → IsSafe old k → k.stopped ≡ false
-    → KnowsDirectory old k.at d r.generation r → r.generation ≡ g → (IsTrue old.tells → KnownTrue k old.now → IsThere d old.now)
-    → KnowsInode old k.at q.inode q.record → q.record.kind ≡ Some q.kind → FoundIn old d name q → HasNoNames old q.inode → LosesName old k d g q → 0 < x.block
+pub remove-ends : (old mid new : DiskState) (k m l : Books) (d g : ℕ) (name : List ℕ) (r : Record) (x : Pointer)
+    (c1 before c2 : Cell) (q : Paired)
+    (freed : List Bool) (result : Result (Unit {0}) Refusal) → IsDisk mid → IsDisk new → StaysButFaults old mid
+    → IsSafe old k → k.stopped ≡ false
+    → KnowsDirectory old k.at d r.generation r
+    → r.generation ≡ g → (IsTrue old.tells → KnownTrue k old.now → IsThere d old.now)
+    → KnowsInode old k.at q.inode q.record → q.record.kind ≡ Some q.kind → FoundIn old d name q → HasNoNames old q.inode
+    → LosesName old k d g q → 0 < x.block
     → (IsTrue old.tells → find old.now d (path_of (q.entry / 16)) ≡ answer.Holds x) → ClearedIn old x (q.entry % 16) c1
     → (IsTrue old.tells → before ≡ cell_at old.now (table_block q.inode)) → RecordIn before q.inode free_record c2
     → tag_of c2.tag ≡ Some (table_tag (table_block q.inode)) → BlocksOf old k.at q.inode freed
     → RowsPass old k (step.Drop d g name) → Stores mid k new m ((x.block, c1) ∷ (table_block q.inode, c2) ∷ []) result
     → (result ≡ Ok tt → FreedAs m l q.inode freed) → ((why : Refusal) → result ≡ Err why → l ≡ m)
     → Goes old k new l (step.Drop d g name) no_claims (done_answer (reply.Dropped true) result)
-remove-ends old mid new k m l d g name r x c1 before c2 q freed result is_mid is_new stays safe going directory gen there record-known q-kind found-in
+remove-ends old mid new k m l d g name r x c1 before c2 q freed result is_mid is_new stays safe going directory gen
+    there record-known q-kind found-in
     no_names loses positive held cleared table record-in table-tag blocks pass stores ok err =
-    goes-after old mid (reads-keep old mid stays) new k l (step.Drop d g name) no_claims (done_answer (reply.Dropped true) result)
-    (removed-goes mid new k l d g name r x c1 c2 q freed is_mid is_new (safe-keeps old mid (reads-keep old mid stays) k safe) going
+    goes-after old mid (reads-keep old mid stays) new k l (step.Drop d g name) no_claims
+    (done_answer (reply.Dropped true) result)
+    (removed-goes mid new k l d g name r x c1 c2 q freed is_mid is_new
+    (safe-keeps old mid (reads-keep old mid stays) k safe) going
     (dropping-on old k d g name r x c1 q
-    (is-dropping old k d g name r x c1 q directory gen there record-known found-in no_names positive held cleared) mid stays)
+    (is-dropping old k d g name r x c1 q directory gen there record-known found-in no_names positive held cleared) mid
+    stays)
     q-kind
-    (λ t all F w. loses (told t) (subst (λ (X : Image). KnownTrue k X) now all) F (subst (λ (X : Image). FilesMatch F X) now w))
-    (λ t. subst (λ (z : Cell). RecordIn z q.inode free_record c2) (table (told t) ∙ ap (λ (X : Image). cell_at X (table_block q.inode)) (sym now)) record-in)
+    (λ t all F w. loses (told t) (subst (λ (X : Image). KnownTrue k X) now all) F
+    (subst (λ (X : Image). FilesMatch F X) now w))
+    (λ t. subst (λ (z : Cell). RecordIn z q.inode free_record c2)
+    (table (told t) ∙ ap (λ (X : Image). cell_at X (table_block q.inode)) (sym now)) record-in)
     table-tag
     (record {
       size = blocks.size;
       in_area = blocks.in_area;
       owned =
-          λ t a n low. subst (λ (X : Image). agreed (files_in X) q.inode ≡ true → is_set freed n ≡ is_of q.inode (owner X n)) (sym now)
+          λ t a n low. subst
+          (λ (X : Image). agreed (files_in X) q.inode ≡ true → is_set freed n ≡ is_of q.inode (owner X n)) (sym now)
           (λ b. blocks.owned (told t) b n low) a;
     })
     (λ t H p o V. pass (told t) H p (open-back old mid (reads-keep old mid stays) k H p o) V) result m stores ok err)

@@ -23,12 +23,15 @@ module _ (old new : DiskState) (stays : StaysButFaults old new) where
   now = sym stays.cells.now
 
   pub gone-on : (k : Books) (d g : ℕ) (q : Paired) (b : Bool)
-      → (IsTrue old.tells → KnownTrue k old.now → (F : Files) → FilesMatch F old.now → is_gone (drop_meta F q.inode (link_to d q.entry g)) ≡ b)
-      → IsTrue new.tells → KnownTrue k new.now → (F : Files) → FilesMatch F new.now → is_gone (drop_meta F q.inode (link_to d q.entry g)) ≡ b
+      → (IsTrue old.tells → KnownTrue k old.now → (F : Files) → FilesMatch F old.now
+      → is_gone (drop_meta F q.inode (link_to d q.entry g)) ≡ b)
+      → IsTrue new.tells → KnownTrue k new.now → (F : Files) → FilesMatch F new.now
+      → is_gone (drop_meta F q.inode (link_to d q.entry g)) ≡ b
   gone-on k d g q b gone t all F m = gone (back t) (subst (λ (X : Image). KnownTrue k X) stays.cells.now all) F
       (subst (λ (X : Image). FilesMatch F X) stays.cells.now m)
 
-  pub may-on : (k : Books) (d g : ℕ) (name : List ℕ) (r : Record) (q : Paired) → MayDrop old k d g name r q → MayDrop new k d g name r q
+  pub may-on : (k : Books) (d g : ℕ) (name : List ℕ) (r : Record) (q : Paired) → MayDrop old k d g name r q
+      → MayDrop new k d g name r q
   may-on k d g name r q m = record {
     directory = directory-on old new stays k.at d r.generation r m.directory;
     generation = m.generation;
@@ -39,17 +42,20 @@ module _ (old new : DiskState) (stays : StaysButFaults old new) where
     rows = rows-on old new stays k (step.Drop d g name) m.rows;
   }
 
-  pub held-on : (d slot : ℕ) (x : Pointer) → (IsTrue old.tells → find old.now d (path_of slot) ≡ answer.Holds x) → IsTrue new.tells
+  pub held-on : (d slot : ℕ) (x : Pointer) → (IsTrue old.tells → find old.now d (path_of slot) ≡ answer.Holds x)
+      → IsTrue new.tells
       → find new.now d (path_of slot) ≡ answer.Holds x
   held-on d slot x held t = subst (λ (X : Image). find X d (path_of slot) ≡ answer.Holds x) now (held (back t))
 
-  pub clears-on : (k : Books) (d : ℕ) (q : Paired) (x : Pointer) (c : Cell) → ClearsEntry old k d q x c → ClearsEntry new k d q x c
+  pub clears-on : (k : Books) (d : ℕ) (q : Paired) (x : Pointer) (c : Cell) → ClearsEntry old k d q x c
+      → ClearsEntry new k d q x c
   clears-on k d q x c s = record {
     area = s.area;
     held = held-on d (q.entry / 16) x s.held;
     cleared = record {
       whole = λ t. subst (λ (X : Image). length (cell_at X x.block).payload ≡ 1024) now (s.cleared.whole (back t));
-      payload = λ t. subst (λ (X : Image). c.payload ≡ put_bytes (64 * (q.entry % 16)) (zeros 64) (cell_at X x.block).payload) now
+      payload = λ t.
+          subst (λ (X : Image). c.payload ≡ put_bytes (64 * (q.entry % 16)) (zeros 64) (cell_at X x.block).payload) now
           (s.cleared.payload (back t));
       tag = λ t. subst (λ (X : Image). c.tag ≡ (cell_at X x.block).tag) now (s.cleared.tag (back t));
     };

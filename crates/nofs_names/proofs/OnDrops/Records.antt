@@ -1,8 +1,10 @@
 -- A record without a back link has a spelling, too.
-use Rattle.std.proofs.Common.{◌≡◌, ℕ, ◌≤◌, Bool, true, false, cond, not, List, [], ◌∷◌, Option, Some, refl, sym, subst, arith}
+use Rattle.std.proofs.Common.{◌≡◌, ℕ, ◌≤◌, Bool, true, false, cond, not, List, [], ◌∷◌, Option, Some, refl, sym, subst}
+use Rattle.std.proofs.Common.{arith}
 use Rattle.std.proofs.lemmas.List.Elements.{All-map, All-weaker}
 use Rattle.std.proofs.lemmas.List.Sums.{sum_by-cons}
-use Rattle.nofs_inode.specs.InodeRecords.{AllowsKind, AllowsRecord, HasRecordSpelling, IsTidyLink, is_empty_link, link_count}
+use Rattle.nofs_inode.specs.InodeRecords.{AllowsKind, AllowsRecord, HasRecordSpelling, IsTidyLink, is_empty_link}
+use Rattle.nofs_inode.specs.InodeRecords.{link_count}
 use Rattle.nofs_inode.specs.declared.inode.FileKind.TheVariants.{File, Directory}
 use Rattle.nofs_model.specs.Cells.{BackLink, FileKind, Record}
 use Rattle.nofs_history.specs.Machine.{link_to, same_link, without_link}
@@ -37,7 +39,8 @@ tidy gone l h = go (same_link l gone)
     go true = λ e. (refl, refl)
     go false = h
 
-pub relinked-spells : (r : Record) (gone : BackLink) (kind : FileKind) → r.kind ≡ Some kind → HasRecordSpelling r → HasRecordSpelling (relinked r gone)
+pub relinked-spells : (r : Record) (gone : BackLink) (kind : FileKind) → r.kind ≡ Some kind → HasRecordSpelling r
+    → HasRecordSpelling (relinked r gone)
 relinked-spells r gone kind e s = subst (λ (o : Option FileKind). AllowsRecord o (relinked r gone)) (sym e)
     (go kind (subst (λ (o : Option FileKind). AllowsRecord o r) e s))
   where
@@ -48,6 +51,7 @@ relinked-spells r gone kind e s = subst (λ (o : Option FileKind). AllowsRecord 
     go : (q : FileKind) → AllowsRecord (Some q) r → AllowsRecord (Some q) (relinked r gone)
     go q live = record {
       generation = live.generation;
-      tidy = All-map IsTidyLink (kept gone) r.links (All-weaker IsTidyLink (λ l. IsTidyLink (kept gone l)) (tidy gone) r.links live.tidy);
+      tidy = All-map IsTidyLink (kept gone) r.links
+          (All-weaker IsTidyLink (λ l. IsTidyLink (kept gone l)) (tidy gone) r.links live.tidy);
       allowed = allowed q live.allowed;
     }

@@ -1,5 +1,6 @@
 -- The refusals of Drop.
-use Rattle.std.proofs.Common.{◌≡◌, ℕ, Bool, true, false, not, eqb, ◌&&◌, is_some, List, [], ◌∷◌, ◌++◌, Option, Some, None, IsTrue, Result, Ok, Err, IfErr, refl}
+use Rattle.std.proofs.Common.{◌≡◌, ℕ, Bool, true, false, not, eqb, ◌&&◌, is_some, List, [], ◌∷◌, ◌++◌, Option, Some}
+use Rattle.std.proofs.Common.{None, IsTrue, Result, Ok, Err, IfErr, refl}
 use Rattle.std.proofs.Common.{sym, ap, ◌∙◌, ◌<◌, subst, arith}
 use Rattle.nofs_dirent.specs.Entries.{entry_limit}
 use Rattle.nofs_disk.specs.Disk.{DiskState, IsDisk, StaysButFaults}
@@ -47,9 +48,12 @@ filled-late W d name = go (found W.files d name)
 
 -- the row of the name that was found is that of the inode
 filled-is : (W : World) (X : Image) (d : ℕ) (name : List ℕ) (q : Paired) → IsFoundEntry W.files X d name q
-    → not_empty W d name ≡ row (is_folder_at W.files q.inode && is_some (least_from (λ e. is_paired W.files q.inode e) 0 entry_limit)) refusal.NotEmpty
-filled-is W X d name q f = ap (not_empty_at W d) f.found ∙ ap (λ (o : Option Entry). row (is_filled W o) refusal.NotEmpty) f.pair.at
-    ∙ ap (λ (i : ℕ). row (is_folder_at W.files i && is_some (least_from (λ e. is_paired W.files i e) 0 entry_limit)) refusal.NotEmpty) f.pair.names
+    → not_empty W d name ≡ row (is_folder_at W.files q.inode
+    && is_some (least_from (λ e. is_paired W.files q.inode e) 0 entry_limit)) refusal.NotEmpty
+filled-is W X d name q f = ap (not_empty_at W d) f.found
+    ∙ ap (λ (o : Option Entry). row (is_filled W o) refusal.NotEmpty) f.pair.at
+    ∙ ap (λ (i : ℕ). row (is_folder_at W.files i && is_some (least_from (λ e. is_paired W.files i e) 0 entry_limit))
+    refusal.NotEmpty) f.pair.names
 
 -- no row of a directory with a name comes
 none-filled : (F : Files) (i : ℕ) → (is_folder_at F i ≡ true → (b : ℕ) → b < entry_limit → is_paired F i b ≡ false)
@@ -58,11 +62,14 @@ none-filled F i none = go (is_folder_at F i) refl
   where
     go : (b : Bool) → is_folder_at F i ≡ b → (b && is_some (least_from (λ e. is_paired F i e) 0 entry_limit)) ≡ false
     go false e = refl
-    go true e = ap is_some (least-none (λ e. is_paired F i e) 0 entry_limit (λ n low high. none e n (omega (arith, high))))
+    go true e = ap is_some
+        (least-none (λ e. is_paired F i e) 0 entry_limit (λ n low high. none e n (omega (arith, high))))
 
-module _ (old : DiskState) (k : Books) (d g : ℕ) (name : List ℕ) (is : IsDisk old) (safe : IsSafe old k) (going : k.stopped ≡ false) where
+module _ (old : DiskState) (k : Books) (d g : ℕ) (name : List ℕ) (is : IsDisk old) (safe : IsSafe old k)
+    (going : k.stopped ≡ false) where
   pub drop-bad : is_name name ≡ false → Goes old k old k (step.Drop d g name) no_claims (reply.Refused refusal.BadName)
-  drop-bad bad = goes-row old old k (step.Drop d g name) is safe (StaysButFaults-refl old) refusal.BadName refl tt going (λ tells H p o. rw bad refl)
+  drop-bad bad = goes-row old old k (step.Drop d g name) is safe (StaysButFaults-refl old) refusal.BadName refl tt going
+      (λ tells H p o. rw bad refl)
 
   module _ (ok : is_name name ≡ true) where
     rows-are : (W V : World) → first_of (rows W V (step.Drop d g name)) ≡ first_of
@@ -72,61 +79,81 @@ module _ (old : DiskState) (k : Books) (d g : ℕ) (name : List ℕ) (is : IsDis
     late : (W : World) → IsLate (first_of (rows W W (step.Drop d g name)))
     late W why e = first-late (directory_rows d g W ++ (missing_rows d name W ++ (not_empty W d name ∷ []))) (
       late-row (not (is_some (W.files d) && eqb (generation_of W.files d) g)) refusal.Stale refl,
-      (late-row (not (is_folder_at W.files d)) refusal.NotDirectory refl, (missing-late W d name, (filled-late W d name, tt))),
+      (
+        late-row (not (is_folder_at W.files d)) refusal.NotDirectory refl,
+        (missing-late W d name, (filled-late W d name, tt)),
+      ),
     ) why
         (sym (rows-are W W) ∙ e)
 
-    pub drop-unopened : (mid : DiskState) (last : LastRead) (res : Result Record Refusal) (why : Refusal) → OpensDirectory old mid k d g last res
+    pub drop-unopened : (mid : DiskState) (last : LastRead) (res : Result Record Refusal) (why : Refusal)
+        → OpensDirectory old mid k d g last res
         → res ≡ Err why → Goes old k mid k (step.Drop d g name) no_claims (reply.Refused why)
-    drop-unopened mid last res why opens e = goes-fails old mid k (step.Drop d g name) (directory_rows d g) why is safe going opens.stays
-        (subst (λ (r : Result Record Refusal). IfErr r (Fails old mid (KnownTrue k) (directory_rows d g))) e opens.refused)
-        (λ t H p o q. rows-are p.world p.world ∙ first-left (directory_rows d g p.world) (missing_rows d name p.world ++ (not_empty p.world d name ∷ [])) why
+    drop-unopened mid last res why opens e =
+        goes-fails old mid k (step.Drop d g name) (directory_rows d g) why is safe going opens.stays
+        (subst (λ (r : Result Record Refusal). IfErr r (Fails old mid (KnownTrue k) (directory_rows d g)))
+        e opens.refused)
+        (λ t H p o q. rows-are p.world p.world
+        ∙ first-left (directory_rows d g p.world) (missing_rows d name p.world ++ (not_empty p.world d name ∷ [])) why
         q) late
 
     module _ (mid : DiskState) (last : LastRead) (r : Record) (opens : OpensDirectory old mid k d g last (Ok r)) where
-      none-before : IsTrue old.tells → (H : List Entry1) (p : Past) → IsOpen old k H p → first_of (directory_rows d g p.world) ≡ None
+      none-before : IsTrue old.tells → (H : List Entry1) (p : Past) → IsOpen old k H p
+          → first_of (directory_rows d g p.world) ≡ None
       none-before t H p o = opens.passes t (are-agreed old k H p safe o) p.world (open-files old k H p o)
 
       module _ (new : DiskState) (names records : LastRead) where
-        pub drop-missing : (res : Result Paired Refusal) (why : Refusal) → FindsPair mid new k.at d name names records res → res ≡ Err why
+        pub drop-missing : (res : Result Paired Refusal) (why : Refusal)
+            → FindsPair mid new k.at d name names records res → res ≡ Err why
             → Goes old k new k (step.Drop d g name) no_claims (reply.Refused why)
         drop-missing res why finds e = goes-fails old new k (step.Drop d g name) (missing_rows d name) why is safe going
             (StaysButFaults-trans old mid new opens.stays finds.stays)
             (opened-fails old mid new k d (missing_rows d name) res why opens.stays opens.there e finds.refused)
-            (λ t H p o q. rows-are p.world p.world ∙ first-right (directory_rows d g p.world) (missing_rows d name p.world ++ (not_empty p.world d name ∷ []))
+            (λ t H p o q. rows-are p.world p.world
+            ∙ first-right (directory_rows d g p.world) (missing_rows d name p.world ++ (not_empty p.world d name ∷ []))
             (none-before t H p o) ∙ first-left (missing_rows d name p.world) (not_empty p.world d name ∷ []) why q) late
 
         module _ (end : DiskState) (q : Paired) (finds : FindsPair mid new k.at d name names records (Ok q)) where
           to-new : StaysButFaults old new
           to-new = StaysButFaults-trans old mid new opens.stays finds.stays
 
-          found-in : IsTrue old.tells → KnownTrue k old.now → (F : Files) → FilesMatch F old.now → IsFoundEntry F old.now d name q
-          found-in t all F match = subst (λ (X : Image). IsThere d X → FilesMatch F X → IsFoundEntry F X d name q) opens.stays.cells.now
+          found-in : IsTrue old.tells → KnownTrue k old.now → (F : Files) → FilesMatch F old.now
+              → IsFoundEntry F old.now d name q
+          found-in t all F match =
+              subst (λ (X : Image). IsThere d X → FilesMatch F X → IsFoundEntry F X d name q) opens.stays.cells.now
               (λ a m. finds.found (told-on old mid opens.stays t) a F m) (opens.there t all) match
 
-          found-here : IsTrue old.tells → (H : List Entry1) (p : Past) → IsOpen old k H p → IsFoundEntry p.world.files old.now d name q
+          found-here : IsTrue old.tells → (H : List Entry1) (p : Past) → IsOpen old k H p
+              → IsFoundEntry p.world.files old.now d name q
           found-here t H p o = found-in t (are-agreed old k H p safe o) p.world.files (open-files old k H p o)
 
-          none-missing : IsTrue old.tells → (H : List Entry1) (p : Past) → IsOpen old k H p → first_of (missing_rows d name p.world) ≡ None
+          none-missing : IsTrue old.tells → (H : List Entry1) (p : Past) → IsOpen old k H p
+              → first_of (missing_rows d name p.world) ≡ None
           none-missing t H p o = rw ((found-here t H p o).found) refl
 
           to-filled : IsTrue old.tells → (H : List Entry1) (p : Past) → IsOpen old k H p → (V : World)
               → first_of (rows p.world V (step.Drop d g name)) ≡ first_of (filled_rows q.inode p.world)
-          to-filled t H p o V = rows-are p.world V ∙ first-right (directory_rows d g p.world) (missing_rows d name p.world ++ (not_empty p.world d name ∷ []))
+          to-filled t H p o V = rows-are p.world V ∙ first-right (directory_rows d g p.world)
+              (missing_rows d name p.world ++ (not_empty p.world d name ∷ []))
               (none-before t H p o)
               ∙ first-right (missing_rows d name p.world) (not_empty p.world d name ∷ []) (none-missing t H p o)
               ∙ ap (λ (x : Option Refusal). first_of (x ∷ [])) (filled-is p.world old.now d name q (found-here t H p o))
 
-          by-found : (why : Refusal) → Fails old end (IsThere q.inode) (filled_rows q.inode) why → Fails old end (KnownTrue k) (filled_rows q.inode) why
-          by-found why (ByRow plain range comes) = ByRow plain range (λ t all W match. comes t (found-in t all W.files match).pair.agreed W match)
+          by-found : (why : Refusal) → Fails old end (IsThere q.inode) (filled_rows q.inode) why
+              → Fails old end (KnownTrue k) (filled_rows q.inode) why
+          by-found why (ByRow plain range comes) =
+              ByRow plain range (λ t all W match. comes t (found-in t all W.files match).pair.agreed W match)
           by-found why (ByRead is rose) = ByRead is rose
 
-          pub drop-filled : (res : Result (Unit {0}) Refusal) (why : Refusal) → FindsEmpty new end q.inode res → res ≡ Err why
+          pub drop-filled : (res : Result (Unit {0}) Refusal) (why : Refusal)
+              → FindsEmpty new end q.inode res → res ≡ Err why
               → Goes old k end k (step.Drop d g name) no_claims (reply.Refused why)
-          drop-filled res why empty e = goes-fails old end k (step.Drop d g name) (filled_rows q.inode) why is safe going
+          drop-filled res why empty e =
+              goes-fails old end k (step.Drop d g name) (filled_rows q.inode) why is safe going
               (StaysButFaults-trans old new end to-new empty.stays)
               (by-found why (fails-after old new end (IsThere q.inode) (filled_rows q.inode) why to-new
-              (subst (λ (z : Result (Unit {0}) Refusal). IfErr z (Fails new end (IsThere q.inode) (filled_rows q.inode))) e empty.refused)))
+              (subst (λ (z : Result (Unit {0}) Refusal). IfErr z
+              (Fails new end (IsThere q.inode) (filled_rows q.inode))) e empty.refused)))
               (λ t H p o z. to-filled t H p o p.world ∙ z) late
 
           pub drop-may : FindsEmpty new end q.inode (Ok tt) → MayDrop end k d g name r q
@@ -143,7 +170,8 @@ module _ (old : DiskState) (k : Books) (d g : ℕ) (name : List ℕ) (is : IsDis
                 rows = λ t H p o V.
                     let told : IsTrue old.tells = subst (λ (b : Bool). IsTrue b) after.disk.tells t in
                     let before : IsOpen old k H p = open-back old end (reads-keep old end after) k H p o in
-                    let match = subst (λ (X : Image). FilesMatch p.world.files X) (sym to-new.cells.now) (open-files old k H p before) in
+                    let match = subst (λ (X : Image). FilesMatch p.world.files X) (sym to-new.cells.now)
+                    (open-files old k H p before) in
                     to-filled told H p before V ∙ ap (λ (b : Bool). first_of (row b refusal.NotEmpty ∷ []))
                     (none-filled p.world.files q.inode (empty.none (told-on old new to-new told) p.world.files match));
               }

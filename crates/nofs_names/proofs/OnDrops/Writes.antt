@@ -1,6 +1,8 @@
 -- Drop: the directory's cell and the record of the inode are written. What it gives, and that its writes are proper.
-use Rattle.std.proofs.Common.{◌≡◌, ◌≢◌, ℕ, ◌+◌, ◌*◌, ◌/◌, ◌%◌, ◌<◌, ◌⊎◌, inl, inr, Bool, true, false, cond, eqb, eqb-true}
-use Rattle.std.proofs.Common.{List, [], ◌∷◌, length, Option, Some, None, is_some, IsTrue, refl, sym, ap, ◌∙◌, subst, subst₂}
+use Rattle.std.proofs.Common.{◌≡◌, ◌≢◌, ℕ, ◌+◌, ◌*◌, ◌/◌, ◌%◌, ◌<◌, ◌⊎◌, inl, inr, Bool, true, false, cond, eqb}
+use Rattle.std.proofs.Common.{eqb-true}
+use Rattle.std.proofs.Common.{List, [], ◌∷◌, length, Option, Some, None, is_some, IsTrue, refl, sym, ap, ◌∙◌, subst}
+use Rattle.std.proofs.Common.{subst₂}
 use Rattle.nofs_dirent.specs.Entries.{entry_limit}
 use Rattle.nofs_disk.specs.Disk.{DiskState, IsDisk, cell_at}
 use Rattle.nofs_disk.specs.Number.{put_bytes}
@@ -18,7 +20,8 @@ use Rattle.nofs_crashlaw.specs.Images.Proper.{Proper}
 use Rattle.nofs_crashlaw.specs.Images.Moments.{during}
 use Rattle.nofs_history.specs.Meta.{Meta, Gone, Is, is_bytes, is_gone}
 use Rattle.nofs_history.specs.Machine as machine
-use Rattle.nofs_history.specs.Machine.{Given, gives, drop_given, drop_meta, entry_given, meta_given, is_at, without_link, link_to, zero_bytes, at_place}
+use Rattle.nofs_history.specs.Machine.{Given, gives, drop_given, drop_meta, entry_given, meta_given, is_at}
+use Rattle.nofs_history.specs.Machine.{without_link, link_to, zero_bytes, at_place}
 use Rattle.nofs_history.specs.Machine.{files_after, value_of, with_entry, found, is_paired, nothing}
 use Rattle.nofs_history.specs.World.{World}
 use Rattle.nofs_history.specs.Claims.{no_claims, next_stamp, IsClaim}
@@ -80,7 +83,8 @@ given_for F d g e o = elim o [
 ]
 
 -- what a Drop stands on: its directory, the entry that was found, and the two cells that are written
-pub record Drops (old : DiskState) (p : Past) (d g : ℕ) (name : List ℕ) (r : Record) (x : Pointer) (c1 c2 : Cell) (q : Paired) (r' : Record) : Type 0 where
+pub record Drops (old : DiskState) (p : Past) (d g : ℕ) (name : List ℕ) (r : Record) (x : Pointer) (c1 c2 : Cell)
+    (q : Paired) (r' : Record) : Type 0 where
   pub record_is : inode old.now d ≡ r
   pub kind : r.kind ≡ Some Folder
   pub generation : r.generation ≡ g
@@ -92,9 +96,11 @@ pub record Drops (old : DiskState) (p : Past) (d g : ℕ) (name : List ℕ) (r :
   pub tag : c1.tag ≡ (cell_at old.now x.block).tag
   pub has : HasRecord old.now q.inode r' c2
   pub table_tag : tag_of c2.tag ≡ Some (table_tag (table_block q.inode))
-  pub no_names : machine.is_folder_at p.world.files q.inode ≡ true → (b : ℕ) → b < entry_limit → is_paired p.world.files q.inode b ≡ false
+  pub no_names : machine.is_folder_at p.world.files q.inode ≡ true → (b : ℕ)
+      → b < entry_limit → is_paired p.world.files q.inode b ≡ false
 
-module _ (old : DiskState) (k : Books) (H : List Entry1) (p : Past) (d g : ℕ) (name : List ℕ) (r : Record) (x : Pointer) (c1 c2 : Cell) (q : Paired)
+module _ (old : DiskState) (k : Books) (H : List Entry1) (p : Past) (d g : ℕ) (name : List ℕ) (r : Record) (x : Pointer)
+    (c1 c2 : Cell) (q : Paired)
     (r' : Record) (is_old : IsDisk old) (tells : IsTrue old.tells) (o : IsOpen old k H p)
     (drops : Drops old p d g name r x c1 c2 q r') where
   abbrev pub W : World
@@ -141,10 +147,13 @@ module _ (old : DiskState) (k : Books) (H : List Entry1) (p : Past) (d g : ℕ) 
 
   in-place : InPlace X Y x it.inode
   in-place = subst (λ (i : ℕ). InPlace X Y x i) (sym same) (record {
-    super = write.super-stays X q.inode x c1 c2 r' on.geometry.fits on.geometry.table on.geometry.multiple area drops.has;
-    blocks = λ b data_b ne. write.data-stays X q.inode x c1 c2 r' on.geometry.fits on.geometry.table on.geometry.multiple area drops.has b data_b ne;
+    super = write.super-stays X q.inode x c1 c2 r' on.geometry.fits on.geometry.table
+        on.geometry.multiple area drops.has;
+    blocks = λ b data_b ne. write.data-stays X q.inode x c1 c2 r' on.geometry.fits on.geometry.table
+        on.geometry.multiple area drops.has b data_b ne;
     tag = ap (λ (z : Cell). tag_of z.tag) in-slot ∙ ap tag_of drops.tag;
-    records = λ j ne. write.record-old X q.inode x c1 c2 r' on.geometry.fits on.geometry.table on.geometry.multiple area drops.has j ne;
+    records = λ j ne. write.record-old X q.inode x c1 c2 r' on.geometry.fits on.geometry.table on.geometry.multiple
+        area drops.has j ne;
   })
 
   folder-at : is_folder its.file.kind ≡ true → machine.is_folder_at W.files q.inode ≡ true
@@ -162,7 +171,8 @@ module _ (old : DiskState) (k : Books) (H : List Entry1) (p : Past) (d g : ℕ) 
     held = drops.held;
     whole = drops.whole;
     content = ap (λ (z : Cell). Bytes z.payload) in-slot ∙ ap Bytes
-        (drops.payload ∙ ap (λ (z : List ℕ). put_bytes (64 * (q.entry % 16)) z (cell_at X x.block).payload) (sym (zeros-are 64)))
+        (drops.payload ∙ ap (λ (z : List ℕ). put_bytes (64 * (q.entry % 16)) z (cell_at X x.block).payload)
+        (sym (zeros-are 64)))
         ∙ sym (with-entry-put (Bytes (cell_at X x.block).payload) q.entry (zero_bytes 64) refl);
     writes = in-place;
     old = λ j some. on.pointers j (matched-file W.files X j on.match some).live;
@@ -172,55 +182,74 @@ module _ (old : DiskState) (k : Books) (H : List Entry1) (p : Past) (d g : ℕ) 
 
   gives-it : (F : Files) → F ≡ W.files → gives F (step.Drop d g name) no_claims ≡ drop_given F d g q.entry
   unfolding gives
-  gives-it F e = ap (λ (at : Option ℕ). at_place at (λ n. drop_given F d g n)) (ap (λ (E : Files). found E d name) e ∙ drops.pair.found)
+  gives-it F e = ap (λ (at : Option ℕ). at_place at (λ n. drop_given F d g n))
+      (ap (λ (E : Files). found E d name) e ∙ drops.pair.found)
 
-  pub after-files : files_after W.files (gives W.files (step.Drop d g name) no_claims) ≡ files_after W.files (drop_given W.files d g q.entry)
+  pub after-files : files_after W.files (gives W.files (step.Drop d g name) no_claims) ≡ files_after W.files
+      (drop_given W.files d g q.entry)
   after-files = ap (files_after W.files) (gives-it W.files refl)
 
-  pub cell-is : drop_given W.files d g q.entry ≡ machine.cell_given d g (q.entry / 16) (with_entry (value_of W.files d (q.entry / 16)) q.entry (zero_bytes 64))
+  pub cell-is : drop_given W.files d g q.entry ≡ machine.cell_given d g (q.entry / 16)
+      (with_entry (value_of W.files d (q.entry / 16)) q.entry (zero_bytes 64))
       (meta_given it.inode it.generation (drop_meta W.files it.inode (link_to d q.entry g)))
   cell-is = ap (given_for W.files d g q.entry) drops.pair.pair.at
 
   -- The writes are proper
 
   pub mark-table : is_data_block p.mark (table_block q.inode) ≡ false
-  mark-table = on.table (table_block q.inode) (write.table-low X q.inode x c1 c2 r' on.geometry.fits on.geometry.table on.geometry.multiple area drops.has)
+  mark-table = on.table (table_block q.inode)
+      (write.table-low X q.inode x c1 c2 r' on.geometry.fits on.geometry.table on.geometry.multiple area drops.has)
 
   pub super-after : super_at p.mark ≡ super_at Y
   super-after = on.super ∙ sym (supers X Y in-place.super)
 
-  cell-proper : Proper (during (mark_at p.base H (old.moment + 1) p.mark p.stamps) (drop_given W.files d g q.entry)) X x.block c1
-  cell-proper = subst (λ (z : Cell). Proper (during (mark_at p.base H (old.moment + 1) p.mark p.stamps) (drop_given W.files d g q.entry)) X x.block z) in-slot
-      (law-drop-entry W.files X Y d g q.entry (next_stamp W) own.file its.file x it lies (mark_at p.base H (old.moment + 1) p.mark p.stamps)
+  cell-proper : Proper
+      (during (mark_at p.base H (old.moment + 1) p.mark p.stamps) (drop_given W.files d g q.entry)) X x.block c1
+  cell-proper = subst (λ (z : Cell). Proper
+      (during (mark_at p.base H (old.moment + 1) p.mark p.stamps) (drop_given W.files d g q.entry)) X x.block z) in-slot
+      (law-drop-entry W.files X Y d g q.entry (next_stamp W) own.file its.file x it lies
+      (mark_at p.base H (old.moment + 1) p.mark p.stamps)
       (on.area x.block area))
 
   -- what both endings owe of the table
   pub record EndsWell : Type 0 where
-    pub numbered : Relinked X Y it.inode (without_link (link_to d q.entry g) its.file.links) ⊎ ((inode Y it.inode).kind ≡ None)
-    pub table : Proper (during (mark_at p.base H (old.moment + 1) p.mark p.stamps) (drop_given W.files d g q.entry)) X (table_block q.inode) c2
+    pub numbered : Relinked X Y it.inode (without_link (link_to d q.entry g) its.file.links)
+        ⊎ ((inode Y it.inode).kind ≡ None)
+    pub table : Proper (during (mark_at p.base H (old.moment + 1) p.mark p.stamps) (drop_given W.files d g q.entry)) X
+        (table_block q.inode) c2
     pub files : FilesMatch (files_after W.files (drop_given W.files d g q.entry)) Y
     pub claim : IsClaim W (step.Drop d g name) no_claims
     pub move : HomesMove W.files (step.Drop d g name) no_claims X Y
-    pub others : (j : ℕ) → j ≢ it.inode → is_some (files_after W.files (drop_given W.files d g q.entry) j) ≡ is_some (W.files j)
-    pub owned : is_live (inode Y it.inode) ≡ true → is_some (files_after W.files (drop_given W.files d g q.entry) it.inode) ≡ true
+    pub others : (j : ℕ)
+        → j ≢ it.inode → is_some (files_after W.files (drop_given W.files d g q.entry) j) ≡ is_some (W.files j)
+    pub owned : is_live (inode Y it.inode) ≡ true
+        → is_some (files_after W.files (drop_given W.files d g q.entry) it.inode) ≡ true
 
   module _ (w : EndsWell) where
     proper : (b : ℕ) (cell : Cell) → OneOf ((x.block, c1) ∷ (table_block q.inode, c2) ∷ []) b cell
         → Proper (during (mark_at p.base H (old.moment + 1) p.mark p.stamps) (drop_given W.files d g q.entry)) X b cell
-    proper b cell (inl one) = subst₂ (λ (n : ℕ) (z : Cell). Proper (during (mark_at p.base H (old.moment + 1) p.mark p.stamps) (drop_given W.files d g q.entry))
+    proper b cell (inl one) = subst₂ (λ (n : ℕ) (z : Cell).
+        Proper (during (mark_at p.base H (old.moment + 1) p.mark p.stamps) (drop_given W.files d g q.entry))
         X n z) (sym one.0) (sym one.1) cell-proper
     proper b cell (inr (inl one)) = subst₂ (λ (n : ℕ) (z : Cell). Proper
-        (during (mark_at p.base H (old.moment + 1) p.mark p.stamps) (drop_given W.files d g q.entry)) X n z) (sym one.0) (sym one.1) w.table
+        (during (mark_at p.base H (old.moment + 1) p.mark p.stamps) (drop_given W.files d g q.entry)) X n z) (sym one.0)
+        (sym one.1) w.table
     proper b cell (inr (inr none)) = absurd none
 
-    numbers : (b : ℕ) (cell : Cell) → OneOf ((x.block, c1) ∷ (table_block q.inode, c2) ∷ []) b cell → CellNumbers (Numbered W no_claims) X b cell
-    numbers b cell (inl one) = subst₂ (λ (n : ℕ) (z : Cell). CellNumbers (Numbered W no_claims) X n z) (sym one.0) (sym one.1)
+    numbers : (b : ℕ) (cell : Cell) → OneOf ((x.block, c1) ∷ (table_block q.inode, c2) ∷ []) b cell
+        → CellNumbers (Numbered W no_claims) X b cell
+    numbers b cell (inl one) =
+        subst₂ (λ (n : ℕ) (z : Cell). CellNumbers (Numbered W no_claims) X n z) (sym one.0) (sym one.1)
         (subst (λ (z : Cell). CellNumbers (Numbered W no_claims) X x.block z) in-slot
         (law-drop-numbers W X Y d g q.entry (next_stamp W) own.file its.file x it no_claims on.numbers lies).0)
-    numbers b cell (inr (inl one)) = subst₂ (λ (n : ℕ) (z : Cell). CellNumbers (Numbered W no_claims) X n z) (sym one.0) (sym one.1)
-        (law-table-numbers W no_claims X (table_block q.inode) c2 on.numbers drops.table_tag (λ j e s. elim (table-records X q.inode r' c2 drops.has j e s) [
-          | inl new ↦ subst (λ (z : Record). RecordWritten W no_claims X j z) (sym (new.1 ∙ sym here ∙ ap (inode Y) (sym new.0)))
-              ((law-drop-numbers W X Y d g q.entry (next_stamp W) own.file its.file x it no_claims on.numbers lies).1 w.numbered j)
+    numbers b cell (inr (inl one)) =
+        subst₂ (λ (n : ℕ) (z : Cell). CellNumbers (Numbered W no_claims) X n z) (sym one.0) (sym one.1)
+        (law-table-numbers W no_claims X (table_block q.inode) c2 on.numbers drops.table_tag
+        (λ j e s. elim (table-records X q.inode r' c2 drops.has j e s) [
+          | inl new ↦ subst (λ (z : Record). RecordWritten W no_claims X j z)
+              (sym (new.1 ∙ sym here ∙ ap (inode Y) (sym new.0)))
+              ((law-drop-numbers W X Y d g q.entry
+              (next_stamp W) own.file its.file x it no_claims on.numbers lies).1 w.numbered j)
           | inr was ↦ AsBefore was
         ]))
     numbers b cell (inr (inr none)) = absurd none
@@ -259,7 +288,8 @@ module _ (old : DiskState) (k : Books) (H : List Entry1) (p : Past) (d g : ℕ) 
       };
     }
 
-    answer-is : reply.Dropped (is_gone (drop_meta W.files it.inode (link_to d q.entry g))) ≡ dropped_reply W.files d (found W.files d name)
+    answer-is : reply.Dropped (is_gone (drop_meta W.files it.inode (link_to d q.entry g))) ≡ dropped_reply W.files d
+        (found W.files d name)
     answer-is = sym (ap (dropped_reply W.files d) drops.pair.found
         ∙ (λ j. dropped_entry W.files (link_to d q.entry (generation-is j)) (drops.pair.pair.at j)))
       where
@@ -268,5 +298,7 @@ module _ (old : DiskState) (k : Books) (H : List Entry1) (p : Past) (d g : ℕ) 
 
     pub drop-comes : (l : Books) (removed : Bool) → is_gone (drop_meta W.files it.inode (link_to d q.entry g)) ≡ removed
         → Follows W (step.Drop d g name) no_claims l
-        → NameComes old H p l (step.Drop d g name) no_claims (reply.Dropped removed) ((x.block, c1) ∷ (table_block q.inode, c2) ∷ [])
-    drop-comes l removed er follows = record { step = drop-step; follows = follows; answer = ap reply.Dropped (sym er) ∙ answer-is }
+        → NameComes old H p l (step.Drop d g name) no_claims (reply.Dropped removed)
+        ((x.block, c1) ∷ (table_block q.inode, c2) ∷ [])
+    drop-comes l removed er follows =
+        record { step = drop-step; follows = follows; answer = ap reply.Dropped (sym er) ∙ answer-is }

@@ -1,5 +1,6 @@
 -- What is written of a new entry in a hole, and what of the disk stays.
-use Rattle.std.proofs.Common.{◌≡◌, ◌≢◌, ℕ, ◌+◌, ◌/◌, ◌%◌, ◌<◌, ◌≤◌, ◌⊎◌, inl, inr, true, leb, leb-true, [], ◌∷◌, length, Some, sym, ap, ◌∙◌, arith}
+use Rattle.std.proofs.Common.{◌≡◌, ◌≢◌, ℕ, ◌+◌, ◌/◌, ◌%◌, ◌<◌, ◌≤◌, ◌⊎◌, inl, inr, true, leb, leb-true, [], ◌∷◌, length}
+use Rattle.std.proofs.Common.{Some, sym, ap, ◌∙◌, arith}
 use Rattle.std.specs.Prelude.{slice_set}
 use Rattle.std.proofs.lemmas.Bool.{cases_eq}
 use Rattle.std.proofs.lemmas.List.{get_or-set_same, length-set}
@@ -44,11 +45,13 @@ pub record IsNewBlock (s : ℕ) (X : Image) (x : Pointer) : Type 0 where
 -- which blocks are written, and that each cell is the last one of its block
 abbrev pub IsWritten : Image → Image → ℕ → Pointer → Pointer → ℕ → Cell → Type 0
 IsWritten X Y e x y b cell = (cell ≡ cell_at Y b) ×
-    ((b ≡ x.block) ⊎ (((8 ≤ e / 16) × (b ≡ y.block)) ⊎ ((0 < b) × (b ≤ (super_at X).inodes / 4) × (tag_of cell.tag ≡ Some (table_tag b)))))
+    ((b ≡ x.block) ⊎ (((8 ≤ e / 16) × (b ≡ y.block))
+    ⊎ ((0 < b) × (b ≤ (super_at X).inodes / 4) × (tag_of cell.tag ≡ Some (table_tag b)))))
 
 module _ (X : Image) (d i e : ℕ) (dr : Record) (ready : IsReady X d i e dr) where
   inside : (j : ℕ) → is_inode X j ≡ true → (1 ≤ j) × (j ≤ (super_at X).inodes)
-  inside j t = let b = and-both (leb 1 j) (leb j (super_at X).inodes) t in (leb-true 1 j b.0, leb-true j (super_at X).inodes b.1)
+  inside j t = let b = and-both (leb 1 j) (leb j (super_at X).inodes) t in
+      (leb-true 1 j b.0, leb-true j (super_at X).inodes b.1)
 
   pub low : (j : ℕ) → is_inode X j ≡ true → table_block j ≤ (super_at X).inodes / 4
   low j t = let a = inside j t in let q = ready.quarters in omega (arith, a, q)
@@ -70,7 +73,8 @@ module _ (X : Image) (d i e : ℕ) (dr : Record) (ready : IsReady X d i e dr) wh
   not-zero b t q = let a = above b t in omega (arith, a, q)
 
   -- a cell of the table
-  pub in-table : (j : ℕ) → is_inode X j ≡ true → (b : ℕ) (cell c : Cell) → b ≡ table_block j → cell ≡ c → tag_of c.tag ≡ Some (table_tag (table_block j))
+  pub in-table : (j : ℕ) → is_inode X j ≡ true → (b : ℕ) (cell c : Cell) → b ≡ table_block j
+      → cell ≡ c → tag_of c.tag ≡ Some (table_tag (table_block j))
       → (0 < b) × (b ≤ (super_at X).inodes / 4) × (tag_of cell.tag ≡ Some (table_tag b))
   in-table j t b cell c eb ec tag = (
     omega (arith, eb),
@@ -83,31 +87,38 @@ module _ (X : Image) (d i e : ℕ) (dr : Record) (ready : IsReady X d i e dr) wh
   below = let g = ready.range in omega (arith, g)
 
   -- the entry's block, once it is written: the directory is of the same kind and generation
-  pub claimed-cell : (s : ℕ) (x : Pointer) → IsNewBlock s X x → (Y : Image) (c : Cell) (it : Entry) → IsNewCell d dr.generation e it x.stamp c
-      → cell_at Y x.block ≡ c → (inode Y d).kind ≡ Some Folder → (inode Y d).generation ≡ dr.generation → (path : Path) → path_of (e / 16) ≡ path
+  pub claimed-cell : (s : ℕ) (x : Pointer) → IsNewBlock s X x
+      → (Y : Image) (c : Cell) (it : Entry) → IsNewCell d dr.generation e it x.stamp c
+      → cell_at Y x.block ≡ c → (inode Y d).kind ≡ Some Folder
+      → (inode Y d).generation ≡ dr.generation → (path : Path) → path_of (e / 16) ≡ path
       → ClaimedCell s X Y d path x
   claimed-cell s x block Y c it filled here kind generation path is = record {
     free = block.free;
     area = block.area;
     fresh = block.fresh;
     tag = ap (λ (z : Cell). tag_of z.tag) here ∙ filled.tag
-        ∙ ap Some (new-cell-tag Y d (e / 16) x.stamp dr.generation kind generation below ∙ (λ j. tag_for Y d (is j) x.stamp));
+        ∙ ap Some (new-cell-tag Y d (e / 16) x.stamp dr.generation kind generation below
+        ∙ (λ j. tag_for Y d (is j) x.stamp));
   }
 
   -- and its content
-  pub content-is : (x : Pointer) (Y : Image) (c : Cell) (it : Entry) → IsNewCell d dr.generation e it x.stamp c → cell_at Y x.block ≡ c
+  pub content-is : (x : Pointer) (Y : Image) (c : Cell) (it : Entry) → IsNewCell d dr.generation e it x.stamp c
+      → cell_at Y x.block ≡ c
       → length (spelled_entry it.inode it.generation it.name) ≡ 64
       → Bytes (cell_at Y x.block).payload ≡ with_entry Hole e (spelled_entry it.inode it.generation it.name)
-  content-is x Y c it filled here short = ap (λ (z : Cell). Bytes z.payload) here ∙ ap Bytes filled.payload ∙ content-new e it short
+  content-is x Y c it filled here short = ap (λ (z : Cell). Bytes z.payload) here ∙ ap Bytes filled.payload
+      ∙ content-new e it short
 
   -- the two tables are written last
-  module _ (before after : Tables) (new : Record) (r : Record) (tables : AreTables before d new i r after) (Z : Image) (len : length Z ≡ length X) where
+  module _ (before after : Tables) (new : Record) (r : Record) (tables : AreTables before d new i r after) (Z : Image)
+      (len : length Z ≡ length X) where
     abbrev Y : Image
     Y = image_after ((table_block d, after.directory) ∷ (table_block i, after.inode) ∷ []) Z
 
     pub last-i : cell_at Y (table_block i) ≡ after.inode
     last-i = get_or-set_same (slice_set Z (table_block d) after.directory) (table_block i) after.inode no_cell
-        (let l = length-set Z (table_block d) after.directory in let f = fits (table_block i) (low i ready.i_range) in omega (arith, l, f, len))
+        (let l = length-set Z (table_block d) after.directory in let f = fits (table_block i) (low i ready.i_range) in
+        omega (arith, l, f, len))
 
     pub last-d : cell_at Y (table_block d) ≡ after.directory
     last-d = elim (cases_eq (table_block d) (table_block i)) [
@@ -117,4 +128,5 @@ module _ (X : Image) (d i e : ℕ) (dr : Record) (ready : IsReady X d i e dr) wh
     ]
 
     pub last-other : (b : ℕ) → b ≢ table_block d → b ≢ table_block i → cell_at Y b ≡ cell_at Z b
-    last-other b nd ni = written-apart ((table_block d, after.directory) ∷ (table_block i, after.inode) ∷ []) Z b (nd, (ni, tt))
+    last-other b nd ni =
+        written-apart ((table_block d, after.directory) ∷ (table_block i, after.inode) ∷ []) Z b (nd, (ni, tt))

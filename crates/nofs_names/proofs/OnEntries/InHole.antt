@@ -35,25 +35,31 @@ module _ (X : Image) (d i e : ℕ) (dr : Record) (ready : IsReady X d i e dr) wh
   abbrev not-zero : (b : ℕ) → is_data_block X b ≡ true → 0 ≢ b
   not-zero = hole_cells.not-zero X d i e dr ready
 
-  abbrev in-table : (j : ℕ) → is_inode X j ≡ true → (b : ℕ) (cell c : Cell) → b ≡ table_block j → cell ≡ c → tag_of c.tag ≡ Some (table_tag (table_block j))
+  abbrev in-table : (j : ℕ) → is_inode X j ≡ true → (b : ℕ) (cell c : Cell) → b ≡ table_block j
+      → cell ≡ c → tag_of c.tag ≡ Some (table_tag (table_block j))
       → (0 < b) × (b ≤ (super_at X).inodes / 4) × (tag_of cell.tag ≡ Some (table_tag b))
   in-table = hole_cells.in-table X d i e dr ready
 
-  abbrev claimed-cell : (s : ℕ) (x : Pointer) → IsNewBlock s X x → (Y : Image) (c : Cell) (it : Entry) → IsNewCell d dr.generation e it x.stamp c
-      → cell_at Y x.block ≡ c → (inode Y d).kind ≡ Some Folder → (inode Y d).generation ≡ dr.generation → (path : Path) → path_of (e / 16) ≡ path
+  abbrev claimed-cell : (s : ℕ) (x : Pointer) → IsNewBlock s X x
+      → (Y : Image) (c : Cell) (it : Entry) → IsNewCell d dr.generation e it x.stamp c
+      → cell_at Y x.block ≡ c → (inode Y d).kind ≡ Some Folder
+      → (inode Y d).generation ≡ dr.generation → (path : Path) → path_of (e / 16) ≡ path
       → ClaimedCell s X Y d path x
   claimed-cell = hole_cells.claimed-cell X d i e dr ready
 
-  abbrev content-is : (x : Pointer) (Y : Image) (c : Cell) (it : Entry) → IsNewCell d dr.generation e it x.stamp c → cell_at Y x.block ≡ c
+  abbrev content-is : (x : Pointer) (Y : Image) (c : Cell) (it : Entry) → IsNewCell d dr.generation e it x.stamp c
+      → cell_at Y x.block ≡ c
       → length (spelled_entry it.inode it.generation it.name) ≡ 64
       → Bytes (cell_at Y x.block).payload ≡ with_entry Hole e (spelled_entry it.inode it.generation it.name)
   content-is = hole_cells.content-is X d i e dr ready
 
   -- A hole of the record
 
-  module _ (s : ℕ) (x : Pointer) (block : IsNewBlock s X x) (c : Cell) (before after : Tables) (r : Record) (it : Entry) (small : e / 16 < 8)
+  module _ (s : ℕ) (x : Pointer) (block : IsNewBlock s X x) (c : Cell) (before after : Tables) (r : Record) (it : Entry)
+      (small : e / 16 < 8)
       (filled : IsNewCell d dr.generation e it x.stamp c)
-      (tables : AreTables before d (with_direct dr (e / 16) x) i r after) (first : before.directory ≡ cell_at X (table_block d))
+      (tables : AreTables before d (with_direct dr (e / 16) x) i r after)
+      (first : before.directory ≡ cell_at X (table_block d))
       (second : before.inode ≡ cell_at X (table_block i)) where
     abbrev Y1 : Image
     Y1 = image_after ((x.block, c) ∷ (table_block d, after.directory) ∷ (table_block i, after.inode) ∷ []) X
@@ -74,11 +80,13 @@ module _ (X : Image) (d i e : ℕ) (dr : Record) (ready : IsReady X d i e dr) wh
         ∙ get_or-set_same X x.block c no_cell (above x.block block.area).1
 
     at-d1 : cell_at Y1 (table_block d) ≡ after.directory
-    at-d1 = (hole_cells.last-d X d i e dr ready) before after (with_direct dr (e / 16) x) r tables (slice_set X x.block c)
+    at-d1 = (hole_cells.last-d X d i e dr ready) before after (with_direct dr (e / 16) x) r tables
+        (slice_set X x.block c)
         len1
 
     at-i1 : cell_at Y1 (table_block i) ≡ after.inode
-    at-i1 = (hole_cells.last-i X d i e dr ready) before after (with_direct dr (e / 16) x) r tables (slice_set X x.block c)
+    at-i1 = (hole_cells.last-i X d i e dr ready) before after (with_direct dr (e / 16) x) r tables
+        (slice_set X x.block c)
         len1
 
     super1 : cell_at Y1 0 ≡ cell_at X 0
@@ -88,42 +96,52 @@ module _ (X : Image) (d i e : ℕ) (dr : Record) (ready : IsReady X d i e dr) wh
     beside1 b l nd ni = other1 b (λ q. let a = above x.block block.area in omega (arith, a, l, q)) nd ni
 
     d1 : inode Y1 d ≡ with_direct dr (e / 16) x
-    d1 = record-of-directory X Y1 d i (with_direct dr (e / 16) x) r before after tables ready.apart ready.whole ready.room ready.quarters ready.d_range
+    d1 = record-of-directory X Y1 d i (with_direct dr (e / 16) x) r before after tables ready.apart ready.whole
+        ready.room ready.quarters ready.d_range
         ready.i_range first second super1 at-d1 at-i1 beside1
 
     pub direct-inode : inode Y1 i ≡ r
-    direct-inode = record-of-inode X Y1 d i (with_direct dr (e / 16) x) r before after tables ready.apart ready.whole ready.room ready.quarters ready.d_range
+    direct-inode = record-of-inode X Y1 d i (with_direct dr (e / 16) x) r before after tables ready.apart ready.whole
+        ready.room ready.quarters ready.d_range
         ready.i_range first second super1 at-d1 at-i1 beside1
 
     pub direct-hole : HoleInRecord s X Y1 d i (e / 16) x
     direct-hole = record {
       super = super1;
-      records = records-beside X Y1 d i (with_direct dr (e / 16) x) r before after tables ready.apart ready.whole ready.room ready.quarters ready.d_range
+      records = records-beside X Y1 d i (with_direct dr (e / 16) x) r before after tables ready.apart ready.whole
+          ready.room ready.quarters ready.d_range
           ready.i_range first second super1 at-d1 at-i1 beside1;
-      cell = claimed-cell s x block Y1 c it filled cell1 (ap (λ (q : Record). q.kind) d1 ∙ ready.kind) (ap (λ (q : Record). q.generation) d1)
+      cell = claimed-cell s x block Y1 c it filled cell1 (ap (λ (q : Record). q.kind) d1 ∙ ready.kind)
+          (ap (λ (q : Record). q.generation) d1)
           (InRecord (e / 16)) (path-direct (e / 16) small);
       blocks = λ b t ne. other1 b ne (off b d t ready.d_range) (off b i t ready.i_range);
       meta = record {
         kind = ap (λ (q : Record). q.kind) (d1 ∙ ap (λ (q : Record). with_direct q (e / 16) x) (sym ready.directory));
-        generation = ap (λ (q : Record). q.generation) (d1 ∙ ap (λ (q : Record). with_direct q (e / 16) x) (sym ready.directory));
+        generation = ap (λ (q : Record). q.generation)
+            (d1 ∙ ap (λ (q : Record). with_direct q (e / 16) x) (sym ready.directory));
         size = ap (λ (q : Record). q.size) (d1 ∙ ap (λ (q : Record). with_direct q (e / 16) x) (sym ready.directory));
         links = ap (λ (q : Record). q.links) (d1 ∙ ap (λ (q : Record). with_direct q (e / 16) x) (sym ready.directory));
       };
       pointer = ap (λ (q : Record). record_pointer q (e / 16)) d1 ∙ pointed-here dr (e / 16) x small ready.eight;
-      pointers = λ n ne. ap (λ (q : Record). record_pointer q n) d1 ∙ pointed-other dr (e / 16) x n ne ∙ ap (λ (q : Record). record_pointer q n)
+      pointers = λ n ne. ap (λ (q : Record). record_pointer q n) d1 ∙ pointed-other dr (e / 16) x n ne
+          ∙ ap (λ (q : Record). record_pointer q n)
           (sym ready.directory);
     }
 
-    pub direct-enters : find X d (path_of (e / 16)) ≡ answer.Hole → length (spelled_entry it.inode it.generation it.name) ≡ 64 → (y : Pointer)
+    pub direct-enters : find X d (path_of (e / 16)) ≡ answer.Hole
+        → length (spelled_entry it.inode it.generation it.name) ≡ 64 → (y : Pointer)
         → EntryInHole s X Y1 d e i (spelled_entry it.inode it.generation it.name) x y
     direct-enters hole short y =
         record { empty = hole; claimed = Direct small direct-hole; content = content-is x Y1 c it filled cell1 short }
 
-    tagged1 : (tag_of after.directory.tag ≡ Some (table_tag (table_block d))) × (tag_of after.inode.tag ≡ Some (table_tag (table_block i)))
-    tagged1 = tables-tagged X Y1 d i (with_direct dr (e / 16) x) r before after tables ready.apart ready.whole ready.room ready.quarters ready.d_range
+    tagged1 : (tag_of after.directory.tag ≡ Some (table_tag (table_block d)))
+        × (tag_of after.inode.tag ≡ Some (table_tag (table_block i)))
+    tagged1 = tables-tagged X Y1 d i (with_direct dr (e / 16) x) r before after tables ready.apart ready.whole
+        ready.room ready.quarters ready.d_range
         ready.i_range first second super1 at-d1 at-i1 beside1
 
-    pub direct-each : (y : Pointer) (b : ℕ) (cell : Cell) → OneOf ((x.block, c) ∷ (table_block d, after.directory) ∷ (table_block i, after.inode) ∷ []) b cell
+    pub direct-each : (y : Pointer) (b : ℕ) (cell : Cell)
+        → OneOf ((x.block, c) ∷ (table_block d, after.directory) ∷ (table_block i, after.inode) ∷ []) b cell
         → IsWritten X Y1 e x y b cell
     direct-each y b cell (inl one) = (one.1 ∙ sym (ap (cell_at Y1) one.0 ∙ cell1), inl one.0)
     direct-each y b cell (inr (inl one)) = (

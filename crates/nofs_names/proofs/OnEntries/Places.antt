@@ -1,5 +1,6 @@
 -- What stands in the slot of a new entry, and which blocks it takes.
-use Rattle.std.proofs.Common.{◌≡◌, ℕ, ◌+◌, ◌^◌, ◌<◌, ◌≤◌, inl, Bool, true, false, ltb, Some, IsTrue, Result, Ok, Err, refl, sym, ap, ◌∙◌, subst, arith}
+use Rattle.std.proofs.Common.{◌≡◌, ℕ, ◌+◌, ◌^◌, ◌<◌, ◌≤◌, inl, Bool, true, false, ltb, Some, IsTrue, Result, Ok, Err}
+use Rattle.std.proofs.Common.{refl, sym, ap, ◌∙◌, subst, arith}
 use Rattle.std.proofs.lemmas.Bool.Decides.{nat_tests}
 use Rattle.nofs_bits.specs.Bits.{count_set}
 use Rattle.std.proofs.lemmas.List.Sums.{count_by-le-length}
@@ -28,15 +29,19 @@ use Rattle.nofs_names.specs.declared.entries.places.EntrySlot.{EntrySlot}
 lost-below : (X : Image) (d n : ℕ) → find X d leaf ≡ answer.Lost → find X d (Under leaf n) ≡ answer.Lost
 lost-below X d n e = rw (e, find)
 
-module _ (old mid : DiskState) (at : SuperBlock) (d k : ℕ) (path : Path) (path-is : path ≡ path_of k) (names : LastRead) (res : Result PathAnswer Failed)
+module _ (old mid : DiskState) (at : SuperBlock) (d k : ℕ) (path : Path) (path-is : path ≡ path_of k) (names : LastRead)
+    (res : Result PathAnswer Failed)
     (finds : FindsSlot old mid at (λ X. find X d path) names res) where
   finds-as : (a b : PathAnswer) → res ≡ Ok a → a ≡ b → FindsSlot old mid at (λ X. find X d path) names (Ok b)
-  finds-as a b e h = subst (λ (r : Result PathAnswer Failed). FindsSlot old mid at (λ X. find X d path) names r) (e ∙ ap Ok h) finds
+  finds-as a b e h =
+      subst (λ (r : Result PathAnswer Failed). FindsSlot old mid at (λ X. find X d path) names r) (e ∙ ap Ok h) finds
 
-  found-as : (b : PathAnswer) → FindsSlot old mid at (λ X. find X d path) names (Ok b) → IsTrue old.tells → find old.now d (path_of k) ≡ b
+  found-as : (b : PathAnswer) → FindsSlot old mid at (λ X. find X d path) names (Ok b) → IsTrue old.tells
+      → find old.now d (path_of k) ≡ b
   found-as b f t = sym (λ j. find old.now d (path-is j)) ∙ sym (f.found t)
 
-  pub slot-lost : (a : PathAnswer) → res ≡ Ok a → a ≡ answer.Lost → FindsEntrySlot old mid at d k names (Err (refusal.LostSlot k))
+  pub slot-lost : (a : PathAnswer) → res ≡ Ok a
+      → a ≡ answer.Lost → FindsEntrySlot old mid at d k names (Err (refusal.LostSlot k))
   slot-lost a e h = let f = finds-as a answer.Lost e h in record {
     stays = f.stays;
     fits = tt;
@@ -46,21 +51,40 @@ module _ (old mid : DiskState) (at : SuperBlock) (d k : ℕ) (path : Path) (path
     refused = inl (refl, tt, λ t. let l = found-as answer.Lost f t in ((λ x q. cc (l, q)), (λ q. cc (l, q))));
   }
 
-  pub slot-hole : (a : PathAnswer) → res ≡ Ok a → a ≡ answer.Hole → IsTrue mid.tells → find mid.now d (path_of k) ≡ answer.Hole
+  pub slot-hole : (a : PathAnswer) → res ≡ Ok a → a ≡ answer.Hole → IsTrue mid.tells
+      → find mid.now d (path_of k) ≡ answer.Hole
   slot-hole a e h t =
       let f = finds-as a answer.Hole e h in
-      ap (λ (X : Image). find X d (path_of k)) f.stays.cells.now ∙ found-as answer.Hole f (subst (λ (b : Bool). IsTrue b) f.stays.disk.tells t)
+      ap (λ (X : Image). find X d (path_of k)) f.stays.cells.now
+      ∙ found-as answer.Hole f (subst (λ (b : Bool). IsTrue b) f.stays.disk.tells t)
 
-pub hole-under : (old mid : DiskState) (at : SuperBlock) (d k : ℕ) (names : LastRead) (a : PathAnswer) (res : Result EntrySlot Refusal) → 8 ≤ k → k < 72
+pub hole-under : (old mid : DiskState) (at : SuperBlock) (d k : ℕ) (names : LastRead) (a : PathAnswer)
+    (res : Result EntrySlot Refusal) → 8 ≤ k → k < 72
     → (IsTrue old.tells → find old.now d (path_of k) ≡ answer.Hole)
-    → FindsSlot old mid at (λ X. find X d leaf) names (Ok a) → IsUnderLeaf k a res → FindsEntrySlot old mid at d k names res
+    → FindsSlot old mid at (λ X. find X d leaf) names (Ok a) → IsUnderLeaf k a res
+    → FindsEntrySlot old mid at d k names res
 hole-under old mid at d k names a res high low hole f is = go a f is
   where
-    go : (b : PathAnswer) → FindsSlot old mid at (λ X. find X d leaf) names (Ok b) → IsUnderLeaf k b res → FindsEntrySlot old mid at d k names res
+    go : (b : PathAnswer) → FindsSlot old mid at (λ X. find X d leaf) names (Ok b) → IsUnderLeaf k b res
+        → FindsEntrySlot old mid at d k names res
     go (answer.Holds y) f e = subst (λ (r : Result EntrySlot Refusal). FindsEntrySlot old mid at d k names r) (sym e)
-        (record { stays = f.stays; fits = (high, f.area); found = λ t. (hole t, sym (f.found t)); cell = f.cell; kept = f.kept; refused = tt })
+        (record {
+          stays = f.stays;
+          fits = (high, f.area);
+          found = λ t. (hole t, sym (f.found t));
+          cell = f.cell;
+          kept = f.kept;
+          refused = tt;
+        })
     go answer.Hole f e = subst (λ (r : Result EntrySlot Refusal). FindsEntrySlot old mid at d k names r) (sym e)
-        (record { stays = f.stays; fits = high; found = λ t. (hole t, sym (f.found t)); cell = λ t. tt; kept = f.kept; refused = tt })
+        (record {
+          stays = f.stays;
+          fits = high;
+          found = λ t. (hole t, sym (f.found t));
+          cell = λ t. tt;
+          kept = f.kept;
+          refused = tt;
+        })
     go answer.Lost f e = subst (λ (r : Result EntrySlot Refusal). FindsEntrySlot old mid at d k names r) (sym e)
         (record {
           stays = f.stays;
@@ -72,7 +96,8 @@ hole-under old mid at d k names a res high low hole f is = go a f is
             refl,
             tt,
             λ t.
-                let lost : find old.now d (path_of k) ≡ answer.Lost = ap (find old.now d) (path-leaf k high low) ∙ lost-below old.now d _ (sym (f.found t)) in
+                let lost : find old.now d (path_of k) ≡ answer.Lost = ap (find old.now d) (path-leaf k high low)
+                ∙ lost-below old.now d _ (sym (f.found t)) in
                 let h = hole t in
                 ((λ x q. cc (lost, q)), (λ q. cc (lost, q))),
           );
@@ -95,7 +120,8 @@ few-unknown d k safe =
 
 module _ (d : DiskState) (k : Books) (n m : ℕ) (safe : IsSafe d k) where
   -- fewer are free
-  pub takes-few : count_set k.free_blocks < n → (free unknown next : ℕ) → free ≡ count_set k.free_blocks → unknown ≡ count_set k.unknown_blocks
+  pub takes-few : count_set k.free_blocks < n → (free unknown next : ℕ) → free ≡ count_set k.free_blocks
+      → unknown ≡ count_set k.unknown_blocks
       → ((W : World) → Says k W → next ≡ next_block W) → TakesBlocks k n m (Err (refusal.Full n free unknown next))
   takes-few lt free unknown next free-is unknown-is next-is = record {
     free = tt;
@@ -107,15 +133,18 @@ module _ (d : DiskState) (k : Books) (n m : ℕ) (safe : IsSafe d k) where
       λ W says.
           let f : count_set k.free_blocks ≡ free_blocks W = free-count d k W safe says in
           let few : ltb (free_blocks W) n ≡ true = less (free_blocks W) n (omega (arith, f, lt)) in
-          rw few (λ j. Some (refusal.Full n (sym (free-is ∙ f) j) (sym (unknown-is ∙ unknown-count d k W safe says) j) (sym (next-is W says) j))),
+          rw few (λ j. Some (refusal.Full n (sym (free-is ∙ f) j) (sym (unknown-is ∙ unknown-count d k W safe says) j)
+          (sym (next-is W says) j))),
     );
   }
 
   enough : n ≤ count_set k.free_blocks → (W : World) → Says k W → ltb (free_blocks W) n ≡ false
-  enough le W says = let f : count_set k.free_blocks ≡ free_blocks W = free-count d k W safe says in not-less (free_blocks W) n (omega (arith, f, le))
+  enough le W says = let f : count_set k.free_blocks ≡ free_blocks W = free-count d k W safe says in
+      not-less (free_blocks W) n (omega (arith, f, le))
 
   -- they are, and the stamps are spent
-  pub takes-spent : n ≤ count_set k.free_blocks → 2 ^ 40 < k.serial + m + n → TakesBlocks k n m (Err refusal.SerialsSpent)
+  pub takes-spent : n ≤ count_set k.free_blocks
+      → 2 ^ 40 < k.serial + m + n → TakesBlocks k n m (Err refusal.SerialsSpent)
   takes-spent le spent = record {
     free = tt;
     stamps = tt;
@@ -125,7 +154,8 @@ module _ (d : DiskState) (k : Books) (n m : ℕ) (safe : IsSafe d k) where
       tt,
       λ W says.
           let e = enough le W says in
-          let t : ltb (2 ^ 40) (W.serial + m + n) ≡ true = less (2 ^ 40) (W.serial + m + n) (let q = says.serial in omega (arith, q, spent)) in
+          let t : ltb (2 ^ 40) (W.serial + m + n) ≡ true =
+          less (2 ^ 40) (W.serial + m + n) (let q = says.serial in omega (arith, q, spent)) in
           rw (e, t) refl,
     );
   }
@@ -137,7 +167,8 @@ module _ (d : DiskState) (k : Books) (n m : ℕ) (safe : IsSafe d k) where
     stamps = left;
     passes = λ W V says.
         let e = enough free.count W says in
-        let t : ltb (2 ^ 40) (W.serial + m + n) ≡ false = not-less (2 ^ 40) (W.serial + m + n) (let q = says.serial in omega (arith, q, left)) in
+        let t : ltb (2 ^ 40) (W.serial + m + n) ≡ false =
+        not-less (2 ^ 40) (W.serial + m + n) (let q = says.serial in omega (arith, q, left)) in
         rw (e, t) refl;
     refused = tt;
   }

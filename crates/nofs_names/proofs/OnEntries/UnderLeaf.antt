@@ -1,5 +1,6 @@
 -- The disk after a new entry was written into a hole under a leaf that holds: its block, the leaf, and the records.
-use Rattle.std.proofs.Common.{◌≡◌, ◌≢◌, ℕ, ◌-◌, ◌/◌, ◌<◌, ◌≤◌, inl, inr, true, [], ◌∷◌, length, Some, sym, ap, ◌∙◌, arith}
+use Rattle.std.proofs.Common.{◌≡◌, ◌≢◌, ℕ, ◌-◌, ◌/◌, ◌<◌, ◌≤◌, inl, inr, true, [], ◌∷◌, length, Some, sym, ap, ◌∙◌}
+use Rattle.std.proofs.Common.{arith}
 use Rattle.std.specs.Prelude.{slice_set}
 use Rattle.std.proofs.lemmas.Bool.{cases_lt}
 use Rattle.std.proofs.lemmas.List.{get_or-set_same, length-set}
@@ -43,28 +44,34 @@ module _ (X : Image) (d i e : ℕ) (dr : Record) (ready : IsReady X d i e dr) wh
   abbrev not-zero : (b : ℕ) → is_data_block X b ≡ true → 0 ≢ b
   not-zero = hole_cells.not-zero X d i e dr ready
 
-  abbrev in-table : (j : ℕ) → is_inode X j ≡ true → (b : ℕ) (cell c : Cell) → b ≡ table_block j → cell ≡ c → tag_of c.tag ≡ Some (table_tag (table_block j))
+  abbrev in-table : (j : ℕ) → is_inode X j ≡ true → (b : ℕ) (cell c : Cell) → b ≡ table_block j
+      → cell ≡ c → tag_of c.tag ≡ Some (table_tag (table_block j))
       → (0 < b) × (b ≤ (super_at X).inodes / 4) × (tag_of cell.tag ≡ Some (table_tag b))
   in-table = hole_cells.in-table X d i e dr ready
 
   abbrev below : e / 16 < 72
   below = hole_cells.below X d i e dr ready
 
-  abbrev claimed-cell : (s : ℕ) (x : Pointer) → IsNewBlock s X x → (Y : Image) (c : Cell) (it : Entry) → IsNewCell d dr.generation e it x.stamp c
-      → cell_at Y x.block ≡ c → (inode Y d).kind ≡ Some Folder → (inode Y d).generation ≡ dr.generation → (path : Path) → path_of (e / 16) ≡ path
+  abbrev claimed-cell : (s : ℕ) (x : Pointer) → IsNewBlock s X x
+      → (Y : Image) (c : Cell) (it : Entry) → IsNewCell d dr.generation e it x.stamp c
+      → cell_at Y x.block ≡ c → (inode Y d).kind ≡ Some Folder
+      → (inode Y d).generation ≡ dr.generation → (path : Path) → path_of (e / 16) ≡ path
       → ClaimedCell s X Y d path x
   claimed-cell = hole_cells.claimed-cell X d i e dr ready
 
-  abbrev content-is : (x : Pointer) (Y : Image) (c : Cell) (it : Entry) → IsNewCell d dr.generation e it x.stamp c → cell_at Y x.block ≡ c
+  abbrev content-is : (x : Pointer) (Y : Image) (c : Cell) (it : Entry) → IsNewCell d dr.generation e it x.stamp c
+      → cell_at Y x.block ≡ c
       → length (spelled_entry it.inode it.generation it.name) ≡ 64
       → Bytes (cell_at Y x.block).payload ≡ with_entry Hole e (spelled_entry it.inode it.generation it.name)
   content-is = hole_cells.content-is X d i e dr ready
 
   -- A hole under a leaf that holds
 
-  module _ (s : ℕ) (x y : Pointer) (block : IsNewBlock s X x) (agrees : agreed (files_in X) d ≡ true) (held : find X d leaf ≡ answer.Holds y)
+  module _ (s : ℕ) (x y : Pointer) (block : IsNewBlock s X x) (agrees : agreed (files_in X) d ≡ true)
+      (held : find X d leaf ≡ answer.Holds y)
       (c u t before-leaf : Cell) (before : Cell) (r : Record) (it : Entry) (high : 8 ≤ e / 16)
-      (filled : IsNewCell d dr.generation e it x.stamp c) (more : IsMoreLeaf before-leaf (e / 16 - 8) x u) (was : before-leaf ≡ cell_at X y.block)
+      (filled : IsNewCell d dr.generation e it x.stamp c) (more : IsMoreLeaf before-leaf (e / 16 - 8) x u)
+      (was : before-leaf ≡ cell_at X y.block)
       (table : IsTable before i r t) (first : before ≡ cell_at X (table_block i)) where
     abbrev Y2 : Image
     Y2 = image_after ((x.block, c) ∷ (y.block, u) ∷ (table_block i, t) ∷ []) X
@@ -80,11 +87,13 @@ module _ (X : Image) (d i e : ℕ) (dr : Record) (ready : IsReady X d i e dr) wh
     len2 = length-set (slice_set X x.block c) y.block u ∙ length-set X x.block c
 
     cell2 : cell_at Y2 x.block ≡ c
-    cell2 = written-here x.block c ((y.block, u) ∷ (table_block i, t) ∷ []) X (above x.block block.area).1 (xy, (off x.block i block.area ready.i_range, tt))
+    cell2 = written-here x.block c ((y.block, u) ∷ (table_block i, t) ∷ []) X
+        (above x.block block.area).1 (xy, (off x.block i block.area ready.i_range, tt))
 
     leaf2 : cell_at Y2 y.block ≡ u
     leaf2 = written-here y.block u ((table_block i, t) ∷ []) (slice_set X x.block c)
-        (let l = length-set X x.block c in let a = (above y.block area2).1 in omega (arith, l, a)) (off y.block i area2 ready.i_range, tt)
+        (let l = length-set X x.block c in let a = (above y.block area2).1 in omega (arith, l, a))
+        (off y.block i area2 ready.i_range, tt)
 
     at-i2 : cell_at Y2 (table_block i) ≡ t
     at-i2 = get_or-set_same (slice_set (slice_set X x.block c) y.block u) (table_block i) t no_cell
@@ -97,7 +106,8 @@ module _ (X : Image) (d i e : ℕ) (dr : Record) (ready : IsReady X d i e dr) wh
     super2 = other2 0 (not-zero x.block block.area) (not-zero y.block area2) (λ q. omega (arith, q))
 
     beside2 : (b : ℕ) → b ≤ (super_at X).inodes / 4 → b ≢ table_block i → cell_at Y2 b ≡ cell_at X b
-    beside2 b l ni = other2 b (λ q. let a = above x.block block.area in omega (arith, a, l, q)) (λ q. let a = above y.block area2 in omega (arith, a, l, q))
+    beside2 b l ni = other2 b (λ q. let a = above x.block block.area in omega (arith, a, l, q))
+        (λ q. let a = above y.block area2 in omega (arith, a, l, q))
         ni
 
     has2 : HasRecord X i r t
@@ -122,23 +132,32 @@ module _ (X : Image) (d i e : ℕ) (dr : Record) (ready : IsReady X d i e dr) wh
       super = super2;
       records = records2;
       held = held;
-      cell = claimed-cell s x block Y2 c it filled cell2 (ap (λ (q : Record). q.kind) d2 ∙ ready.kind) (ap (λ (q : Record). q.generation) d2)
+      cell = claimed-cell s x block Y2 c it filled cell2 (ap (λ (q : Record). q.kind) d2 ∙ ready.kind)
+          (ap (λ (q : Record). q.generation) d2)
           (Under leaf (e / 16 - 8)) (path-leaf (e / 16) high below);
       blocks = λ b t nx ny. other2 b nx ny (off b i t ready.i_range);
       tag = ap (λ (z : Cell). tag_of z.tag) leaf2 ∙ ap tag_of more.tag ∙ ap (λ (z : Cell). tag_of z.tag) was;
       pointer = ap (λ (z : Cell). pointer_at z.payload (e / 16 - 8)) leaf2 ∙ more.here;
-      pointers = λ m ne. ap (λ (z : Cell). pointer_at z.payload m) leaf2 ∙ other-pointer m ne ∙ ap (λ (z : Cell). pointer_at z.payload m) was;
+      pointers = λ m ne. ap (λ (z : Cell). pointer_at z.payload m) leaf2 ∙ other-pointer m ne
+          ∙ ap (λ (z : Cell). pointer_at z.payload m) was;
     }
       where
         other-pointer : (m : ℕ) → m ≢ e / 16 - 8 → pointer_at u.payload m ≡ pointer_at before-leaf.payload m
-        other-pointer m ne = elim (cases_lt m 64) [ inl lt ↦ more.others m ne lt | inr ge ↦ past-same u.payload before-leaf.payload m more.long more.was ge ]
+        other-pointer m ne = elim (cases_lt m 64)
+            [ inl lt ↦ more.others m ne lt | inr ge ↦ past-same u.payload before-leaf.payload m more.long more.was ge ]
 
-    pub under-enters : find X d (path_of (e / 16)) ≡ answer.Hole → length (spelled_entry it.inode it.generation it.name) ≡ 64
+    pub under-enters : find X d (path_of (e / 16)) ≡ answer.Hole
+        → length (spelled_entry it.inode it.generation it.name) ≡ 64
         → EntryInHole s X Y2 d e i (spelled_entry it.inode it.generation it.name) x y
     under-enters hole short =
-        record { empty = hole; claimed = UnderLeaf high below under-hole; content = content-is x Y2 c it filled cell2 short }
+        record {
+          empty = hole;
+          claimed = UnderLeaf high below under-hole;
+          content = content-is x Y2 c it filled cell2 short;
+        }
 
-    pub under-each : (b : ℕ) (cell : Cell) → OneOf ((x.block, c) ∷ (y.block, u) ∷ (table_block i, t) ∷ []) b cell → IsWritten X Y2 e x y b cell
+    pub under-each : (b : ℕ) (cell : Cell) → OneOf ((x.block, c) ∷ (y.block, u) ∷ (table_block i, t) ∷ []) b cell
+        → IsWritten X Y2 e x y b cell
     under-each b cell (inl one) = (one.1 ∙ sym (ap (cell_at Y2) one.0 ∙ cell2), inl one.0)
     under-each b cell (inr (inl one)) = (one.1 ∙ sym (ap (cell_at Y2) one.0 ∙ leaf2), inr (inl (high, one.0)))
     under-each b cell (inr (inr (inl one))) = (

@@ -33,19 +33,24 @@ use Rattle.nofs_names.specs.declared.links.new_name.Both.{Both}
 use Rattle.nofs_names.proofs.OnLinks.Writes.{Links, link-follows, link-given}
 
 -- what a Link comes to, where the mount is open
-pub record Comes (b : DiskState) (H : List Entry1) (p : Past) (d g : ℕ) (name : List ℕ) (i of e spot : ℕ) (c : Claims) (m : ℕ) (ws : List (ℕ × Cell)) :
+pub record Comes (b : DiskState) (H : List Entry1) (p : Past) (d g : ℕ) (name : List ℕ) (i of e spot : ℕ) (c : Claims)
+    (m : ℕ) (ws : List (ℕ × Cell)) :
     Type 0 where
   pub it : Links b.now (image_after ws b.now) p.world d g name i of e spot c
   pub ends : WritesName b H p (step.Link d g name i of) c (link_given p.world.files d g name i of e spot) d i ws
   pub needs : blocks_needed p.world.files (step.Link d g name i of) ≡ m
 
 -- the writes are done, or one failed
-pub linked-goes : (b new : DiskState) (k k' l : Books) (d g : ℕ) (name : List ℕ) (i of e spot : ℕ) (c : Claims) (m : ℕ) (ws : List (ℕ × Cell))
-    (result : Result (Unit {0}) Refusal) → IsDisk b → IsDisk new → IsSafe b k → k.stopped ≡ false → IsSafe b k' → IsApart ws 0
-    → Takes k k' c m → ((tells : IsTrue b.tells) (H : List Entry1) (p : Past) → IsOpen b k H p → Comes b H p d g name i of e spot c m ws)
+pub linked-goes : (b new : DiskState) (k k' l : Books) (d g : ℕ) (name : List ℕ) (i of e spot : ℕ) (c : Claims) (m : ℕ)
+    (ws : List (ℕ × Cell))
+    (result : Result (Unit {0}) Refusal) → IsDisk b → IsDisk new → IsSafe b k
+    → k.stopped ≡ false → IsSafe b k' → IsApart ws 0
+    → Takes k k' c m
+    → ((tells : IsTrue b.tells) (H : List Entry1) (p : Past) → IsOpen b k H p → Comes b H p d g name i of e spot c m ws)
     → RowsPass b k (step.Link d g name i of) → Stores b k' new l ws result → length ws ≡ 2 + length (claimed_blocks c)
     → Goes b k new l (step.Link d g name i of) c (done_answer reply.Linked result)
-linked-goes b new k k' l d g name i of e spot c m ws result is_b is_new safe going safe' apart takes comes pass stores count =
+linked-goes b new k k' l d g name i of e spot c m ws result is_b is_new safe going safe' apart takes comes
+    pass stores count =
     stores-goes b new k k' l (step.Link d g name i of) c reply.Linked ws result is_b is_new safe going safe'
     (taken-same k k' c m (taken-by k k' c m takes)) apart refl count refl refl refl
     (λ tells H p o. let f = comes tells H p o in record {
@@ -60,10 +65,13 @@ linked-goes b new k k' l d g name i of e spot c m ws result is_b is_new safe goi
       answer = refl;
     }) pass stores
 
-module _ (first b new : DiskState) (k l : Books) (d g : ℕ) (both : Both) (p : EntryPlace) (it : Entry) (spot : ℕ) (t : Tables) (ended : Ended)
-    (is_b : IsDisk b) (is_new : IsDisk new) (safe : IsSafe b k) (going : k.stopped ≡ false) (may : MayLink b k d g both p it spot)
+module _ (first b new : DiskState) (k l : Books) (d g : ℕ) (both : Both) (p : EntryPlace) (it : Entry) (spot : ℕ)
+    (t : Tables) (ended : Ended)
+    (is_b : IsDisk b) (is_new : IsDisk new) (safe : IsSafe b k) (going : k.stopped ≡ false)
+    (may : MayLink b k d g both p it spot)
     (old : Record) (enters : MayEnter first k d both.directory p.entry p.slot p.blocks it old)
-    (at-d : IsTrue b.tells → t.directory ≡ cell_at b.now (table_block d)) (at-i : IsTrue b.tells → t.inode ≡ cell_at b.now (table_block it.inode)) where
+    (at-d : IsTrue b.tells → t.directory ≡ cell_at b.now (table_block d))
+    (at-i : IsTrue b.tells → t.inode ≡ cell_at b.now (table_block it.inode)) where
   abbrev pub s : Step
   s = step.Link d g it.name it.inode it.generation
 

@@ -31,7 +31,8 @@ unfolding least_from
 least-in test at zero e h = cc h
 least-in test at (suc n) e h = go (test at) (λ q. least-in test (suc at) n e q) h
   where
-    go : (b : Bool) → (least_from test (suc at) n ≡ Some e → e < suc at + n) → cond b (Some at) (least_from test (suc at) n) ≡ Some e → e < at + suc n
+    go : (b : Bool) → (least_from test (suc at) n ≡ Some e → e < suc at + n)
+        → cond b (Some at) (least_from test (suc at) n) ≡ Some e → e < at + suc n
     go true deep q = let s : at ≡ e = cc q in omega (arith, s)
     go false deep q = let l = deep q in omega (arith, l)
 
@@ -48,7 +49,8 @@ passed-inside F d name u p = record {
 }
 
 -- the directory and the file are still there
-pub both-on : (old new : DiskState) (k : Books) (d g i of : ℕ) (b : Both) → StaysButFaults old new → AreBoth old k.at d g i of b → AreBoth new k.at d g i of b
+pub both-on : (old new : DiskState) (k : Books) (d g i of : ℕ) (b : Both) → StaysButFaults old new
+    → AreBoth old k.at d g i of b → AreBoth new k.at d g i of b
 both-on old new k d g i of b stays a = record {
   directory = directory-on old new stays k.at d b.directory.generation b.directory a.directory;
   file = (KnowsInode-on old new k.at i b.file stays a.file.0, a.file.1);
@@ -57,30 +59,42 @@ both-on old new k d g i of b stays a = record {
 }
 
 pub there-both-on : (old new : DiskState) (k : Books) (d i : ℕ) → StaysButFaults old new
-    → (IsTrue old.tells → KnownTrue k old.now → IsThere d old.now × IsThere i old.now) → IsTrue new.tells → KnownTrue k new.now
+    → (IsTrue old.tells → KnownTrue k old.now → IsThere d old.now × IsThere i old.now) → IsTrue new.tells
+    → KnownTrue k new.now
     → IsThere d new.now × IsThere i new.now
-there-both-on old new k d i stays there t = subst (λ (X : Image). KnownTrue k X → IsThere d X × IsThere i X) (sym stays.cells.now)
+there-both-on old new k d i stays there t =
+    subst (λ (X : Image). KnownTrue k X → IsThere d X × IsThere i X) (sym stays.cells.now)
     (there (subst (λ (b : Bool). IsTrue b) stays.disk.tells t))
 
-pub stands-on : (old new : DiskState) (k : Books) (d g : ℕ) (name : List ℕ) (i of : ℕ) (b : Both) → StaysButFaults old new → StandsLink old k d g name i of b
+pub stands-on : (old new : DiskState) (k : Books) (d g : ℕ) (name : List ℕ) (i of : ℕ) (b : Both)
+    → StaysButFaults old new → StandsLink old k d g name i of b
     → StandsLink new k d g name i of b
-stands-on old new k d g name i of b stays s = record
-    { known = both-on old new k d g i of b stays s.known; there = there-both-on old new k d i stays s.there; name_is = s.name_is }
+stands-on old new k d g name i of b stays s = record {
+  known = both-on old new k d g i of b stays s.known;
+  there = there-both-on old new k d i stays s.there;
+  name_is = s.name_is;
+}
 
-pub place-on : (old new : DiskState) (k : Books) (d : ℕ) (name : List ℕ) (e : ℕ) → StaysButFaults old new → PlaceIs old k d name e → PlaceIs new k d name e
+pub place-on : (old new : DiskState) (k : Books) (d : ℕ) (name : List ℕ) (e : ℕ) → StaysButFaults old new
+    → PlaceIs old k d name e → PlaceIs new k d name e
 place-on old new k d name e stays place t H p o = place (subst (λ (b : Bool). IsTrue b) stays.disk.tells t) H p
     (open-back old new (reads-keep old new stays) k H p o)
 
 pub spot-on : (old new : DiskState) (k : Books) (i b : ℕ) → StaysButFaults old new → SpotIs old k i b → SpotIs new k i b
-spot-on old new k i b stays spot t H p o = spot (subst (λ (b : Bool). IsTrue b) stays.disk.tells t) H p (open-back old new (reads-keep old new stays) k H p o)
+spot-on old new k i b stays spot t H p o =
+    spot (subst (λ (b : Bool). IsTrue b) stays.disk.tells t) H p (open-back old new (reads-keep old new stays) k H p o)
 
-pub leads-on : (old new : DiskState) (k : Books) (s : Step) (rest : World → World → List (Option Refusal)) → StaysButFaults old new → Leads old k s rest
+pub leads-on : (old new : DiskState) (k : Books) (s : Step) (rest : World → World → List (Option Refusal))
+    → StaysButFaults old new → Leads old k s rest
     → Leads new k s rest
 leads-on old new k s rest stays lead t H p o V = lead (subst (λ (b : Bool). IsTrue b) stays.disk.tells t) H p
     (open-back old new (reads-keep old new stays) k H p o) V
 
 -- a part of the rows passes
-pub leads-next : (old : DiskState) (k : Books) (s : Step) (part : World → List (Option Refusal)) (rest : World → World → List (Option Refusal))
+pub leads-next : (old : DiskState) (k : Books) (s : Step) (part : World → List (Option Refusal))
+    (rest : World → World → List (Option Refusal))
     → Leads old k s (λ W V. part W ++ rest W V)
-    → (IsTrue old.tells → (H : List Entry1) (p : Past) → IsOpen old k H p → first_of (part p.world) ≡ None) → Leads old k s rest
-leads-next old k s part rest lead passes t H p o V = lead t H p o V ∙ first-right (part p.world) (rest p.world V) (passes t H p o)
+    → (IsTrue old.tells → (H : List Entry1) (p : Past) → IsOpen old k H p → first_of (part p.world) ≡ None)
+    → Leads old k s rest
+leads-next old k s part rest lead passes t H p o V = lead t H p o V
+    ∙ first-right (part p.world) (rest p.world V) (passes t H p o)

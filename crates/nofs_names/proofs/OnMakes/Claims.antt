@@ -1,5 +1,6 @@
 -- What a Make asks for, and what it claims.
-use Rattle.std.proofs.Common.{◌≡◌, ◌≢◌, ℕ, zero, suc, ◌+◌, ◌-◌, ◌*◌, ◌/◌, ◌^◌, ◌<◌, ◌≤◌, ◌⊎◌, Bool, true, false, eqb, ne_eqb, ltb, not, List, [], ◌∷◌, length}
+use Rattle.std.proofs.Common.{◌≡◌, ◌≢◌, ℕ, zero, suc, ◌+◌, ◌-◌, ◌*◌, ◌/◌, ◌^◌, ◌<◌, ◌≤◌, ◌⊎◌, Bool, true, false, eqb}
+use Rattle.std.proofs.Common.{ne_eqb, ltb, not, List, [], ◌∷◌, length}
 use Rattle.std.proofs.Common.{Some, inl, inr, refl, sym, ap, ◌∙◌, subst, arith, Contains}
 use Rattle.nofs_agree.proofs.OnKnown.{told-other, told-set}
 use Rattle.std.specs.Prelude.{slice_set}
@@ -8,13 +9,15 @@ use Rattle.nofs_dirent.specs.Entries.{entry_limit}
 use Rattle.nofs_bits.specs.Bits.{is_set}
 use Rattle.nofs_disk.specs.Disk.{DiskState}
 use Rattle.nofs_model.specs.Cells.{FileKind, Pointer, SuperBlock, null}
-use Rattle.nofs_model.specs.Image.{Image, value_in, leaf, path_of, find, files_in, agreed, Files, NodeState, Absent, Present, Damaged, node_in}
+use Rattle.nofs_model.specs.Image.{Image, value_in, leaf, path_of, find, files_in, agreed, Files, NodeState, Absent}
+use Rattle.nofs_model.specs.Image.{Present, Damaged, node_in}
 use Rattle.nofs_model.specs.declared.image.path.PathAnswer.TheVariants as answer
 use Rattle.nofs_model.proofs.OnSlots.Paths.{path-direct, path-leaf}
 use Rattle.nofs_history.specs.Meta.{is_bytes}
 use Rattle.nofs_history.specs.Machine.{value_of, node_of, place_for}
 use Rattle.nofs_history.specs.World.{World, blocks_at, blocks_for, blocks_needed, is_free_block}
-use Rattle.nofs_history.specs.Claims.{IsClaim, IsBlockClaim, IsInodeClaim, Claimed, Unclaimed, ClaimedInode, Apart, claimed_blocks, is_claimed}
+use Rattle.nofs_history.specs.Claims.{IsClaim, IsBlockClaim, IsInodeClaim, Claimed, Unclaimed, ClaimedInode, Apart}
+use Rattle.nofs_history.specs.Claims.{claimed_blocks, is_claimed}
 use Rattle.nofs_history.specs.Claims.{next_stamp}
 use Rattle.nofs_history.specs.History.{FilesMatch}
 use Rattle.nofs_history.specs.declared.machine.history.Claims.{Claims}
@@ -37,12 +40,14 @@ use Rattle.nofs_names.proofs.OnSteps.Claims.{TakenBoth, TakenInode}
 plus-none : (m : ℕ) → 1 + (0 + m) ≡ 1 + m
 plus-none m = omega arith
 
-module _ (F : Files) (X : Image) (d e : ℕ) (match : FilesMatch F X) (agrees : agreed (files_in X) d ≡ true) (range : e < entry_limit) where
+module _ (F : Files) (X : Image) (d e : ℕ) (match : FilesMatch F X) (agrees : agreed (files_in X) d ≡ true)
+    (range : e < entry_limit) where
   own : Matched F X d
   own = matched-agreed F X d match (agreed-live X d agrees) agrees
 
   value-is : value_of F d (e / 16) ≡ value_in X (find X d (path_of (e / 16)))
-  value-is = let i = own.is in rw (i, value_of) ((file-of F X d own.file match own.is).1.values (e / 16) (omega (arith, range)))
+  value-is = let i = own.is in
+      rw (i, value_of) ((file-of F X d own.file match own.is).1.values (e / 16) (omega (arith, range)))
 
   leaf-is : node_of F d leaf ≡ node_in (find X d leaf)
   leaf-is = let i = own.is in rw (i, node_of) ((file-of F X d own.file match own.is).1.nodes leaf (omega arith) refl)
@@ -55,13 +60,16 @@ module _ (F : Files) (X : Image) (d e : ℕ) (match : FilesMatch F X) (agrees : 
   under n h far en = let v = in-hole h in let p = path-leaf (e / 16) far (omega (arith, range)) in rw (v, p, en)
       (plus-none (elim n [ Absent ↦ 1 | Present ↦ 0 | Damaged ↦ 0 ]))
 
-  asks-for : (at : SuperBlock) (s : EntrySlot) → FitsSlot at (e / 16) s → IsEntrySlot X d (e / 16) s → blocks_for F d (e / 16) ≡ slot_blocks s
-  asks-for at (HeldSlot x) f h = let v : is_bytes (value_of F d (e / 16)) ≡ true = ap is_bytes (value-is ∙ ap (value_in X) h) in rw v refl
+  asks-for : (at : SuperBlock) (s : EntrySlot) → FitsSlot at (e / 16) s → IsEntrySlot X d (e / 16) s
+      → blocks_for F d (e / 16) ≡ slot_blocks s
+  asks-for at (HeldSlot x) f h =
+      let v : is_bytes (value_of F d (e / 16)) ≡ true = ap is_bytes (value-is ∙ ap (value_in X) h) in rw v refl
   asks-for at DirectHole f h = let v = in-hole h in let p = path-direct (e / 16) f in rw (v, p) refl
   asks-for at (HoleUnder y) f h = under Present h.0 f.0 (leaf-is ∙ ap node_in h.1)
   asks-for at HoleWith f h = under Absent h.0 f (leaf-is ∙ ap node_in h.1)
 
-  pub make-asks : (g : ℕ) (name : List ℕ) (kind : FileKind) (at : SuperBlock) (s : EntrySlot) → place_for F d name ≡ Some e → FitsSlot at (e / 16) s
+  pub make-asks : (g : ℕ) (name : List ℕ) (kind : FileKind) (at : SuperBlock) (s : EntrySlot)
+      → place_for F d name ≡ Some e → FitsSlot at (e / 16) s
       → IsEntrySlot X d (e / 16) s → blocks_needed F (step.Make d g name kind) ≡ slot_blocks s
   make-asks g name kind at s place f h = ap (blocks_at F d) place ∙ asks-for at s f h
 
@@ -77,14 +85,17 @@ pub record IsPicked (W : World) (stamp : ℕ) (x : Pointer) : Type 0 where
   pub stamp_is : x.stamp ≡ stamp
   pub named : is_claimed x ≡ true
 
-module _ (W : World) (d g : ℕ) (name : List ℕ) (kind : FileKind) (i : ℕ) (n : ℕ) (inode : IsInodeClaim W (next_stamp W) (make_claims i n null null) true) where
+module _ (W : World) (d g : ℕ) (name : List ℕ) (kind : FileKind) (i : ℕ) (n : ℕ)
+    (inode : IsInodeClaim W (next_stamp W) (make_claims i n null null) true) where
   inode-for : (x y : Pointer) → IsInodeClaim W (next_stamp W) (make_claims i n x y) true
   inode-for x y = go inode
     where
-      go : IsInodeClaim W (next_stamp W) (make_claims i n null null) true → IsInodeClaim W (next_stamp W) (make_claims i n x y) true
+      go : IsInodeClaim W (next_stamp W) (make_claims i n null null) true
+          → IsInodeClaim W (next_stamp W) (make_claims i n x y) true
       go (ClaimedInode free low high is) = ClaimedInode free low high is
 
-  pub claims-none : blocks_needed W.files (step.Make d g name kind) ≡ 0 → IsClaim W (step.Make d g name kind) (make_claims i n null null)
+  pub claims-none : blocks_needed W.files (step.Make d g name kind) ≡ 0
+      → IsClaim W (step.Make d g name kind) (make_claims i n null null)
   claims-none needs = record {
     inode = inode;
     cell = subst (λ (m : ℕ). IsBlockClaim W (next_stamp W + 1) null (ltb 0 m)) (sym needs) (Unclaimed refl);
@@ -104,22 +115,29 @@ module _ (W : World) (d g : ℕ) (name : List ℕ) (kind : FileKind) (i : ℕ) (
       → IsClaim W (step.Make d g name kind) (make_claims i n x null)
   claims-one x needs h = record {
     inode = inode-for x null;
-    cell = subst (λ (m : ℕ). IsBlockClaim W (next_stamp W + 1) x (ltb 0 m)) (sym needs) (Claimed h.free h.range h.stamp_is);
+    cell = subst (λ (m : ℕ). IsBlockClaim W (next_stamp W + 1) x (ltb 0 m)) (sym needs)
+        (Claimed h.free h.range h.stamp_is);
     leaf = subst (λ (m : ℕ). IsBlockClaim W (next_stamp W + 1 + 1) null (ltb 1 m)) (sym needs) (Unclaimed refl);
     top = subst (λ (m : ℕ). IsBlockClaim W (next_stamp W + 1 + 2) null (ltb 2 m)) (sym needs) (Unclaimed refl);
     apart = let t = h.named in subst Apart (let q : x ∷ [] ≡ claimed_blocks (make_claims i n x null) = rw t refl in q)
         ((λ y has. absurd (nothing-in y has)), tt);
   }
 
-  pub claims-two : (x y : Pointer) → blocks_needed W.files (step.Make d g name kind) ≡ 2 → IsPicked W (next_stamp W + 1) x → IsPicked W (next_stamp W + 1 + 1) y
+  pub claims-two : (x y : Pointer) → blocks_needed W.files (step.Make d g name kind) ≡ 2
+      → IsPicked W (next_stamp W + 1) x → IsPicked W (next_stamp W + 1 + 1) y
       → x.block ≢ y.block → IsClaim W (step.Make d g name kind) (make_claims i n x y)
   claims-two x y needs h q ne = record {
     inode = inode-for x y;
-    cell = subst (λ (m : ℕ). IsBlockClaim W (next_stamp W + 1) x (ltb 0 m)) (sym needs) (Claimed h.free h.range h.stamp_is);
-    leaf = subst (λ (m : ℕ). IsBlockClaim W (next_stamp W + 1 + 1) y (ltb 1 m)) (sym needs) (Claimed q.free q.range q.stamp_is);
+    cell = subst (λ (m : ℕ). IsBlockClaim W (next_stamp W + 1) x (ltb 0 m)) (sym needs)
+        (Claimed h.free h.range h.stamp_is);
+    leaf = subst (λ (m : ℕ). IsBlockClaim W (next_stamp W + 1 + 1) y (ltb 1 m)) (sym needs)
+        (Claimed q.free q.range q.stamp_is);
     top = subst (λ (m : ℕ). IsBlockClaim W (next_stamp W + 1 + 2) null (ltb 2 m)) (sym needs) (Unclaimed refl);
-    apart = let t = h.named in let u = q.named in subst Apart (let w : x ∷ y ∷ [] ≡ claimed_blocks (make_claims i n x y) = rw (t, u) refl in w)
-        ((λ z has e. ne (e ∙ ap (λ (p : Pointer). p.block) (sym (sole y z has)))), ((λ z has. absurd (nothing-in z has)), tt));
+    apart = let t = h.named in let u = q.named in
+        subst Apart (let w : x ∷ y ∷ [] ≡ claimed_blocks (make_claims i n x y) = rw (t, u) refl in w) (
+          (λ z has e. ne (e ∙ ap (λ (p : Pointer). p.block) (sym (sole y z has)))),
+          ((λ z has. absurd (nothing-in z has)), tt),
+        );
   }
 
 -- The claims by the maps
@@ -131,7 +149,8 @@ module _ (d : DiskState) (k : Books) (H : List Entry1) (p : Past) (safe : IsSafe
   -- an inode that the map has as free
   pub inode-picked : (i : ℕ) → 1 ≤ i → i ≤ k.at.inodes → is_set k.free_inodes (i - 1) ≡ true
       → IsInodeClaim p.world (next_stamp p.world) (make_claims i (k.at.mount * 2 ^ 40 + k.serial) null null) true
-  inode-picked i low high set = ClaimedInode (sym (o.says.free_inodes i low high) ∙ set) low (let n = o.says.inodes in omega (arith, high, n)) (sym next-is)
+  inode-picked i low high set = ClaimedInode (sym (o.says.free_inodes i low high) ∙ set) low
+      (let n = o.says.inodes in omega (arith, high, n)) (sym next-is)
 
   -- a block that it has as free, claimed after m stamps
   pub block-picked : (b m : ℕ) → b < k.at.blocks → is_set k.free_blocks b ≡ true
@@ -173,7 +192,8 @@ module _ (k : Books) (i n : ℕ) (low : 1 ≤ i) (high : i ≤ length k.free_ino
   taken-none = record {
     all = record {
       same = ap (books k.free_blocks) (let e : k.serial + 1 ≡ k.serial + (1 + 0) = omega arith in e);
-      here = λ x h. absurd (elim h.1 [ inl e ↦ not-null x e h.0 | inr r ↦ elim r [ inl e ↦ not-null x e h.0 | inr e ↦ not-null x e h.0 ] ]);
+      here = λ x h. absurd (elim h.1
+          [ inl e ↦ not-null x e h.0 | inr r ↦ elim r [ inl e ↦ not-null x e h.0 | inr e ↦ not-null x e h.0 ] ]);
       other = λ m none. refl;
     };
     inode = inode-taken;
@@ -183,9 +203,11 @@ module _ (k : Books) (i n : ℕ) (low : 1 ≤ i) (high : i ≤ length k.free_ino
       → TakenBoth k (claimed_books (made_books k i) x.block) (make_claims i n x null) 1
   taken-one x range named = record {
     all = record {
-      same = ap (books (slice_set k.free_blocks x.block false)) (let e : k.serial + 1 + 1 ≡ k.serial + (1 + 1) = omega arith in e);
+      same = ap (books (slice_set k.free_blocks x.block false))
+          (let e : k.serial + 1 + 1 ≡ k.serial + (1 + 1) = omega arith in e);
       here = λ q h. elim h.1 [
-        | inl e ↦ subst (λ (z : Pointer). is_set (slice_set k.free_blocks x.block false) z.block ≡ false) e (set-here k.free_blocks x.block false range)
+        | inl e ↦ subst (λ (z : Pointer). is_set (slice_set k.free_blocks x.block false) z.block ≡ false) e
+            (set-here k.free_blocks x.block false range)
         | inr r ↦ absurd (elim r [ inl e ↦ not-null q e h.0 | inr e ↦ not-null q e h.0 ])
       ];
       other = λ m none. set-other k.free_blocks x.block m false (none x (named, inl refl));
@@ -193,21 +215,26 @@ module _ (k : Books) (i n : ℕ) (low : 1 ≤ i) (high : i ≤ length k.free_ino
     inode = inode-taken;
   }
 
-  pub taken-two : (x y : Pointer) → x.block < length k.free_blocks → y.block < length k.free_blocks → is_claimed x ≡ true → is_claimed y ≡ true
+  pub taken-two : (x y : Pointer) → x.block < length k.free_blocks → y.block < length k.free_blocks
+      → is_claimed x ≡ true → is_claimed y ≡ true
       → TakenBoth k (claimed_books (claimed_books (made_books k i) x.block) y.block) (make_claims i n x y) 2
   taken-two x y range range_y named named_y = record {
     all = record {
-      same = ap (books (slice_set (slice_set k.free_blocks x.block false) y.block false)) (let e : k.serial + 1 + 1 + 1 ≡ k.serial +
+      same = ap (books (slice_set (slice_set k.free_blocks x.block false) y.block false))
+          (let e : k.serial + 1 + 1 + 1 ≡ k.serial +
           (1 + 2) = omega arith in e);
       here = λ q h. elim h.1 [
-        | inl e ↦ subst (λ (z : Pointer). is_set (slice_set (slice_set k.free_blocks x.block false) y.block false) z.block ≡ false) e
+        | inl e ↦ subst (λ (z : Pointer).
+            is_set (slice_set (slice_set k.free_blocks x.block false) y.block false) z.block ≡ false) e
             (first (cases_eq x.block y.block))
         | inr r ↦ elim r [
-          | inl e ↦ subst (λ (z : Pointer). is_set (slice_set (slice_set k.free_blocks x.block false) y.block false) z.block ≡ false) e second
+          | inl e ↦ subst (λ (z : Pointer).
+              is_set (slice_set (slice_set k.free_blocks x.block false) y.block false) z.block ≡ false) e second
           | inr e ↦ absurd (not-null q e h.0)
         ]
       ];
-      other = λ m none. set-other (slice_set k.free_blocks x.block false) y.block m false (none y (named_y, inr (inl refl)))
+      other = λ m none. set-other (slice_set k.free_blocks x.block false) y.block m false
+          (none y (named_y, inr (inl refl)))
           ∙ set-other k.free_blocks x.block m false (none x (named, inl refl));
     };
     inode = inode-taken;
@@ -219,6 +246,9 @@ module _ (k : Books) (i n : ℕ) (low : 1 ≤ i) (high : i ≤ length k.free_ino
       second : is_set (slice_set (slice_set k.free_blocks x.block false) y.block false) y.block ≡ false
       second = set-here (slice_set k.free_blocks x.block false) y.block false inside
 
-      first : (x.block ≡ y.block) ⊎ (x.block ≢ y.block) → is_set (slice_set (slice_set k.free_blocks x.block false) y.block false) x.block ≡ false
-      first (inl e) = subst (λ (b : ℕ). is_set (slice_set (slice_set k.free_blocks x.block false) y.block false) b ≡ false) (sym e) second
-      first (inr ne) = set-other (slice_set k.free_blocks x.block false) y.block x.block false ne ∙ set-here k.free_blocks x.block false range
+      first : (x.block ≡ y.block) ⊎ (x.block ≢ y.block)
+          → is_set (slice_set (slice_set k.free_blocks x.block false) y.block false) x.block ≡ false
+      first (inl e) = subst
+          (λ (b : ℕ). is_set (slice_set (slice_set k.free_blocks x.block false) y.block false) b ≡ false) (sym e) second
+      first (inr ne) = set-other (slice_set k.free_blocks x.block false) y.block x.block false ne
+          ∙ set-here k.free_blocks x.block false range

@@ -24,25 +24,30 @@ use Rattle.nofs_names.proofs.OnMakes.Writes.{make-gives, make-follows}
 use Rattle.nofs_history.specs.Machine.{make_given}
 
 -- what the writes of a Make owe in an open world
-pub record IsMade (b : DiskState) (H : List Entry1) (p : Past) (d g : ℕ) (name : List ℕ) (kind : FileKind) (e : ℕ) (c : Claims) (ws : List (ℕ × Cell)) (m : ℕ) :
+pub record IsMade (b : DiskState) (H : List Entry1) (p : Past) (d g : ℕ) (name : List ℕ) (kind : FileKind) (e : ℕ)
+    (c : Claims) (ws : List (ℕ × Cell)) (m : ℕ) :
     Type 0 where
   pub it : Makes b.now (image_after ws b.now) p.world d g name kind e c
   pub ends : WritesName b H p (step.Make d g name kind) c (make_given p.world.files d g name kind c e) d c.inode ws
   pub needs : blocks_needed p.world.files (step.Make d g name kind) ≡ m
 
 -- the answer of a Make
-answer-is : (c : Claims) (result : Result (Unit {0}) Refusal) → done_answer (reply.Made c.inode c.generation) result ≡ made_answer c result
+answer-is : (c : Claims) (result : Result (Unit {0}) Refusal)
+    → done_answer (reply.Made c.inode c.generation) result ≡ made_answer c result
 answer-is c (Ok done) = refl
 answer-is c (Err why) = refl
 
-pub made-goes : (b new : DiskState) (k q l : Books) (d g : ℕ) (name : List ℕ) (kind : FileKind) (e : ℕ) (c : Claims) (ws : List (ℕ × Cell)) (m : ℕ)
-    (result : Result (Unit {0}) Refusal) → IsDisk b → IsDisk new → IsSafe b k → IsSafe b q → k.stopped ≡ false → IsApart ws 0 → TakenBoth k q c m
+pub made-goes : (b new : DiskState) (k q l : Books) (d g : ℕ) (name : List ℕ) (kind : FileKind) (e : ℕ) (c : Claims)
+    (ws : List (ℕ × Cell)) (m : ℕ)
+    (result : Result (Unit {0}) Refusal) → IsDisk b → IsDisk new → IsSafe b k → IsSafe b q
+    → k.stopped ≡ false → IsApart ws 0 → TakenBoth k q c m
     → ((tells : IsTrue b.tells) (H : List Entry1) (p : Past) → IsOpen b k H p → IsMade b H p d g name kind e c ws m)
     → RowsPass b k (step.Make d g name kind) → Stores b q new l ws result → length ws ≡ 2 + length (claimed_blocks c)
     → Goes b k new l (step.Make d g name kind) c (made_answer c result)
 made-goes b new k q l d g name kind e c ws m result is_b is_new safe claimed going apart taken made pass stores count =
     subst (Goes b k new l (step.Make d g name kind) c) (answer-is c result)
-    (stores-goes b new k q l (step.Make d g name kind) c (reply.Made c.inode c.generation) ws result is_b is_new safe going claimed
+    (stores-goes b new k q l (step.Make d g name kind) c
+    (reply.Made c.inode c.generation) ws result is_b is_new safe going claimed
     (taken-same k q c (1 + m) taken.all) apart refl count refl refl refl
     (λ tells H p o. let f = made tells H p o in record {
       step = record {

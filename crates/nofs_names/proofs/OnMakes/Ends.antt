@@ -1,5 +1,6 @@
 -- The contract of Make, by how its entry was written.
-use Rattle.std.proofs.Common.{◌≡◌, ℕ, ◌/◌, ◌^◌, ◌<◌, ◌≤◌, true, false, eqb, ne_eqb, not, List, length, IsTrue, refl, sym, ap, subst, arith}
+use Rattle.std.proofs.Common.{◌≡◌, ℕ, ◌/◌, ◌^◌, ◌<◌, ◌≤◌, true, false, eqb, ne_eqb, not, List, length, IsTrue, refl}
+use Rattle.std.proofs.Common.{sym, ap, subst, arith}
 use Rattle.nofs_bits.specs.Bits.{is_set}
 use Rattle.nofs_disk.specs.Disk.{DiskState, IsDisk, cell_at}
 use Rattle.nofs_model.specs.Cells.{FileKind, Record}
@@ -31,9 +32,12 @@ use Rattle.nofs_names.proofs.OnMakes.InHole.{direct-made, under-made, with-made}
 use Rattle.nofs_state.proofs.OnBooks.Claims.{claimed-safe, made-safe}
 use Rattle.nofs_names.proofs.OnMakes.Places.{in-data, free-above, no-table}
 
-module _ (b new : DiskState) (k l : Books) (d g : ℕ) (name : List ℕ) (kind : FileKind) (dr : Record) (place : EntryPlace) (i : ℕ) (t : Tables) (ended : Ended)
-    (is_b : IsDisk b) (is_new : IsDisk new) (safe : IsSafe b k) (going : k.stopped ≡ false) (may : MayMake b k d g name dr place i)
-    (was_d : IsTrue b.tells → t.directory ≡ cell_at b.now (table_block d)) (was_i : IsTrue b.tells → t.inode ≡ cell_at b.now (table_block i))
+module _ (b new : DiskState) (k l : Books) (d g : ℕ) (name : List ℕ) (kind : FileKind) (dr : Record)
+    (place : EntryPlace) (i : ℕ) (t : Tables) (ended : Ended)
+    (is_b : IsDisk b) (is_new : IsDisk new) (safe : IsSafe b k) (going : k.stopped ≡ false)
+    (may : MayMake b k d g name dr place i)
+    (was_d : IsTrue b.tells → t.directory ≡ cell_at b.now (table_block d))
+    (was_i : IsTrue b.tells → t.inode ≡ cell_at b.now (table_block i))
     (pass : RowsPass b k (step.Make d g name kind)) where
   -- the claims of what was written, with the inode
   abbrev with_inode : Claims → Claims
@@ -63,72 +67,100 @@ module _ (b new : DiskState) (k l : Books) (d g : ℕ) (name : List ℕ) (kind :
     cell-within = let r = cell-range in let m = safe.free_blocks in omega (arith, r, m)
 
     cell-named : is_claimed (claimed_pointer (made_books k i) place.blocks.cell) ≡ true
-    cell-named = let z : eqb place.blocks.cell 0 ≡ false = ne_eqb place.blocks.cell 0 (λ e. free-above b k place.blocks.cell safe cell-free (sym e)) in ap not z
+    cell-named = let z : eqb place.blocks.cell 0 ≡ false =
+        ne_eqb place.blocks.cell 0 (λ e. free-above b k place.blocks.cell safe cell-free (sym e)) in ap not z
 
     cell-safe : IsSafe b (claimed_books (made_books k i) place.blocks.cell)
-    cell-safe = claimed-safe b (made_books k i) place.blocks.cell cell-within (let s = may.stamps in let e = blocks-are in omega (arith, s, e, one)) first-safe
+    cell-safe = claimed-safe b (made_books k i) place.blocks.cell cell-within
+        (let s = may.stamps in let e = blocks-are in omega (arith, s, e, one)) first-safe
 
   positive : (n : ℕ) → is_set k.free_blocks n ≡ true → 0 < n
   positive n free = let a = safe.in_area n free in omega (arith, a)
 
-  pub entered-goes : (s : EntrySlot) → place.slot ≡ s → Enters b (made_books k i) new l d dr place (record { inode = i; generation = next_of k; name = name })
+  pub entered-goes : (s : EntrySlot) → place.slot ≡ s
+      → Enters b (made_books k i) new l d dr place (record { inode = i; generation = next_of k; name = name })
       (made_record kind (next_of k) (link_to d place.entry g)) t s ended
       → Goes b k new l (step.Make d g name kind) (record ended.claims { inode = i; generation = next_of k })
       (made_answer (record ended.claims { inode = i; generation = next_of k }) ended.result)
   entered-goes (HeldSlot x) is w = subst IsEnd (sym w.claims)
-      (made-goes b new k (made_books k i) l d g name kind place.entry _ _ 0 ended.result is_b is_new safe first-safe going
-      (in-data k.at x (subst (λ (q : EntrySlot). FitsSlot k.at (place.entry / 16) q) is may.fits), (no-table i, tt)) (taken-none k i (next_of k) may.above high)
-      (λ tells H p o. held-made b k H p d g name kind dr place i tells safe o may is_b x is w.whole w.cell w.table t.inode w.payload w.tag (was_i tells)
+      (made-goes b new k
+      (made_books k i) l d g name kind place.entry _ _ 0 ended.result is_b is_new safe first-safe going
+      (in-data k.at x (subst (λ (q : EntrySlot). FitsSlot k.at (place.entry / 16) q) is may.fits), (no-table i, tt))
+      (taken-none k i (next_of k) may.above high)
+      (λ tells H p o. held-made b k H p d g name kind dr place i tells safe o may is_b x is w.whole w.cell w.table
+      t.inode w.payload w.tag (was_i tells)
       w.written)
       pass w.stores refl)
   entered-goes DirectHole is w = subst IsEnd (sym w.claims)
-      (made-goes b new k (claimed_books (made_books k i) place.blocks.cell) l d g name kind place.entry _ _ 1 ended.result is_b is_new safe
-      (cell-safe 1 (ap slot_blocks is) (omega arith)) going
-      (free-above b k place.blocks.cell safe (cell-free 1 (ap slot_blocks is) (omega arith)), (no-table d, (no-table i, tt)))
-      (taken-one k i (next_of k) may.above high (claimed_pointer (made_books k i) place.blocks.cell) (cell-range 1 (ap slot_blocks is) (omega arith))
+      (made-goes b new k
+      (claimed_books (made_books k i) place.blocks.cell) l d g name kind place.entry _ _ 1 ended.result is_b is_new safe
+      (cell-safe 1 (ap slot_blocks is) (omega arith)) going (
+        free-above b k place.blocks.cell safe (cell-free 1 (ap slot_blocks is) (omega arith)),
+        (no-table d, (no-table i, tt)),
+      )
+      (taken-one k i (next_of k) may.above high (claimed_pointer (made_books k i) place.blocks.cell)
+      (cell-range 1 (ap slot_blocks is) (omega arith))
       (cell-named 1 (ap slot_blocks is) (omega arith)))
-      (λ tells H p o. direct-made b k H p d g name kind dr place i tells safe o may is_b w.cell w.filled is t w.after w.tables (was_d tells) (was_i tells))
+      (λ tells H p o. direct-made b k H p d g name kind dr place i tells safe o may is_b w.cell w.filled is t w.after
+      w.tables (was_d tells) (was_i tells))
       pass w.stores (count-one (make_claims i (next_of k) (claimed_pointer (made_books k i) place.blocks.cell) null)
       (positive place.blocks.cell (cell-free 1 (ap slot_blocks is) (omega arith))) refl refl))
   entered-goes (HoleUnder y) is w = subst IsEnd (sym w.claims)
-      (made-goes b new k (claimed_books (made_books k i) place.blocks.cell) l d g name kind place.entry _ _ 1 ended.result is_b is_new safe
+      (made-goes b new k
+      (claimed_books (made_books k i) place.blocks.cell) l d g name kind place.entry _ _ 1 ended.result is_b is_new safe
       (cell-safe 1 (ap slot_blocks is) (omega arith)) going (
         free-above b k place.blocks.cell safe (cell-free 1 (ap slot_blocks is) (omega arith)),
-        (in-data k.at y (subst (λ (q : EntrySlot). FitsSlot k.at (place.entry / 16) q) is may.fits).1, (no-table i, tt)),
+        (
+          in-data k.at y (subst (λ (q : EntrySlot). FitsSlot k.at (place.entry / 16) q) is may.fits).1,
+          (no-table i, tt),
+        ),
       )
-      (taken-one k i (next_of k) may.above high (claimed_pointer (made_books k i) place.blocks.cell) (cell-range 1 (ap slot_blocks is) (omega arith))
+      (taken-one k i (next_of k) may.above high (claimed_pointer (made_books k i) place.blocks.cell)
+      (cell-range 1 (ap slot_blocks is) (omega arith))
       (cell-named 1 (ap slot_blocks is) (omega arith)))
-      (λ tells H p o. under-made b k H p d g name kind dr place i tells safe o may is_b w.cell w.filled y is w.leaf w.table t.inode w.above w.written
-      (was_i tells)) pass w.stores (count-one (make_claims i (next_of k) (claimed_pointer (made_books k i) place.blocks.cell) null)
+      (λ tells H p o. under-made b k H p d g name kind dr place i tells safe o may is_b w.cell w.filled y is w.leaf
+      w.table t.inode w.above w.written
+      (was_i tells)) pass w.stores
+      (count-one (make_claims i (next_of k) (claimed_pointer (made_books k i) place.blocks.cell) null)
       (positive place.blocks.cell (cell-free 1 (ap slot_blocks is) (omega arith))) refl refl))
   entered-goes HoleWith is w =
       let f = may.blocks.leaf (let e = ap slot_blocks is in omega (arith, e)) in
       let n : place.blocks.leaf < k.at.blocks = (let r = f.1 in let m = safe.free_blocks in omega (arith, r, m)) in
-      let z : eqb place.blocks.leaf 0 ≡ false = ne_eqb place.blocks.leaf 0 (λ e. free-above b k place.blocks.leaf safe f.0 (sym e)) in
+      let z : eqb place.blocks.leaf 0 ≡ false =
+      ne_eqb place.blocks.leaf 0 (λ e. free-above b k place.blocks.leaf safe f.0 (sym e)) in
       subst IsEnd (sym w.claims)
-      (made-goes b new k (claimed_books (claimed_books (made_books k i) place.blocks.cell) place.blocks.leaf) l d g name kind place.entry _ _ 2 ended.result
+      (made-goes b new k (claimed_books (claimed_books (made_books k i) place.blocks.cell) place.blocks.leaf) l d g name
+      kind place.entry _ _ 2 ended.result
       is_b is_new safe
       (claimed-safe b (claimed_books (made_books k i) place.blocks.cell) place.blocks.leaf n
-      (let s = may.stamps in let e = ap slot_blocks is in omega (arith, s, e)) (cell-safe 2 (ap slot_blocks is) (omega arith))) going (
+      (let s = may.stamps in let e = ap slot_blocks is in omega (arith, s, e))
+      (cell-safe 2 (ap slot_blocks is) (omega arith))) going (
         free-above b k place.blocks.cell safe (cell-free 2 (ap slot_blocks is) (omega arith)),
         (free-above b k place.blocks.leaf safe f.0, (no-table d, (no-table i, tt))),
       )
       (taken-two k i (next_of k) may.above high (claimed_pointer (made_books k i) place.blocks.cell)
       (claimed_pointer (claimed_books (made_books k i) place.blocks.cell) place.blocks.leaf)
       (cell-range 2 (ap slot_blocks is) (omega arith)) f.1 (cell-named 2 (ap slot_blocks is) (omega arith)) (ap not z))
-      (λ tells H p o. with-made b k H p d g name kind dr place i tells safe o may is_b w.cell w.filled is w.leaf t w.after w.above w.tables (was_d tells)
-      (was_i tells)) pass w.stores (count-two (make_claims i (next_of k) (claimed_pointer (made_books k i) place.blocks.cell)
+      (λ tells H p o. with-made b k H p d g name kind dr place i tells safe o may is_b w.cell w.filled is w.leaf t
+      w.after w.above w.tables (was_d tells)
+      (was_i tells)) pass w.stores
+      (count-two (make_claims i (next_of k) (claimed_pointer (made_books k i) place.blocks.cell)
       (claimed_pointer (claimed_books (made_books k i) place.blocks.cell) place.blocks.leaf))
-      (positive place.blocks.cell (cell-free 2 (ap slot_blocks is) (omega arith))) (positive place.blocks.leaf f.0) refl))
+      (positive place.blocks.cell (cell-free 2 (ap slot_blocks is) (omega arith)))
+      (positive place.blocks.leaf f.0) refl))
 
 -- the entry that was written, by the claim's numbers
-pub enters-as : (b new : DiskState) (k m l : Books) (d g : ℕ) (name : List ℕ) (kind : FileKind) (dr : Record) (place : EntryPlace) (i gen : ℕ) (r : Record)
-    (t : Tables) (s : EntrySlot) (ended : Ended) → m ≡ made_books k i → gen ≡ next_of k → r ≡ made_record kind gen (link_to d place.entry g)
+pub enters-as : (b new : DiskState) (k m l : Books) (d g : ℕ) (name : List ℕ) (kind : FileKind) (dr : Record)
+    (place : EntryPlace) (i gen : ℕ) (r : Record)
+    (t : Tables) (s : EntrySlot) (ended : Ended) → m ≡ made_books k i → gen ≡ next_of k
+    → r ≡ made_record kind gen (link_to d place.entry g)
     → Enters b m new l d dr place (record { inode = i; generation = gen; name = name }) r t s ended
     → Enters b (made_books k i) new l d dr place (record { inode = i; generation = next_of k; name = name })
     (made_record kind (next_of k) (link_to d place.entry g)) t s ended
 enters-as b new k m l d g name kind dr place i gen r t s ended em eg er w =
     subst (λ (q : ℕ). Enters b (made_books k i) new l d dr place (record { inode = i; generation = q; name = name })
     (made_record kind q (link_to d place.entry g)) t s ended) eg
-    (subst (λ (q : Record). Enters b (made_books k i) new l d dr place (record { inode = i; generation = gen; name = name }) q t s ended) er
-    (subst (λ (q : Books). Enters b q new l d dr place (record { inode = i; generation = gen; name = name }) r t s ended) em w))
+    (subst (λ (q : Record). Enters b (made_books k i) new l d dr place
+    (record { inode = i; generation = gen; name = name }) q t s ended) er
+    (subst (λ (q : Books). Enters b q new l d dr place
+    (record { inode = i; generation = gen; name = name }) r t s ended) em w))

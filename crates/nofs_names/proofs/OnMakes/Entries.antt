@@ -1,13 +1,16 @@
 -- Make, by what stands in the slot of its entry.
-use Rattle.std.proofs.Common.{◌≡◌, ℕ, zero, suc, ◌+◌, ◌*◌, ◌/◌, ◌%◌, ◌^◌, ◌<◌, ◌≤◌, ◌⊎◌, inl, inr, true, leb, le-leb, List, [], ◌∷◌, length, Some, IsTrue, refl}
+use Rattle.std.proofs.Common.{◌≡◌, ℕ, zero, suc, ◌+◌, ◌*◌, ◌/◌, ◌%◌, ◌^◌, ◌<◌, ◌≤◌, ◌⊎◌, inl, inr, true, leb, le-leb}
+use Rattle.std.proofs.Common.{List, [], ◌∷◌, length, Some, IsTrue, refl}
 use Rattle.std.proofs.Common.{sym, ap, ◌∙◌, subst, arith}
 use Rattle.nofs_disk.specs.Disk.{DiskState, IsDisk, cell_at}
 use Rattle.nofs_disk.specs.Number.{put_bytes}
 use Rattle.nofs_dirent.specs.Entries.{spelled_entry}
 use Rattle.nofs_dirent.specs.EntryLaws.{Spells, spelled_entry-spells}
 use Rattle.nofs_super.specs.Geometry.{IsGeometry}
-use Rattle.nofs_model.specs.Cells.{Cell, FileKind, Pointer, Record, SuperBlock, is_null, null, tag_of, BackLink, record_of}
-use Rattle.nofs_model.specs.Image.{Image, super_at, is_data_block, is_inode, inode, path_of, find, files_in, agreed, record_pointer}
+use Rattle.nofs_model.specs.Cells.{Cell, FileKind, Pointer, Record, SuperBlock, is_null, null, tag_of, BackLink}
+use Rattle.nofs_model.specs.Cells.{record_of}
+use Rattle.nofs_model.specs.Image.{Image, super_at, is_data_block, is_inode, inode, path_of, find, files_in, agreed}
+use Rattle.nofs_model.specs.Image.{record_pointer}
 use Rattle.nofs_model.specs.declared.image.path.PathAnswer.TheVariants as answer
 use Rattle.nofs_model.specs.declared.image.value.Value.TheVariants.{Bytes}
 use Rattle.nofs_model.proofs.OnSlots.Find.{find-held}
@@ -58,7 +61,8 @@ no-pointers kind g link (suc (suc (suc (suc (suc (suc (suc (suc zero)))))))) lt 
 no-pointers kind g link (suc (suc (suc (suc (suc (suc (suc (suc (suc zero))))))))) lt = refl
 no-pointers kind g link (suc (suc (suc (suc (suc (suc (suc (suc (suc (suc n)))))))))) lt = absurd (omega (arith, lt))
 
-pub new-record : (Y : Image) (i g d e h : ℕ) (kind : FileKind) → inode Y i ≡ made_record kind g (link_to d e h) → IsNewRecord Y i g kind (first_links d e h)
+pub new-record : (Y : Image) (i g d e h : ℕ) (kind : FileKind) → inode Y i ≡ made_record kind g (link_to d e h)
+    → IsNewRecord Y i g kind (first_links d e h)
 new-record Y i g d e h kind is = record {
   kind_is = ap (λ (r : Record). r.kind) is;
   generation = ap (λ (r : Record). r.generation) is;
@@ -71,7 +75,8 @@ new-record Y i g d e h kind is = record {
 abbrev pub next_of : Books → ℕ
 next_of k = k.at.mount * 2 ^ 40 + k.serial
 
-module _ (b : DiskState) (k : Books) (H : List Entry1) (p : Past) (d g : ℕ) (name : List ℕ) (kind : FileKind) (dr : Record) (place : EntryPlace) (i : ℕ)
+module _ (b : DiskState) (k : Books) (H : List Entry1) (p : Past) (d g : ℕ) (name : List ℕ) (kind : FileKind)
+    (dr : Record) (place : EntryPlace) (i : ℕ)
     (tells : IsTrue b.tells) (safe : IsSafe b k) (o : IsOpen b k H p) (may : MayMake b k d g name dr place i) where
   pub agrees : agreed (files_in b.now) d ≡ true
   agrees = may.there tells (are-agreed b k H p safe o)
@@ -86,7 +91,8 @@ module _ (b : DiskState) (k : Books) (H : List Entry1) (p : Past) (d g : ℕ) (n
   inode-claim = inode-picked b k H p safe o i may.above may.within may.free
 
   pub needs-are : blocks_needed p.world.files (step.Make d g name kind) ≡ slot_blocks place.slot
-  needs-are = make-asks p.world.files b.now d place.entry (open-files b k H p o) agrees may.range g name kind k.at place.slot place-here may.fits
+  needs-are = make-asks p.world.files b.now d place.entry
+      (open-files b k H p o) agrees may.range g name kind k.at place.slot place-here may.fits
       (may.slot tells)
 
   pub spelled : Spells (spelled_entry i (next_of k) name) (record { inode = i; generation = next_of k; name = name })
@@ -97,14 +103,17 @@ module _ (b : DiskState) (k : Books) (H : List Entry1) (p : Past) (d g : ℕ) (n
   pub in-table : is_inode b.now i ≡ true
   in-table =
       let a : leb 1 i ≡ true = le-leb 1 i may.above in
-      let c : leb i (super_at b.now).inodes ≡ true = le-leb i (super_at b.now).inodes (subst (λ (q : SuperBlock). i ≤ q.inodes) (sym o.at) may.within) in
+      let c : leb i (super_at b.now).inodes ≡ true =
+      le-leb i (super_at b.now).inodes (subst (λ (q : SuperBlock). i ≤ q.inodes) (sym o.at) may.within) in
       rw (a, c) refl
 
   pub geometry : IsGeometry (length b.now) (super_at b.now).blocks (super_at b.now).inodes
   geometry = let m = (mountable-law b.now).1 o.mountable in m.fits
 
-  pub makes-from : (Y : Image) (x y : Pointer) → IsClaim p.world (step.Make d g name kind) (make_claims i (next_of k) x y)
-      → inode Y i ≡ made_record kind (next_of k) (link_to d place.entry g) → Makes b.now Y p.world d g name kind place.entry (make_claims i (next_of k) x y)
+  pub makes-from : (Y : Image) (x y : Pointer)
+      → IsClaim p.world (step.Make d g name kind) (make_claims i (next_of k) x y)
+      → inode Y i ≡ made_record kind (next_of k) (link_to d place.entry g)
+      → Makes b.now Y p.world d g name kind place.entry (make_claims i (next_of k) x y)
   makes-from Y x y claim made = record {
     folder = ap (λ (r : Record). r.kind) rec ∙ may.directory.kind;
     generation = ap (λ (r : Record). r.generation) rec ∙ may.generation;
@@ -117,11 +126,14 @@ module _ (b : DiskState) (k : Books) (H : List Entry1) (p : Past) (d g : ℕ) (n
 
   -- The slot holds
 
-  module _ (is_b : IsDisk b) (x : Pointer) (slot-is : place.slot ≡ HeldSlot x) (whole : length place.cell.payload ≡ 1024)
+  module _ (is_b : IsDisk b) (x : Pointer) (slot-is : place.slot ≡ HeldSlot x)
+      (whole : length place.cell.payload ≡ 1024)
       (cell table before : Cell)
-      (payload : cell.payload ≡ entered place.cell.payload place.entry (record { inode = i; generation = next_of k; name = name }))
+      (payload : cell.payload ≡ entered place.cell.payload place.entry
+      (record { inode = i; generation = next_of k; name = name }))
       (tag : cell.tag ≡ place.cell.tag)
-      (was : before ≡ cell_at b.now (table_block i)) (written-table : IsTable before i (made_record kind (next_of k) (link_to d place.entry g)) table) where
+      (was : before ≡ cell_at b.now (table_block i))
+      (written-table : IsTable before i (made_record kind (next_of k) (link_to d place.entry g)) table) where
     held : find b.now d (path_of (place.entry / 16)) ≡ answer.Holds x
     held = subst (λ (s : EntrySlot). IsEntrySlot b.now d
         (place.entry / 16) s) slot-is (may.slot tells)
@@ -147,13 +159,15 @@ module _ (b : DiskState) (k : Books) (H : List Entry1) (p : Past) (d g : ℕ) (n
     table-here : cell_at (image_after ((x.block, cell) ∷ (table_block i, table) ∷ []) b.now) (table_block i) ≡ table
     table-here = write-in-table b.now i x cell table _ geometry.fits geometry.table geometry.multiple area has
 
-    made-held : Makes b.now (image_after ((x.block, cell) ∷ (table_block i, table) ∷ []) b.now) p.world d g name kind place.entry
+    made-held : Makes b.now
+        (image_after ((x.block, cell) ∷ (table_block i, table) ∷ []) b.now) p.world d g name kind place.entry
         (make_claims i (next_of k) null null)
     made-held = makes-from (image_after ((x.block, cell) ∷ (table_block i, table) ∷ []) b.now) null null
         (claims-none p.world d g name kind i (next_of k) inode-claim (needs-are ∙ ap slot_blocks slot-is))
         (write-record-new b.now i x cell table _ geometry.fits geometry.table geometry.multiple area has)
 
-    writes-held : WritesInPlace b.now (image_after ((x.block, cell) ∷ (table_block i, table) ∷ []) b.now) d place.entry (make_claims i (next_of k) null null)
+    writes-held : WritesInPlace b.now (image_after ((x.block, cell) ∷ (table_block i, table) ∷ []) b.now) d place.entry
+        (make_claims i (next_of k) null null)
         name x
         ((x.block, cell) ∷ (table_block i, table) ∷ [])
     writes-held = record {
@@ -162,23 +176,32 @@ module _ (b : DiskState) (k : Books) (H : List Entry1) (p : Past) (d g : ℕ) (n
         whole = sym (ap (λ (z : Cell). length z.payload) cell-was) ∙ whole;
         writes = record {
           super = write-super-stays b.now i x cell table _ geometry.fits geometry.table geometry.multiple area has;
-          blocks = λ n data_n ne. write-data-stays b.now i x cell table _ geometry.fits geometry.table geometry.multiple area has n data_n ne;
+          blocks = λ n data_n ne. write-data-stays b.now i x cell table _ geometry.fits geometry.table geometry.multiple
+              area has n data_n ne;
           tag = ap (λ (z : Cell). tag_of z.tag) here ∙ ap tag_of (tag ∙ ap (λ (z : Cell). z.tag) cell-was);
-          records = λ j ne. write-record-old b.now i x cell table _ geometry.fits geometry.table geometry.multiple area has j ne;
+          records = λ j ne.
+              write-record-old b.now i x cell table _ geometry.fits geometry.table geometry.multiple area has j ne;
         };
         content = ap (λ (z : Cell). Bytes z.payload) here ∙ ap Bytes (payload
-            ∙ ap (λ (z : Cell). put_bytes (64 * (place.entry % 16)) (spelled_entry i (next_of k) name) z.payload) cell-was)
-            ∙ sym (with-entry-put (Bytes (cell_at b.now x.block).payload) place.entry (spelled_entry i (next_of k) name) spelled.short);
+            ∙ ap (λ (z : Cell). put_bytes (64 * (place.entry % 16))
+            (spelled_entry i (next_of k) name) z.payload) cell-was)
+            ∙ sym (with-entry-put (Bytes (cell_at b.now x.block).payload) place.entry
+            (spelled_entry i (next_of k) name) spelled.short);
       };
       tag = ap (λ (z : Cell). tag_of z.tag) table-here ∙ written-table.tag;
       each = λ n z one. each-one n z one;
     }
       where
         each-one : (n : ℕ) (z : Cell) → OneOf ((x.block, cell) ∷ (table_block i, table) ∷ []) n z
-            → (z ≡ cell_at (image_after ((x.block, cell) ∷ (table_block i, table) ∷ []) b.now) n) × ((n ≡ x.block) ⊎ (n ≡ table_block i))
-        each-one n z (inl one) = (one.1 ∙ sym (ap (cell_at (image_after ((x.block, cell) ∷ (table_block i, table) ∷ []) b.now)) one.0 ∙ here), inl one.0)
+            → (z ≡ cell_at (image_after ((x.block, cell) ∷ (table_block i, table) ∷ []) b.now) n)
+            × ((n ≡ x.block) ⊎ (n ≡ table_block i))
+        each-one n z (inl one) = (
+          one.1 ∙ sym (ap (cell_at (image_after ((x.block, cell) ∷ (table_block i, table) ∷ []) b.now)) one.0 ∙ here),
+          inl one.0,
+        )
         each-one n z (inr (inl one)) = (
-          one.1 ∙ sym (ap (cell_at (image_after ((x.block, cell) ∷ (table_block i, table) ∷ []) b.now)) one.0 ∙ table-here),
+          one.1 ∙ sym (ap (cell_at (image_after ((x.block, cell) ∷ (table_block i, table) ∷ []) b.now)) one.0
+              ∙ table-here),
           inr
               one.0,
         )

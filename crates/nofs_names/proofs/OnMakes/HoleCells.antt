@@ -1,5 +1,6 @@
 -- The cells that a Make writes where the slot of its entry is a hole.
-use Rattle.std.proofs.Common.{◌≡◌, ◌≢◌, ℕ, ◌+◌, ◌-◌, ◌/◌, ◌%◌, ◌<◌, ◌≤◌, inl, inr, Bool, true, false, leb, ◌&&◌, ◌||◌, not, is_some, List, length}
+use Rattle.std.proofs.Common.{◌≡◌, ◌≢◌, ℕ, ◌+◌, ◌-◌, ◌/◌, ◌%◌, ◌<◌, ◌≤◌, inl, inr, Bool, true, false, leb, ◌&&◌, ◌||◌}
+use Rattle.std.proofs.Common.{not, is_some, List, length}
 use Rattle.std.proofs.Common.{IsTrue, sym, ap, ◌∙◌, subst, arith}
 use Rattle.nofs_bits.specs.Bits.{is_set}
 use Rattle.nofs_disk.specs.Disk.{DiskState, cell_at}
@@ -36,7 +37,8 @@ use Rattle.nofs_names.proofs.OnMakes.Premises.{IsHoleWrite, OfEntry, OfLeaf, OfT
 use Rattle.nofs_names.proofs.OnMakes.Entries.{next_of, agrees, rec, spelled}
 use Rattle.nofs_names.proofs.OnMakes.Entries.{in-table, geometry}
 
-module _ (b : DiskState) (k : Books) (H : List Entry1) (p : Past) (d g : ℕ) (name : List ℕ) (kind : FileKind) (dr : Record) (place : EntryPlace) (i : ℕ)
+module _ (b : DiskState) (k : Books) (H : List Entry1) (p : Past) (d g : ℕ) (name : List ℕ) (kind : FileKind)
+    (dr : Record) (place : EntryPlace) (i : ℕ)
     (tells : IsTrue b.tells) (safe : IsSafe b k) (o : IsOpen b k H p) (may : MayMake b k d g name dr place i) where
   abbrev W : World
   W = p.world
@@ -48,11 +50,13 @@ module _ (b : DiskState) (k : Books) (H : List Entry1) (p : Past) (d g : ℕ) (n
   agrees-here = agrees b k H p d g name kind dr place i tells safe o may
 
   claims-free : (c : Claims) → IsClaim p.world (step.Make d g name kind) c → ClaimsFree p.world c b.now
-  claims-free c claim = law-claims W (step.Make d g name kind) c W.known_inodes (λ j. not (uses_inode W j)) W.known_blocks (λ q. not (uses_block W q)) X
+  claims-free c claim = law-claims W (step.Make d g name kind) c W.known_inodes
+      (λ j. not (uses_inode W j)) W.known_blocks (λ q. not (uses_block W q)) X
       (law-good W X (world-numbers b k H p o) (open-files b k H p o) o.homes) claim
 
   -- a claimed block
-  pub new-block : (c : Claims) (x : Pointer) → IsClaim p.world (step.Make d g name kind) c → IsClaimed c x → IsNewBlock (next_stamp p.world) b.now x
+  pub new-block : (c : Claims) (x : Pointer) → IsClaim p.world (step.Make d g name kind) c → IsClaimed c x
+      → IsNewBlock (next_stamp p.world) b.now x
   new-block c x claim named = record {
     free = (claims-free c claim).block_free x (listed c x named);
     area = (claims-free c claim).block_data x (listed c x named);
@@ -60,12 +64,15 @@ module _ (b : DiskState) (k : Books) (H : List Entry1) (p : Past) (d g : ℕ) (n
   }
 
   -- the mark's stamps are older than those of what is claimed
-  pub newer-than : (c : Claims) (x : Pointer) → IsClaim p.world (step.Make d g name kind) c → IsClaimed c x → p.stamps ≤ x.stamp
-  newer-than c x claim named = let q = o.older in let s = (claim-was p.world (step.Make d g name kind) c x claim named).1 in omega (arith, q, s)
+  pub newer-than : (c : Claims) (x : Pointer) → IsClaim p.world (step.Make d g name kind) c → IsClaimed c x
+      → p.stamps ≤ x.stamp
+  newer-than c x claim named = let q = o.older in
+      let s = (claim-was p.world (step.Make d g name kind) c x claim named).1 in omega (arith, q, s)
 
   -- the claimed inode is not the directory
   inode-apart : d ≢ i
-  inode-apart e = no-file (W.known_inodes i) (is_special i) (is_some (W.files i)) (sym (o.says.free_inodes i may.above may.within) ∙ may.free)
+  inode-apart e = no-file (W.known_inodes i) (is_special i) (is_some (W.files i))
+      (sym (o.says.free_inodes i may.above may.within) ∙ may.free)
       (ap (λ (q : ℕ). is_some (W.files q)) (sym e) ∙ ap is_some own.is)
     where
       own : Matched W.files X d
@@ -87,7 +94,8 @@ module _ (b : DiskState) (k : Books) (H : List Entry1) (p : Past) (d g : ℕ) (n
     apart = inode-apart;
     directory = rec b k H p d g name kind dr place i tells safe o may;
     kind = may.directory.kind;
-    eight = subst (λ (r : Record). length r.direct ≡ 8) (rec b k H p d g name kind dr place i tells safe o may) (eight-direct b.now d);
+    eight = subst (λ (r : Record). length r.direct ≡ 8) (rec b k H p d g name kind dr place i tells safe o may)
+        (eight-direct b.now d);
     range = may.range;
   }
 
@@ -95,7 +103,8 @@ module _ (b : DiskState) (k : Books) (H : List Entry1) (p : Past) (d g : ℕ) (n
   short = (spelled b k H p d g name kind dr place i tells safe o may).short
 
   -- a cell that was written is one of the entry, the leaf or the table
-  pub sort : (Y : Image) (c : Claims) (y : Pointer) (n : ℕ) (z : Cell) → cell_at Y 0 ≡ cell_at b.now 0 → IsWritten b.now Y place.entry c.cell y n z
+  pub sort : (Y : Image) (c : Claims) (y : Pointer) (n : ℕ) (z : Cell) → cell_at Y 0 ≡ cell_at b.now 0
+      → IsWritten b.now Y place.entry c.cell y n z
       → (z ≡ cell_at Y n) × IsHoleWrite b.now Y place.entry c y n z
   sort Y c y n z super (is, inl h) = (is, OfEntry h (is ∙ ap (cell_at Y) h))
   sort Y c y n z super (is, inr (inl h)) = (is, OfLeaf h.0 h.1 (is ∙ ap (cell_at Y) h.1))
@@ -114,8 +123,11 @@ module _ (b : DiskState) (k : Books) (H : List Entry1) (p : Past) (d g : ℕ) (n
 
   -- the blocks that are claimed
 
-  cell-set : (n : ℕ) → slot_blocks place.slot ≡ n → 1 ≤ n → (is_set k.free_blocks place.blocks.cell ≡ true) × (place.blocks.cell < k.at.blocks)
-  cell-set n e le = let f = may.blocks.cell (omega (arith, e, le)) in (f.0, (let l = f.1 in let m = safe.free_blocks in omega (arith, l, m)))
+  cell-set : (n : ℕ) → slot_blocks place.slot ≡ n → 1 ≤ n → (is_set k.free_blocks place.blocks.cell ≡ true)
+      × (place.blocks.cell < k.at.blocks)
+  cell-set n e le = let f = may.blocks.cell (omega (arith, e, le)) in
+      (f.0, (let l = f.1 in let m = safe.free_blocks in omega (arith, l, m)))
 
-  pub cell-picked : (n : ℕ) → slot_blocks place.slot ≡ n → 1 ≤ n → IsPicked p.world (next_stamp p.world + 1) (claimed_pointer (made_books k i) place.blocks.cell)
+  pub cell-picked : (n : ℕ) → slot_blocks place.slot ≡ n → 1 ≤ n
+      → IsPicked p.world (next_stamp p.world + 1) (claimed_pointer (made_books k i) place.blocks.cell)
   cell-picked n e le = let f = cell-set n e le in block-picked b k H p safe o place.blocks.cell 1 f.1 f.0

@@ -1,5 +1,6 @@
 -- Where the blocks and the entry of a Make lie, and what its claims leave.
-use Rattle.std.proofs.Common.{◌≡◌, ◌≢◌, ℕ, ◌+◌, ◌-◌, ◌*◌, ◌/◌, ◌^◌, ◌<◌, ◌≤◌, Bool, true, false, ltb, ltb-true, ◌||◌, List, is_some, refl, ap, arith}
+use Rattle.std.proofs.Common.{◌≡◌, ◌≢◌, ℕ, ◌+◌, ◌-◌, ◌*◌, ◌/◌, ◌^◌, ◌<◌, ◌≤◌, Bool, true, false, ltb, ltb-true, ◌||◌}
+use Rattle.std.proofs.Common.{List, is_some, refl, ap, arith}
 use Rattle.nofs_dirent.specs.Entries.{entry_limit}
 use Rattle.nofs_bits.specs.Bits.{is_set}
 use Rattle.nofs_disk.specs.Disk.{DiskState, StaysButFaults}
@@ -34,7 +35,8 @@ no-table i e = omega (arith, e)
 pub raised-stamp : (k : Books) → is_raised k ≡ true → 1 ≤ k.at.mount * 2 ^ 40 + k.serial
 raised-stamp k e = go (ltb 0 k.at.mount) refl (ltb 0 k.serial) refl e
   where
-    go : (a : Bool) → ltb 0 k.at.mount ≡ a → (b : Bool) → ltb 0 k.serial ≡ b → (a || b) ≡ true → 1 ≤ k.at.mount * 2 ^ 40 + k.serial
+    go : (a : Bool) → ltb 0 k.at.mount ≡ a → (b : Bool)
+        → ltb 0 k.serial ≡ b → (a || b) ≡ true → 1 ≤ k.at.mount * 2 ^ 40 + k.serial
     go true ea b eb t = let q = ltb-true 0 k.at.mount ea in omega (arith, q)
     go false ea true eb t = let q = ltb-true 0 k.serial eb in omega (arith, q)
     go false ea false eb t = cc t
@@ -46,11 +48,14 @@ few-blocks (HoleUnder y) = omega arith
 few-blocks HoleWith = omega arith
 
 -- what the inode's claim leaves for the entry
-pub may-enter : (old mid : DiskState) (k : Books) (d : ℕ) (dr : Record) (p : EntryPlace) (i : ℕ) (name : List ℕ) (new : Record) → StaysButFaults old mid
+pub may-enter : (old mid : DiskState) (k : Books) (d : ℕ) (dr : Record) (p : EntryPlace) (i : ℕ) (name : List ℕ)
+    (new : Record) → StaysButFaults old mid
     → KnowsDirectory old k.at d dr.generation dr → p.entry < entry_limit → FitsSlot k.at (p.entry / 16) p.slot
     → AreFree k.free_blocks (slot_blocks p.slot) p.blocks
-    → k.serial + 1 + slot_blocks p.slot ≤ 2 ^ 40 → is_raised k ≡ true → 1 ≤ i → i ≤ k.at.inodes → NameOk name → HasRecordSpelling new
-    → MayEnter mid (made_books k i) d dr p.entry p.slot p.blocks (record { inode = i; generation = k.at.mount * 2 ^ 40 + k.serial; name = name }) new
+    → k.serial + 1 + slot_blocks p.slot ≤ 2 ^ 40 → is_raised k ≡ true → 1 ≤ i → i ≤ k.at.inodes → NameOk name
+    → HasRecordSpelling new
+    → MayEnter mid (made_books k i) d dr p.entry p.slot p.blocks
+    (record { inode = i; generation = k.at.mount * 2 ^ 40 + k.serial; name = name }) new
 may-enter old mid k d dr p i name new stays directory range fits free stamps raised above within ok spelling = record {
   directory = directory-on old mid stays k.at d dr.generation dr directory;
   range = range;
@@ -71,5 +76,6 @@ table-fits d k i safe low high =
     let f = safe.at.geometry.fits in
     omega (arith, low, high, m, t, f)
 
-pub directory-range : (d : DiskState) (at : SuperBlock) (i g : ℕ) (r : Record) → KnowsDirectory d at i g r → (1 ≤ i) × (i ≤ at.inodes)
+pub directory-range : (d : DiskState) (at : SuperBlock) (i g : ℕ) (r : Record) → KnowsDirectory d at i g r
+    → (1 ≤ i) × (i ≤ at.inodes)
 directory-range d at i g r is = is.known.range (ap is_some is.kind)

@@ -1,5 +1,6 @@
 -- The refusals of Make.
-use Rattle.std.proofs.Common.{◌≡◌, ℕ, ◌+◌, ◌-◌, ◌/◌, ◌^◌, ◌<◌, ◌≤◌, inl, inr, Bool, true, false, not, eqb, ltb, ◌&&◌, ◌||◌, is_some, List, ◌∷◌, ◌++◌, length}
+use Rattle.std.proofs.Common.{◌≡◌, ℕ, ◌+◌, ◌-◌, ◌/◌, ◌^◌, ◌<◌, ◌≤◌, inl, inr, Bool, true, false, not, eqb, ltb, ◌&&◌}
+use Rattle.std.proofs.Common.{◌||◌, is_some, List, ◌∷◌, ◌++◌, length}
 use Rattle.std.proofs.Common.{Option, Some, None, IsTrue, Result, Ok, Err, IfErr, refl, sym, ap, ◌∙◌, subst, arith}
 use Rattle.std.proofs.lemmas.Bool.Decides.{nat_tests}
 use Rattle.std.proofs.lemmas.List.Sums.{count_by-le-length}
@@ -73,13 +74,17 @@ passed-inside F d name u p = record {
   hole = bound _ 72 u.hole p.hole;
 }
   where
-    bound : (test : ℕ → Bool) (n : ℕ) (o : Option ℕ) → least_from test 0 n ≡ o → Rattle.std.specs.Prelude.IfSome o (λ e. e < n)
+    bound : (test : ℕ → Bool) (n : ℕ) (o : Option ℕ)
+        → least_from test 0 n ≡ o → Rattle.std.specs.Prelude.IfSome o (λ e. e < n)
     bound test n None e = tt
     bound test n (Some x) e = let q = (least-passes test 0 n x e).1 in omega (arith, q)
 
-module _ (old : DiskState) (k : Books) (d g : ℕ) (name : List ℕ) (kind : FileKind) (is : IsDisk old) (safe : IsSafe old k) (going : k.stopped ≡ false) where
-  pub make-bad : is_name name ≡ false → Goes old k old k (step.Make d g name kind) no_claims (reply.Refused refusal.BadName)
-  make-bad bad = goes-row old old k (step.Make d g name kind) is safe (StaysButFaults-refl old) refusal.BadName refl tt going (λ tells H p o. rw bad refl)
+module _ (old : DiskState) (k : Books) (d g : ℕ) (name : List ℕ) (kind : FileKind) (is : IsDisk old)
+    (safe : IsSafe old k) (going : k.stopped ≡ false) where
+  pub make-bad : is_name name ≡ false
+      → Goes old k old k (step.Make d g name kind) no_claims (reply.Refused refusal.BadName)
+  make-bad bad = goes-row old old k (step.Make d g name kind) is safe
+      (StaysButFaults-refl old) refusal.BadName refl tt going (λ tells H p o. rw bad refl)
 
   module _ (ok : is_name name ≡ true) where
     rows-are : (W V : World) → first_of (rows W V (step.Make d g name kind)) ≡ first_of
@@ -87,39 +92,48 @@ module _ (old : DiskState) (k : Books) (d g : ℕ) (name : List ℕ) (kind : Fil
     rows-are W V = rw ok refl
 
     pub make-late : (W : World) → IsLate (first_of (rows W W (step.Make d g name kind)))
-    make-late W why e = first-late (directory_rows d g W ++ (exists_rows d name W ++ (directory_full W d name ∷ room_left d g name kind W W))) (
-      late-row (not (is_some (W.files d) && eqb (generation_of W.files d) g)) refusal.Stale refl,
-      (
-        late-row (not (is_folder_at W.files d)) refusal.NotDirectory refl,
-        (
-          late-row (is_some (found W.files d name)) refusal.Exists refl,
+    make-late W why e = first-late (directory_rows d g W
+        ++ (exists_rows d name W ++ (directory_full W d name ∷ room_left d g name kind W W))) (
+          late-row (not (is_some (W.files d) && eqb (generation_of W.files d) g)) refusal.Stale refl,
           (
-            late-row (not (is_some (place_for W.files d name))) refusal.DirectoryFull refl,
-            (late-row _ _ refl, (late-row _ _ refl, (late-row _ refusal.SerialsSpent refl, tt))),
+            late-row (not (is_folder_at W.files d)) refusal.NotDirectory refl,
+            (
+              late-row (is_some (found W.files d name)) refusal.Exists refl,
+              (
+                late-row (not (is_some (place_for W.files d name))) refusal.DirectoryFull refl,
+                (late-row _ _ refl, (late-row _ _ refl, (late-row _ refusal.SerialsSpent refl, tt))),
+              ),
+            ),
           ),
-        ),
-      ),
-    ) why (sym (rows-are W W) ∙ e)
+        ) why (sym (rows-are W W) ∙ e)
 
-    pub make-unopened : (mid : DiskState) (last : LastRead) (res : Result Record Refusal) (why : Refusal) → OpensDirectory old mid k d g last res
+    pub make-unopened : (mid : DiskState) (last : LastRead) (res : Result Record Refusal) (why : Refusal)
+        → OpensDirectory old mid k d g last res
         → res ≡ Err why → Goes old k mid k (step.Make d g name kind) no_claims (reply.Refused why)
-    make-unopened mid last res why opens e = goes-fails old mid k (step.Make d g name kind) (directory_rows d g) why is safe going opens.stays
-        (subst (λ (r : Result Record Refusal). IfErr r (Fails old mid (KnownTrue k) (directory_rows d g))) e opens.refused)
+    make-unopened mid last res why opens e =
+        goes-fails old mid k (step.Make d g name kind) (directory_rows d g) why is safe going opens.stays
+        (subst (λ (r : Result Record Refusal). IfErr r (Fails old mid (KnownTrue k) (directory_rows d g)))
+        e opens.refused)
         (λ t H p o q. rows-are p.world p.world ∙ first-left (directory_rows d g p.world)
-        (exists_rows d name p.world ++ (directory_full p.world d name ∷ room_left d g name kind p.world p.world)) why q) make-late
+        (exists_rows d name p.world ++ (directory_full p.world d name ∷ room_left d g name kind p.world p.world)) why q)
+        make-late
 
-    module _ (mid : DiskState) (last : LastRead) (r : Record) (opens : OpensDirectory old mid k d g last (Ok r)) (new : DiskState)
+    module _ (mid : DiskState) (last : LastRead) (r : Record) (opens : OpensDirectory old mid k d g last (Ok r))
+        (new : DiskState)
         (names records : LastRead) where
-      none-before : IsTrue old.tells → (H : List Entry1) (p : Past) → IsOpen old k H p → first_of (directory_rows d g p.world) ≡ None
+      none-before : IsTrue old.tells → (H : List Entry1) (p : Past) → IsOpen old k H p
+          → first_of (directory_rows d g p.world) ≡ None
       none-before t H p o = opens.passes t (are-agreed old k H p safe o) p.world (open-files old k H p o)
 
       to-exists : IsTrue old.tells → (H : List Entry1) (p : Past) → IsOpen old k H p → (V : World)
           → first_of (rows p.world V (step.Make d g name kind)) ≡ first_of
           (exists_rows d name p.world ++ (directory_full p.world d name ∷ room_left d g name kind p.world V))
       to-exists t H p o V = rows-are p.world V ∙ first-right (directory_rows d g p.world)
-          (exists_rows d name p.world ++ (directory_full p.world d name ∷ room_left d g name kind p.world V)) (none-before t H p o)
+          (exists_rows d name p.world ++ (directory_full p.world d name ∷ room_left d g name kind p.world V))
+          (none-before t H p o)
 
-      pub make-exists : (res : Result Unfound Refusal) (why : Refusal) → FindsNone mid new d name names records res → res ≡ Err why
+      pub make-exists : (res : Result Unfound Refusal) (why : Refusal)
+          → FindsNone mid new d name names records res → res ≡ Err why
           → Goes old k new k (step.Make d g name kind) no_claims (reply.Refused why)
       make-exists res why none e = goes-fails old new k (step.Make d g name kind) (exists_rows d name) why is safe going
           (StaysButFaults-trans old mid new opens.stays none.stays)
@@ -131,29 +145,39 @@ module _ (old : DiskState) (k : Books) (d g : ℕ) (name : List ℕ) (kind : Fil
         stays : StaysButFaults old new
         stays = StaysButFaults-trans old mid new opens.stays none.stays
 
-        passed : IsTrue old.tells → (H : List Entry1) (p : Past) → IsOpen old k H p → Passed p.world.files d name entry_limit 72 u
-        passed t H p o = subst (λ (X : Image). IsThere d X → FilesMatch p.world.files X → Passed p.world.files d name entry_limit 72 u) opens.stays.cells.now
-            (λ b m. none.seen (told-on old mid opens.stays t) b p.world.files m) (opens.there t (are-agreed old k H p safe o)) (open-files old k H p o)
+        passed : IsTrue old.tells → (H : List Entry1) (p : Past) → IsOpen old k H p
+            → Passed p.world.files d name entry_limit 72 u
+        passed t H p o = subst (λ (X : Image). IsThere d X → FilesMatch p.world.files X
+            → Passed p.world.files d name entry_limit 72 u) opens.stays.cells.now
+            (λ b m. none.seen (told-on old mid opens.stays t) b p.world.files m)
+            (opens.there t (are-agreed old k H p safe o)) (open-files old k H p o)
 
         to-place : IsTrue old.tells → (H : List Entry1) (p : Past) → IsOpen old k H p → (V : World)
-            → first_of (rows p.world V (step.Make d g name kind)) ≡ first_of (directory_full p.world d name ∷ room_left d g name kind p.world V)
-        to-place t H p o V = to-exists t H p o V ∙ (let n = exists-none p.world d name u (passed t H p o) in first-right (exists_rows d name p.world)
+            → first_of (rows p.world V (step.Make d g name kind))
+            ≡ first_of (directory_full p.world d name ∷ room_left d g name kind p.world V)
+        to-place t H p o V = to-exists t H p o V
+            ∙ (let n = exists-none p.world d name u (passed t H p o) in first-right (exists_rows d name p.world)
             (directory_full p.world d name ∷ room_left d g name kind p.world V) (rw n refl))
 
-        place-here : (res : Result ℕ Refusal) → IsPlaceOf u res → IsTrue old.tells → (H : List Entry1) (p : Past) → IsOpen old k H p
+        place-here : (res : Result ℕ Refusal) → IsPlaceOf u res → IsTrue old.tells
+            → (H : List Entry1) (p : Past) → IsOpen old k H p
             → res ≡ place_or_full (place_for p.world.files d name)
         place-here res place t H p o = place (passed-inside p.world.files d name u (passed t H p o))
             ∙ ap place_or_full (sym (place-is p.world.files d name u (passed t H p o)))
 
         -- no place for the entry
-        pub make-no-place : (res : Result ℕ Refusal) (why : Refusal) → IsPlaceOf u res → res ≡ Err why → why ≡ refusal.DirectoryFull
+        pub make-no-place : (res : Result ℕ Refusal) (why : Refusal) → IsPlaceOf u res → res ≡ Err why
+            → why ≡ refusal.DirectoryFull
             → Goes old k new k (step.Make d g name kind) no_claims (reply.Refused why)
-        make-no-place res why place e full-is = subst (λ (w : Refusal). Goes old k new k (step.Make d g name kind) no_claims (reply.Refused w)) (sym full-is)
+        make-no-place res why place e full-is = subst
+            (λ (w : Refusal). Goes old k new k (step.Make d g name kind) no_claims (reply.Refused w)) (sym full-is)
             (goes-row old new k (step.Make d g name kind) is safe stays refusal.DirectoryFull refl tt going
-            (λ t H p o. to-place t H p o p.world ∙ row-comes (place_for p.world.files d name) refl (sym e ∙ place-here res place t H p o) p))
+            (λ t H p o. to-place t H p o p.world
+            ∙ row-comes (place_for p.world.files d name) refl (sym e ∙ place-here res place t H p o) p))
           where
             row-comes : (o : Option ℕ) → (o ≡ o) → Err why ≡ place_or_full o → (p : Past)
-                → first_of (row (not (is_some o)) refusal.DirectoryFull ∷ room_left d g name kind p.world p.world) ≡ Some
+                → first_of (row (not (is_some o)) refusal.DirectoryFull
+                ∷ room_left d g name kind p.world p.world) ≡ Some
                 refusal.DirectoryFull
             row-comes None q h p = refl
             row-comes (Some x) q h p = cc h
@@ -177,30 +201,40 @@ module _ (old : DiskState) (k : Books) (d g : ℕ) (name : List ℕ) (kind : Fil
 
 -- From the place on
 
-module _ (old : DiskState) (k : Books) (d g : ℕ) (name : List ℕ) (kind : FileKind) (is : IsDisk old) (safe : IsSafe old k) (going : k.stopped ≡ false)
+module _ (old : DiskState) (k : Books) (d g : ℕ) (name : List ℕ) (kind : FileKind) (is : IsDisk old)
+    (safe : IsSafe old k) (going : k.stopped ≡ false)
     (left : RowsLeft old k d g name kind) where
-  room-late : IsTrue old.tells → (H : List Entry1) (p : Past) → IsOpen old k H p → IsLate (first_of (rows p.world p.world (step.Make d g name kind)))
+  room-late : IsTrue old.tells → (H : List Entry1) (p : Past) → IsOpen old k H p
+      → IsLate (first_of (rows p.world p.world (step.Make d g name kind)))
   room-late t H p o why e = first-late (room_left d g name kind p.world p.world)
-      (late-row _ _ refl, (late-row _ _ refl, (late-row _ refusal.SerialsSpent refl, tt))) why (sym (left t H p o p.world) ∙ e)
+      (late-row _ _ refl, (late-row _ _ refl, (late-row _ refusal.SerialsSpent refl, tt))) why
+      (sym (left t H p o p.world) ∙ e)
 
   -- the slot was not found
-  pub make-no-slot : (e : ℕ) (there : IsTrue old.tells → KnownTrue k old.now → IsThere d old.now) → PlaceIs old k d name e
-      → (mid : DiskState) (at : SuperBlock) (last : LastRead) (res : Result EntrySlot Refusal) (why : Refusal) → FindsEntrySlot old mid at d (e / 16) last res
+  pub make-no-slot : (e : ℕ) (there : IsTrue old.tells → KnownTrue k old.now → IsThere d old.now)
+      → PlaceIs old k d name e
+      → (mid : DiskState) (at : SuperBlock) (last : LastRead) (res : Result EntrySlot Refusal) (why : Refusal)
+      → FindsEntrySlot old mid at d (e / 16) last res
       → res ≡ Err why → Goes old k mid k (step.Make d g name kind) no_claims (reply.Refused why)
-  make-no-slot e there place mid at last res why finds is-e = go (subst (λ (z : Result EntrySlot Refusal). IfErr z (SlotFails old mid d (e / 16))) is-e
+  make-no-slot e there place mid at last res why finds is-e =
+      go (subst (λ (z : Result EntrySlot Refusal). IfErr z (SlotFails old mid d (e / 16))) is-e
       finds.refused)
     where
       go : SlotFails old mid d (e / 16) why → Goes old k mid k (step.Make d g name kind) no_claims (reply.Refused why)
-      go (inl f) = goes-row old mid k (step.Make d g name kind) is safe finds.stays why f.0 f.1 going (λ t H p o. absurd (never t H p o (f.2 t)))
+      go (inl f) = goes-row old mid k (step.Make d g name kind) is safe finds.stays why f.0 f.1 going
+          (λ t H p o. absurd (never t H p o (f.2 t)))
         where
           never : IsTrue old.tells → (H : List Entry1) (p : Past) → IsOpen old k H p
-              → ((x : Pointer) → find old.now d (path_of (e / 16)) ≡ answer.Holds x → ⊥) × (find old.now d (path_of (e / 16)) ≡ answer.Hole → ⊥) → ⊥
+              → ((x : Pointer) → find old.now d (path_of (e / 16)) ≡ answer.Holds x → ⊥)
+              × (find old.now d (path_of (e / 16)) ≡ answer.Hole → ⊥) → ⊥
           never t H p o none =
               let m = matched-agreed p.world.files old.now d (open-files old k H p o)
               (agreed-live old.now d (there t (are-agreed old k H p safe o))) (there t (are-agreed old k H p safe o)) in
-              elim (law-entry-place p.world.files old.now d e name m.file (open-files old k H p o) m.is (place t H p o)).2
+              elim (law-entry-place p.world.files old.now d e name m.file (open-files old k H p o) m.is
+              (place t H p o)).2
               [ inl h ↦ none.0 h.0 h.1 | inr h ↦ none.1 h ]
-      go (inr f) = subst (λ (w : Refusal). Goes old k mid k (step.Make d g name kind) no_claims (reply.Refused w)) (sym f.0)
+      go (inr f) =
+          subst (λ (w : Refusal). Goes old k mid k (step.Make d g name kind) no_claims (reply.Refused w)) (sym f.0)
           (goes-read old mid k (step.Make d g name kind) is safe finds.stays going f.1 (λ t H p o. room-late t H p o))
 
   -- no inode is known to be free
@@ -216,20 +250,27 @@ module _ (old : DiskState) (k : Books) (d g : ℕ) (name : List ℕ) (kind : Fil
           omega (arith, c, l, m)
 
       go : NoInode k why → Goes old k old k (step.Make d g name kind) no_claims (reply.Refused why)
-      go (inl ((next, is-why, small, same), none)) = subst (λ (w : Refusal). Goes old k old k (step.Make d g name kind) no_claims (reply.Refused w))
+      go (inl ((next, is-why, small, same), none)) =
+          subst (λ (w : Refusal). Goes old k old k (step.Make d g name kind) no_claims (reply.Refused w))
           (sym is-why)
-          (goes-row old old k (step.Make d g name kind) is safe (StaysButFaults-refl old) (refusal.InodesFull (count_set k.unknown_inodes) next) refl
+          (goes-row old old k (step.Make d g name kind) is safe (StaysButFaults-refl old)
+          (refusal.InodesFull (count_set k.unknown_inodes) next) refl
           (few-unknown, omega (arith, small)) going
           (λ t H p o.
-          let z : free_inodes p.world ≡ 0 = sym (free-inodes-count old k p.world safe o.says) ∙ none-free k.free_inodes none in
+          let z : free_inodes p.world ≡ 0 = sym (free-inodes-count old k p.world safe o.says)
+          ∙ none-free k.free_inodes none in
           let b : eqb (free_inodes p.world) 0 ≡ true = zero-test (free_inodes p.world) z in
-          left t H p o p.world ∙ rw b (λ j. Some (refusal.InodesFull (sym (unknown-inodes-count old k p.world safe o.says) j)
+          left t H p o p.world
+          ∙ rw b (λ j. Some (refusal.InodesFull (sym (unknown-inodes-count old k p.world safe o.says) j)
           (sym (same p.world o.says safe.unknown_inodes) j)))))
-      go (inr (is-why, low)) = subst (λ (w : Refusal). Goes old k old k (step.Make d g name kind) no_claims (reply.Refused w)) (sym is-why)
-          (goes-row old old k (step.Make d g name kind) is safe (StaysButFaults-refl old) refusal.SerialsSpent refl tt going
+      go (inr (is-why, low)) =
+          subst (λ (w : Refusal). Goes old k old k (step.Make d g name kind) no_claims (reply.Refused w)) (sym is-why)
+          (goes-row old old k (step.Make d g name kind) is safe
+          (StaysButFaults-refl old) refusal.SerialsSpent refl tt going
           (λ t H p o. absurd (raised (ltb 0 k.at.mount) refl (ltb 0 k.serial) refl low p H o)))
         where
-          raised : (a : Bool) → ltb 0 k.at.mount ≡ a → (b : Bool) → ltb 0 k.serial ≡ b → (a || b) ≡ false → (p : Past) (H : List Entry1) → IsOpen old k H p → ⊥
+          raised : (a : Bool) → ltb 0 k.at.mount ≡ a → (b : Bool) → ltb 0 k.serial ≡ b → (a || b) ≡ false → (p : Past)
+              (H : List Entry1) → IsOpen old k H p → ⊥
           raised true ea b eb e p H o = cc e
           raised false ea true eb e p H o = cc e
           raised false ea false eb e p H o =
@@ -241,16 +282,19 @@ module _ (old : DiskState) (k : Books) (d g : ℕ) (name : List ℕ) (kind : Fil
               omega (arith, m, s, q, wm, ws)
 
   -- some inode is
-  pub make-inode : (i : ℕ) → 1 ≤ i → i ≤ length k.free_inodes → is_set k.free_inodes (i - 1) ≡ true → RoomLeft old k d g name kind
+  pub make-inode : (i : ℕ) → 1 ≤ i → i ≤ length k.free_inodes
+      → is_set k.free_inodes (i - 1) ≡ true → RoomLeft old k d g name kind
   make-inode i low high set t H p o V =
       let n = some-free k.free_inodes (i - 1) (omega (arith, low, high)) set in
       let f = free-inodes-count old k p.world safe o.says in
       let b : eqb (free_inodes p.world) 0 ≡ false = some-test (free_inodes p.world) (omega (arith, n, f)) in
       left t H p o V ∙ rw b refl
 
-module _ (old : DiskState) (k : Books) (d g : ℕ) (name : List ℕ) (kind : FileKind) (is : IsDisk old) (safe : IsSafe old k) (going : k.stopped ≡ false)
+module _ (old : DiskState) (k : Books) (d g : ℕ) (name : List ℕ) (kind : FileKind) (is : IsDisk old)
+    (safe : IsSafe old k) (going : k.stopped ≡ false)
     (room : RoomLeft old k d g name kind) (n : ℕ)
-    (needs : IsTrue old.tells → (H : List Entry1) (p : Past) → IsOpen old k H p → blocks_needed p.world.files (step.Make d g name kind) ≡ n) where
+    (needs : IsTrue old.tells → (H : List Entry1) (p : Past) → IsOpen old k H p
+    → blocks_needed p.world.files (step.Make d g name kind) ≡ n) where
   room-is : IsTrue old.tells → (H : List Entry1) (p : Past) → IsOpen old k H p → (V : World)
       → first_of (rows p.world V (step.Make d g name kind)) ≡ first_of (room_rows n 1 p.world V)
   room-is t H p o V = room t H p o V ∙ (let e = needs t H p o in λ j. first_of (room_rows (e j) 1 p.world V))
@@ -261,16 +305,19 @@ module _ (old : DiskState) (k : Books) (d g : ℕ) (name : List ℕ) (kind : Fil
   make-no-blocks res why takes e =
       let f = subst (λ (z : Result EntryBlocks Refusal). IfErr z (λ w. (is_plain w ≡ true) ×
       InRange w × ((W : World) → Says k W → first_of (room_rows n 1 W W) ≡ Some w))) e takes.refused in
-      goes-row old old k (step.Make d g name kind) is safe (StaysButFaults-refl old) why f.0 f.1 going (λ t H p o. room-is t H p o p.world ∙ f.2 p.world o.says)
+      goes-row old old k (step.Make d g name kind) is safe (StaysButFaults-refl old) why f.0 f.1 going
+      (λ t H p o. room-is t H p o p.world ∙ f.2 p.world o.says)
 
   pub make-passes : (b : EntryBlocks) → TakesBlocks k n 1 (Ok b) → RowsPass old k (step.Make d g name kind)
   make-passes b takes t H p o V = room-is t H p o V ∙ takes.passes p.world V o.says
 
 -- A read after that which failed
-pub make-unread : (old mid : DiskState) (k : Books) (d g : ℕ) (name : List ℕ) (kind : FileKind) → IsDisk old → IsSafe old k → k.stopped ≡ false
+pub make-unread : (old mid : DiskState) (k : Books) (d g : ℕ) (name : List ℕ) (kind : FileKind) → IsDisk old
+    → IsSafe old k → k.stopped ≡ false
     → StaysButFaults old mid → Rose old.faults mid.faults → RowsPass old k (step.Make d g name kind)
     → Goes old k mid k (step.Make d g name kind) no_claims (reply.Refused refusal.ReadFault)
-make-unread old mid k d g name kind is safe going stays rose pass = goes-read old mid k (step.Make d g name kind) is safe stays going rose
+make-unread old mid k d g name kind is safe going stays rose pass =
+    goes-read old mid k (step.Make d g name kind) is safe stays going rose
     (λ t H p o why e. absurd (let n = pass t H p o p.world in cc (n, e)))
 
 -- What holds of a disk holds after reads
@@ -285,14 +332,16 @@ module _ (old new : DiskState) (stays : StaysButFaults old new) (k : Books) wher
   pub place-on : (d : ℕ) (name : List ℕ) (e : ℕ) → PlaceIs old k d name e → PlaceIs new k d name e
   place-on d name e h t H p o = h (back t) H p (before H p o)
 
-  pub left-on : (d g : ℕ) (name : List ℕ) (kind : FileKind) → RowsLeft old k d g name kind → RowsLeft new k d g name kind
+  pub left-on : (d g : ℕ) (name : List ℕ) (kind : FileKind) → RowsLeft old k d g name kind
+      → RowsLeft new k d g name kind
   left-on d g name kind h t H p o V = h (back t) H p (before H p o) V
 
   pub make-pass-on : (d g : ℕ) (name : List ℕ) (kind : FileKind) → RowsPass old k (step.Make d g name kind)
       → RowsPass new k (step.Make d g name kind)
   make-pass-on d g name kind h t H p o V = h (back t) H p (before H p o) V
 
-  pub may-on : (d g : ℕ) (name : List ℕ) (r : Record) (p : EntryPlace) (i : ℕ) → MayMake old k d g name r p i → MayMake new k d g name r p i
+  pub may-on : (d g : ℕ) (name : List ℕ) (r : Record) (p : EntryPlace) (i : ℕ) → MayMake old k d g name r p i
+      → MayMake new k d g name r p i
   may-on d g name r p i m = record {
     directory = directory-on old new stays k.at d r.generation r m.directory;
     generation = m.generation;
@@ -312,16 +361,23 @@ module _ (old new : DiskState) (stays : StaysButFaults old new) (k : Books) wher
   }
 
 -- how many blocks an entry in this slot asks for
-pub slot-needs : (b : DiskState) (k : Books) (d g : ℕ) (name : List ℕ) (kind : FileKind) (e : ℕ) (at : SuperBlock) (s : EntrySlot) → IsSafe b k
-    → (IsTrue b.tells → KnownTrue k b.now → IsThere d b.now) → e < entry_limit → PlaceIs b k d name e → FitsSlot at (e / 16) s
+pub slot-needs : (b : DiskState) (k : Books) (d g : ℕ) (name : List ℕ) (kind : FileKind) (e : ℕ) (at : SuperBlock)
+    (s : EntrySlot) → IsSafe b k
+    → (IsTrue b.tells → KnownTrue k b.now → IsThere d b.now) → e < entry_limit → PlaceIs b k d name e
+    → FitsSlot at (e / 16) s
     → (IsTrue b.tells → IsEntrySlot b.now d (e / 16) s)
-    → IsTrue b.tells → (H : List Entry1) (p : Past) → IsOpen b k H p → blocks_needed p.world.files (step.Make d g name kind) ≡ slot_blocks s
-slot-needs b k d g name kind e at s safe there range place fits slot t H p o = make-asks p.world.files b.now d e (open-files b k H p o)
+    → IsTrue b.tells → (H : List Entry1) (p : Past) → IsOpen b k H p
+    → blocks_needed p.world.files (step.Make d g name kind) ≡ slot_blocks s
+slot-needs b k d g name kind e at s safe there range place fits slot t H p o =
+    make-asks p.world.files b.now d e (open-files b k H p o)
     (there t (are-agreed b k H p safe o)) range g name kind at s (place t H p o) fits (slot t)
 
 -- an end that refuses
-pub refused-goes : (old new : DiskState) (k : Books) (d g : ℕ) (name : List ℕ) (kind : FileKind) (r : Ended) (why : Refusal)
-    → r ≡ record { claims = no_claims; result = Err why } → Goes old k new k (step.Make d g name kind) no_claims (reply.Refused why)
+pub refused-goes : (old new : DiskState) (k : Books) (d g : ℕ) (name : List ℕ) (kind : FileKind)
+    (r : Ended) (why : Refusal)
+    → r ≡ record { claims = no_claims; result = Err why }
+    → Goes old k new k (step.Make d g name kind) no_claims (reply.Refused why)
     → Goes old k new k (step.Make d g name kind) r.claims (made_answer r.claims r.result)
-refused-goes old new k d g name kind r why e go = subst (λ (z : Ended). Goes old k new k (step.Make d g name kind) z.claims (made_answer z.claims z.result))
+refused-goes old new k d g name kind r why e go =
+    subst (λ (z : Ended). Goes old k new k (step.Make d g name kind) z.claims (made_answer z.claims z.result))
     (sym e) go

@@ -1,5 +1,6 @@
 -- Make: a new entry and the record of a claimed inode are written.
-use Rattle.std.proofs.Common.{◌≡◌, ◌≢◌, ℕ, ◌+◌, ◌-◌, ◌/◌, ◌%◌, ◌<◌, ◌≤◌, ◌⊎◌, inl, inr, Bool, true, false, cond, eqb, ne_eqb, leb, ltb, ◌&&◌, ◌||◌, not, List}
+use Rattle.std.proofs.Common.{◌≡◌, ◌≢◌, ℕ, ◌+◌, ◌-◌, ◌/◌, ◌%◌, ◌<◌, ◌≤◌, ◌⊎◌, inl, inr, Bool, true, false, cond, eqb}
+use Rattle.std.proofs.Common.{ne_eqb, leb, ltb, ◌&&◌, ◌||◌, not, List}
 use Rattle.std.proofs.Common.{Option, Some, None, is_some, IsTrue, refl, sym, ap, ◌∙◌, subst, subst₂, arith, Contains}
 use Rattle.std.proofs.lemmas.Bool.{cases_eq}
 use Rattle.nofs_dirent.specs.Entries.{entry_limit}
@@ -7,7 +8,8 @@ use Rattle.nofs_ptrs.specs.Paths.{slot_limit}
 use Rattle.nofs_disk.specs.Disk.{DiskState, IsDisk, cell_at}
 use Rattle.nofs_inode.specs.declared.inode.FileKind.TheVariants.{Directory as Folder}
 use Rattle.nofs_model.specs.Cells.{Cell, FileKind, Pointer, SuperBlock, record_at, spelled_entry}
-use Rattle.nofs_model.specs.Image.{Image, super_at, is_data_block, is_inode, inode, leaf, Path, path_of, find, agreed, is_folder}
+use Rattle.nofs_model.specs.Image.{Image, super_at, is_data_block, is_inode, inode, leaf, Path, path_of, find, agreed}
+use Rattle.nofs_model.specs.Image.{is_folder}
 use Rattle.nofs_model.specs.Image.{is_special, FileState, Files, Home, home_at, Present}
 use Rattle.nofs_model.specs.declared.image.path.PathAnswer.TheVariants as answer
 use Rattle.nofs_model.proofs.OnSlots.Find.{find-held}
@@ -55,7 +57,8 @@ use Rattle.nofs_names.proofs.OnSteps.OpenMount.{open-image, table-numbers}
 use Rattle.nofs_names.proofs.OnMakes.Premises.{entry-bytes, file-stays, KeepsValue, KeepsNode, block-stays, Makes}
 use Rattle.nofs_names.proofs.OnMakes.Premises.{WritesInPlace, IsHoleWrite, OfEntry, OfLeaf, OfTable, WritesInHole}
 
-module _ (old : DiskState) (k : Books) (H : List Entry1) (p : Past) (d g : ℕ) (name : List ℕ) (kind : FileKind) (e : ℕ) (c : Claims) (ws : List (ℕ × Cell))
+module _ (old : DiskState) (k : Books) (H : List Entry1) (p : Past) (d g : ℕ) (name : List ℕ) (kind : FileKind) (e : ℕ)
+    (c : Claims) (ws : List (ℕ × Cell))
     (is_old : IsDisk old) (tells : IsTrue old.tells) (o : IsOpen old k H p)
     (it : Makes old.now (image_after ws old.now) p.world d g name kind e c) where
   abbrev W : World
@@ -74,7 +77,8 @@ module _ (old : DiskState) (k : Books) (H : List Entry1) (p : Past) (d g : ℕ) 
   own = matched-agreed W.files X d on.match (agreed-live X d it.agrees) it.agrees
 
   own-kind : own.file.kind ≡ Folder
-  own-kind = let e : Some own.file.kind ≡ Some Folder = sym (file-of W.files X d own.file on.match own.is).0 ∙ it.folder in cc e
+  own-kind = let e : Some own.file.kind ≡ Some Folder =
+      sym (file-of W.files X d own.file on.match own.is).0 ∙ it.folder in cc e
 
   generation : own.file.generation ≡ g
   generation = own.generation ∙ it.generation
@@ -90,7 +94,8 @@ module _ (old : DiskState) (k : Books) (H : List Entry1) (p : Past) (d g : ℕ) 
   free : (is_special c.inode ≡ false) × (W.files c.inode ≡ None)
   free = go (W.files c.inode) refl (W.known_inodes c.inode) (is_special c.inode) was.free
     where
-      go : (f : Option FileState) → W.files c.inode ≡ f → (a b : Bool) → (a && not (b || is_some f)) ≡ true → (b ≡ false) × (W.files c.inode ≡ None)
+      go : (f : Option FileState) → W.files c.inode ≡ f → (a b : Bool)
+          → (a && not (b || is_some f)) ≡ true → (b ≡ false) × (W.files c.inode ≡ None)
       go None ef true false h = (refl, ef)
       go None ef true true h = cc h
       go None ef false b h = cc h
@@ -132,7 +137,8 @@ module _ (old : DiskState) (k : Books) (H : List Entry1) (p : Past) (d g : ℕ) 
   values-stay : (j : ℕ) → j ≢ c.inode → (h l : ℕ) → KeepsValue ((make_given W.files d g name kind c e).slots j h l)
   values-stay j ne h l = let y = ne_eqb c.inode j (λ t. ne (sym t)) in rw y (go (is_at d g j h && eqb (e / 16) l))
     where
-      go : (b : Bool) → KeepsValue (cond b (Some (with_entry (value_of W.files d (e / 16)) e (spelled_entry c.inode c.generation name))) None)
+      go : (b : Bool) → KeepsValue
+          (cond b (Some (with_entry (value_of W.files d (e / 16)) e (spelled_entry c.inode c.generation name))) None)
       go true = entry-bytes (value_of W.files d (e / 16)) e (spelled_entry c.inode c.generation name)
       go false = tt
 
@@ -144,16 +150,21 @@ module _ (old : DiskState) (k : Books) (H : List Entry1) (p : Past) (d g : ℕ) 
       go false = tt
 
   made-file : is_some (files_after W.files (make_given W.files d g name kind c e) c.inode) ≡ true
-  made-file = ap is_some (birth-is W.files (make_given W.files d g name kind c e) c.inode c.generation kind (first_links d e g)
+  made-file = ap is_some
+      (birth-is W.files (make_given W.files d g name kind c e) c.inode c.generation kind (first_links d e g)
       (make-birth W.files d g e name kind c apart))
 
-  used : (j : ℕ) → j ≢ c.inode → is_some (files_after W.files (make_given W.files d g name kind c e) j) ≡ is_some (W.files j)
+  used : (j : ℕ)
+      → j ≢ c.inode → is_some (files_after W.files (make_given W.files d g name kind c e) j) ≡ is_some (W.files j)
   used j ne = file-stays W.files (make_given W.files d g name kind c e) j (no-birth j ne) (no-meta j ne)
 
-  blocks : (home : Home) → has_block W.files home ≡ true → has_block (files_after W.files (make_given W.files d g name kind c e)) home ≡ true
+  blocks : (home : Home) → has_block W.files home ≡ true
+      → has_block (files_after W.files (make_given W.files d g name kind c e)) home ≡ true
   blocks home h = elim (cases_eq home.inode c.inode) [
-    | inl here ↦ absurd (nothing (ltb home.slot slot_limit) (subst (λ (f : Option FileState). block_in f home.slot ≡ true) (ap W.files here ∙ free.1) h))
-    | inr ne ↦ block-stays W.files (make_given W.files d g name kind c e) home.inode home.slot (no-birth home.inode ne) (no-meta home.inode ne)
+    | inl here ↦ absurd (nothing (ltb home.slot slot_limit)
+        (subst (λ (f : Option FileState). block_in f home.slot ≡ true) (ap W.files here ∙ free.1) h))
+    | inr ne ↦ block-stays W.files (make_given W.files d g name kind c e) home.inode home.slot (no-birth home.inode ne)
+        (no-meta home.inode ne)
         (values-stay home.inode ne) (nodes-stay home.inode) h
   ]
     where
@@ -161,7 +172,8 @@ module _ (old : DiskState) (k : Books) (H : List Entry1) (p : Past) (d g : ℕ) 
       nothing true t = cc t
       nothing false t = cc t
 
-  claiming : IsClaiming W (step.Make d g name kind) c (files_after W.files (make_given W.files d g name kind c e)) (home_at d (e / 16))
+  claiming : IsClaiming W (step.Make d g name kind) c (files_after W.files (make_given W.files d g name kind c e))
+      (home_at d (e / 16))
   claiming = record {
     slot = let s = it.place in rw s refl;
     claim = it.claim;
@@ -182,14 +194,18 @@ module _ (old : DiskState) (k : Books) (H : List Entry1) (p : Past) (d g : ℕ) 
   }
 
   -- the books say what the machine has after it
-  pub make-follows : (l : Books) (m : ℕ) → TakenBoth k l c m → blocks_needed W.files (step.Make d g name kind) ≡ m → Follows W (step.Make d g name kind) c l
+  pub make-follows : (l : Books) (m : ℕ) → TakenBoth k l c m
+      → blocks_needed W.files (step.Make d g name kind) ≡ m → Follows W (step.Make d g name kind) c l
   make-follows l m taken needs = claiming-follows X k l W (step.Make d g name kind) c (1 + m)
-      (files_after W.files (make_given W.files d g name kind c e)) (home_at d (e / 16)) o.says on.match o.homes o.homes_past claiming taken.all
-      (omega (arith, needs)) (made-inode W k l c (files_after W.files (make_given W.files d g name kind c e)) was taken.inode made-file used)
+      (files_after W.files (make_given W.files d g name kind c e))
+      (home_at d (e / 16)) o.says on.match o.homes o.homes_past claiming taken.all
+      (omega (arith, needs))
+      (made-inode W k l c (files_after W.files (make_given W.files d g name kind c e)) was taken.inode made-file used)
 
   -- nothing stands there for the claimed inode, and its generation is newer
   none-stands : (q : ℕ) → (mark_at p.base H (old.moment + 1) p.mark p.stamps).stands c.inode q ≡ false
-  none-stands = stands-none p.base H (old.moment + 1) c.inode (all-begun H old.moment (old.moment + 1) (omega arith) o.stage.lasts.by)
+  none-stands = stands-none p.base H (old.moment + 1) c.inode
+      (all-begun H old.moment (old.moment + 1) (omega arith) o.stage.lasts.by)
       (ap (λ (F : Files). F c.inode) (sym o.files) ∙ free.1)
 
   newer : p.stamps ≤ c.generation
@@ -209,38 +225,50 @@ module _ (old : DiskState) (k : Books) (H : List Entry1) (p : Past) (d g : ℕ) 
       → WritesName old H p (step.Make d g name kind) c (make_given W.files d g name kind c e) d c.inode ws
   in-place-ends x h = record {
     proper = λ b cell one. let q = h.each b cell one in subst (λ (z : Cell). Proper
-        (during (mark_at p.base H (old.moment + 1) p.mark p.stamps) (make_given W.files d g name kind c e)) X b z) (sym q.0) (proper-at b q.1);
-    numbers = λ b cell one. let q = h.each b cell one in subst (λ (z : Cell). CellNumbers (Numbered W c) X b z) (sym q.0) (numbers-at b q.1);
+        (during (mark_at p.base H (old.moment + 1) p.mark p.stamps) (make_given W.files d g name kind c e)) X b z)
+        (sym q.0) (proper-at b q.1);
+    numbers = λ b cell one. let q = h.each b cell one in
+        subst (λ (z : Cell). CellNumbers (Numbered W c) X b z) (sym q.0) (numbers-at b q.1);
     files = law.2;
     move = law-make-in-place-homes W X Y d g e (next_stamp W) name kind c own.file x lies h.entry it.place it.claim;
     writes = in-place-writes (next_stamp W) d c.inode (e / 16) X Y x h.entry.held h.entry.writes;
     last = λ b cell one. (h.each b cell one).0;
   }
     where
-      law : ((m : Mark) → is_data_block m.image x.block ≡ true → Proper (during m (make_given W.files d g name kind c e)) X x.block (cell_at Y x.block))
-          × ((m : Mark) → super_at m.image ≡ super_at Y → is_data_block m.image (1 + (c.inode - 1) / 4) ≡ false → m.stamps ≤ c.generation
+      law : ((m : Mark) → is_data_block m.image x.block ≡ true
+          → Proper (during m (make_given W.files d g name kind c e)) X x.block (cell_at Y x.block))
+          × ((m : Mark) → super_at m.image ≡ super_at Y
+          → is_data_block m.image (1 + (c.inode - 1) / 4) ≡ false → m.stamps ≤ c.generation
           → ((q : ℕ) → m.stands c.inode q ≡ false)
-          → Proper (during m (make_given W.files d g name kind c e)) X (1 + (c.inode - 1) / 4) (cell_at Y (1 + (c.inode - 1) / 4)))
+          → Proper (during m (make_given W.files d g name kind c e)) X (1 + (c.inode - 1) / 4)
+          (cell_at Y (1 + (c.inode - 1) / 4)))
           × FilesMatch (files_after W.files (make_given W.files d g name kind c e)) Y
       law = law-make-in-place W.files X Y d g e (next_stamp W) name kind c own.file x lies h.entry
 
       proper-at : (b : ℕ) → (b ≡ x.block) ⊎ (b ≡ table_block c.inode) → Proper
-          (during (mark_at p.base H (old.moment + 1) p.mark p.stamps) (make_given W.files d g name kind c e)) X b (cell_at Y b)
-      proper-at b (inl eb) = subst (λ (n : ℕ). Proper (during (mark_at p.base H (old.moment + 1) p.mark p.stamps) (make_given W.files d g name kind c e)) X n
+          (during (mark_at p.base H (old.moment + 1) p.mark p.stamps) (make_given W.files d g name kind c e))
+          X b (cell_at Y b)
+      proper-at b (inl eb) = subst (λ (n : ℕ).
+          Proper (during (mark_at p.base H (old.moment + 1) p.mark p.stamps) (make_given W.files d g name kind c e)) X n
           (cell_at Y n)) (sym eb)
-          (law.0 (mark_at p.base H (old.moment + 1) p.mark p.stamps) (on.area x.block (find-held X d (path_of (e / 16)) x h.entry.held).agrees.area))
-      proper-at b (inr eb) = subst (λ (n : ℕ). Proper (during (mark_at p.base H (old.moment + 1) p.mark p.stamps) (make_given W.files d g name kind c e)) X n
+          (law.0 (mark_at p.base H (old.moment + 1) p.mark p.stamps)
+          (on.area x.block (find-held X d (path_of (e / 16)) x h.entry.held).agrees.area))
+      proper-at b (inr eb) = subst (λ (n : ℕ).
+          Proper (during (mark_at p.base H (old.moment + 1) p.mark p.stamps) (make_given W.files d g name kind c e)) X n
           (cell_at Y n)) (sym eb)
           (law.1 (mark_at p.base H (old.moment + 1) p.mark p.stamps) (on.super ∙ sym (supers X Y h.entry.writes.super))
           (on.table (table_block c.inode) table-low) newer none-stands)
 
-      numbered : CellNumbers (Numbered W c) X x.block (cell_at Y x.block) × ((j : ℕ) → RecordWritten W c X j (inode Y j))
-      numbered = law-make-in-place-numbers W X Y d g e (next_stamp W) name kind c own.file x on.numbers lies h.entry it.claim
+      numbered : CellNumbers (Numbered W c) X x.block (cell_at Y x.block)
+          × ((j : ℕ) → RecordWritten W c X j (inode Y j))
+      numbered = law-make-in-place-numbers W X Y d g e
+          (next_stamp W) name kind c own.file x on.numbers lies h.entry it.claim
 
       numbers-at : (b : ℕ) → (b ≡ x.block) ⊎ (b ≡ table_block c.inode) → CellNumbers (Numbered W c) X b (cell_at Y b)
       numbers-at b (inl eb) = subst (λ (n : ℕ). CellNumbers (Numbered W c) X n (cell_at Y n)) (sym eb) numbered.0
       numbers-at b (inr eb) = subst (λ (n : ℕ). CellNumbers (Numbered W c) X n (cell_at Y n)) (sym eb)
-          (table-numbers W c X Y on.numbers numbered.1 h.entry.writes.super (table_block c.inode) (cell_at Y (table_block c.inode)) refl h.tag)
+          (table-numbers W c X Y on.numbers numbered.1 h.entry.writes.super (table_block c.inode)
+          (cell_at Y (table_block c.inode)) refl h.tag)
 
   -- It is a hole
 
@@ -261,35 +289,48 @@ module _ (old : DiskState) (k : Books) (H : List Entry1) (p : Past) (d g : ℕ) 
       law : ((m : Mark) → is_data_block m.image c.cell.block ≡ true → (inode Y d).generation ≡ own.file.generation
           → Proper (during m (make_given W.files d g name kind c e)) X c.cell.block (cell_at Y c.cell.block))
           × ((m : Mark) (t : ℕ) (z : Cell) → 0 < t → is_data_block m.image t ≡ false
-          → ((j : ℕ) → is_inode m.image j ≡ true → 1 + (j - 1) / 4 ≡ t → (record_at z.payload ((j - 1) % 4) ≡ inode X j) ⊎
+          → ((j : ℕ) → is_inode m.image j ≡ true → 1 + (j - 1) / 4 ≡ t
+          → (record_at z.payload ((j - 1) % 4) ≡ inode X j) ⊎
           (record_at z.payload ((j - 1) % 4) ≡ inode Y j))
-          → Contains (m.metas d (inode X d).generation) (Rattle.nofs_history.specs.Meta.meta_of (inode X d)) → m.stamps ≤ c.cell.stamp
+          → Contains (m.metas d (inode X d).generation) (Rattle.nofs_history.specs.Meta.meta_of (inode X d))
+          → m.stamps ≤ c.cell.stamp
           → m.stamps ≤ y.stamp ⊎ ((q : Pointer) × (find X d leaf ≡ answer.Holds q))
-          → m.stamps ≤ c.generation → ((q : ℕ) → m.stands c.inode q ≡ false) → Proper (during m (make_given W.files d g name kind c e)) X t z)
+          → m.stamps ≤ c.generation → ((q : ℕ) → m.stands c.inode q ≡ false)
+          → Proper (during m (make_given W.files d g name kind c e)) X t z)
           × FilesMatch (files_after W.files (make_given W.files d g name kind c e)) Y
       law = law-make-in-hole W.files X Y d g e (next_stamp W) name kind c own.file y lies h.entry
 
       proper-at : (b : ℕ) (cell : Cell) → IsHoleWrite X Y e c y b cell → Proper
           (during (mark_at p.base H (old.moment + 1) p.mark p.stamps) (make_given W.files d g name kind c e)) X b cell
       proper-at b cell (OfEntry eb ec) = subst₂ (λ (n : ℕ) (z : Cell). Proper
-          (during (mark_at p.base H (old.moment + 1) p.mark p.stamps) (make_given W.files d g name kind c e)) X n z) (sym eb) (sym ec)
+          (during (mark_at p.base H (old.moment + 1) p.mark p.stamps) (make_given W.files d g name kind c e)) X n z)
+          (sym eb) (sym ec)
           (law.0 (mark_at p.base H (old.moment + 1) p.mark p.stamps) (on.area c.cell.block
-          (hole-cell (next_stamp W) X Y d c.inode (e / 16) c.cell y h.entry.claimed).area) (hole-generation (next_stamp W) X Y d c.inode (e / 16) c.cell y
+          (hole-cell (next_stamp W) X Y d c.inode (e / 16) c.cell y h.entry.claimed).area)
+          (hole-generation (next_stamp W) X Y d c.inode (e / 16) c.cell y
           (λ t. apart (sym t)) h.entry.claimed ∙ sym own.generation))
       proper-at b cell (OfLeaf far eb ec) = subst₂ (λ (n : ℕ) (z : Cell). Proper
-          (during (mark_at p.base H (old.moment + 1) p.mark p.stamps) (make_given W.files d g name kind c e)) X n z) (sym eb) (sym ec)
-          (hole-leaf-proper (next_stamp W) (mark_at p.base H (old.moment + 1) p.mark p.stamps) (make_given W.files d g name kind c e) X Y d c.inode
-          (e / 16) c.cell y on.survives.reads own.live h.entry.empty (on.area y.block (hole-area (next_stamp W) X Y d c.inode
+          (during (mark_at p.base H (old.moment + 1) p.mark p.stamps) (make_given W.files d g name kind c e)) X n z)
+          (sym eb) (sym ec)
+          (hole-leaf-proper (next_stamp W) (mark_at p.base H (old.moment + 1) p.mark p.stamps)
+          (make_given W.files d g name kind c e) X Y d c.inode
+          (e / 16) c.cell y on.survives.reads own.live h.entry.empty
+          (on.area y.block (hole-area (next_stamp W) X Y d c.inode
           (e / 16) c.cell y h.entry.claimed far)) h.newer far h.entry.claimed)
-      proper-at b cell (OfTable pos low tag each) = law.1 (mark_at p.base H (old.moment + 1) p.mark p.stamps) b cell pos (on.table b low)
+      proper-at b cell (OfTable pos low tag each) =
+          law.1 (mark_at p.base H (old.moment + 1) p.mark p.stamps) b cell pos (on.table b low)
           (λ j range same. each j (ap (λ (q : SuperBlock). leb 1 j && leb j q.inodes) (sym on.super) ∙ range) same)
           (on.survives.reads.metas d own.live) h.newer h.leaf_newer newer none-stands
 
-      numbered : CellNumbers (Numbered W c) X c.cell.block (cell_at Y c.cell.block) × (8 ≤ e / 16 → CellNumbers (Numbered W c) X y.block (cell_at Y y.block)) ×
+      numbered : CellNumbers (Numbered W c) X c.cell.block (cell_at Y c.cell.block)
+          × (8 ≤ e / 16 → CellNumbers (Numbered W c) X y.block (cell_at Y y.block)) ×
           ((j : ℕ) → RecordWritten W c X j (inode Y j))
-      numbered = law-make-in-hole-numbers W X Y d g e (next_stamp W) name kind c own.file y on.numbers lies h.entry h.claims it.claim
+      numbered = law-make-in-hole-numbers W X Y d g e
+          (next_stamp W) name kind c own.file y on.numbers lies h.entry h.claims it.claim
 
       numbers-at : (b : ℕ) (cell : Cell) → IsHoleWrite X Y e c y b cell → CellNumbers (Numbered W c) X b cell
-      numbers-at b cell (OfEntry eb ec) = subst₂ (λ (n : ℕ) (z : Cell). CellNumbers (Numbered W c) X n z) (sym eb) (sym ec) numbered.0
-      numbers-at b cell (OfLeaf far eb ec) = subst₂ (λ (n : ℕ) (z : Cell). CellNumbers (Numbered W c) X n z) (sym eb) (sym ec) (numbered.1 far)
+      numbers-at b cell (OfEntry eb ec) =
+          subst₂ (λ (n : ℕ) (z : Cell). CellNumbers (Numbered W c) X n z) (sym eb) (sym ec) numbered.0
+      numbers-at b cell (OfLeaf far eb ec) =
+          subst₂ (λ (n : ℕ) (z : Cell). CellNumbers (Numbered W c) X n z) (sym eb) (sym ec) (numbered.1 far)
       numbers-at b cell (OfTable pos low tag each) = law-table-moment W c X Y b cell on.numbers tag each numbered.2

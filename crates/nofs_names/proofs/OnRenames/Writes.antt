@@ -1,5 +1,6 @@
 -- Rename: the directory's cell is written in place.
-use Rattle.std.proofs.Common.{◌≡◌, ◌≢◌, ℕ, ◌+◌, ◌*◌, ◌/◌, ◌%◌, inl, inr, true, false, List, [], ◌∷◌, length, Option, Some, is_some, IsTrue, refl, sym, ap, ◌∙◌}
+use Rattle.std.proofs.Common.{◌≡◌, ◌≢◌, ℕ, ◌+◌, ◌*◌, ◌/◌, ◌%◌, inl, inr, true, false, List, [], ◌∷◌, length, Option}
+use Rattle.std.proofs.Common.{Some, is_some, IsTrue, refl, sym, ap, ◌∙◌}
 use Rattle.std.proofs.Common.{subst, subst₂}
 use Rattle.nofs_disk.specs.Disk.{DiskState, IsDisk, cell_at}
 use Rattle.nofs_disk.specs.Number.{put_bytes}
@@ -46,13 +47,18 @@ entry-bytes : (v : Value) (e : ℕ) (bytes : List ℕ) → is_bytes (with_entry 
 unfolding with_entry
 entry-bytes v e bytes = refl
 
-module _ (old : DiskState) (k : Books) (H : List Entry1) (p : Past) (d g : ℕ) (name other : List ℕ) (r : Record) (x : Pointer) (c : Cell) (q : Paired)
+module _ (old : DiskState) (k : Books) (H : List Entry1) (p : Past) (d g : ℕ) (name other : List ℕ) (r : Record)
+    (x : Pointer) (c : Cell) (q : Paired)
     (is_old : IsDisk old) (tells : IsTrue old.tells) (o : IsOpen old k H p)
-    (rec : inode old.now d ≡ r) (kind : r.kind ≡ Some Folder) (gen : r.generation ≡ g) (agrees : agreed (files_in old.now) d ≡ true)
+    (rec : inode old.now d ≡ r) (kind : r.kind ≡ Some Folder) (gen : r.generation ≡ g)
+    (agrees : agreed (files_in old.now) d ≡ true)
     (pair : IsFoundEntry p.world.files old.now d name q)
-    (held : find old.now d (path_of (q.entry / 16)) ≡ answer.Holds x) (whole : length (cell_at old.now x.block).payload ≡ 1024)
-    (spells : Spells (spelled_entry q.inode q.record.generation other) (record { inode = q.inode; generation = q.record.generation; name = other }))
-    (payload : c.payload ≡ put_bytes (64 * (q.entry % 16)) (spelled_entry q.inode q.record.generation other) (cell_at old.now x.block).payload)
+    (held : find old.now d (path_of (q.entry / 16)) ≡ answer.Holds x)
+    (whole : length (cell_at old.now x.block).payload ≡ 1024)
+    (spells : Spells (spelled_entry q.inode q.record.generation other)
+    (record { inode = q.inode; generation = q.record.generation; name = other }))
+    (payload : c.payload ≡ put_bytes (64 * (q.entry % 16)) (spelled_entry q.inode q.record.generation other)
+    (cell_at old.now x.block).payload)
     (tag : c.tag ≡ (cell_at old.now x.block).tag) where
   abbrev W : World
   W = p.world
@@ -98,30 +104,38 @@ module _ (old : DiskState) (k : Books) (H : List Entry1) (p : Past) (d g : ℕ) 
     found = pair.pair.at;
     held = held;
     whole = whole;
-    spells = subst₂ (λ (i n : ℕ). Spells (spelled_entry i n other) (record { inode = i; generation = n; name = other })) (sym pair.pair.names)
+    spells = subst₂ (λ (i n : ℕ). Spells (spelled_entry i n other) (record { inode = i; generation = n; name = other }))
+        (sym pair.pair.names)
         (sym pair.pair.generation) spells;
-    content = ap (λ (z : Cell). Bytes z.payload) (write-here X x c on.geometry.fits on.geometry.multiple area) ∙ ap Bytes payload
+    content = ap (λ (z : Cell). Bytes z.payload) (write-here X x c on.geometry.fits on.geometry.multiple area)
+        ∙ ap Bytes payload
         ∙ sym (ap (with_entry (Bytes (cell_at X x.block).payload) q.entry) numbers-are
-        ∙ with-entry-put (Bytes (cell_at X x.block).payload) q.entry (spelled_entry q.inode q.record.generation other) spells.short);
+        ∙ with-entry-put (Bytes (cell_at X x.block).payload) q.entry
+        (spelled_entry q.inode q.record.generation other) spells.short);
     writes = in-place;
     old = λ j some. on.pointers j (matched-file W.files X j on.match some).live;
   }
 
-  law : ((m : Mark) → is_data_block m.image x.block ≡ true → Proper (during m (rename_given W.files d g other q.entry)) X x.block (cell_at Y x.block))
+  law : ((m : Mark) → is_data_block m.image x.block ≡ true
+      → Proper (during m (rename_given W.files d g other q.entry)) X x.block (cell_at Y x.block))
       × FilesMatch (files_after W.files (rename_given W.files d g other q.entry)) Y
   law = law-rename W.files X Y d g q.entry (next_stamp W) other own.file x it lies
 
   -- what the step gives
-  gives-it : (F : Files) → F ≡ W.files → gives F (step.Rename d g name other) no_claims ≡ rename_given F d g other q.entry
+  gives-it : (F : Files)
+      → F ≡ W.files → gives F (step.Rename d g name other) no_claims ≡ rename_given F d g other q.entry
   unfolding gives
-  gives-it F e = ap (λ (at : Option ℕ). at_place at (λ n. rename_given F d g other n)) (ap (λ (E : Files). found E d name) e ∙ pair.found)
+  gives-it F e = ap (λ (at : Option ℕ). at_place at (λ n. rename_given F d g other n))
+      (ap (λ (E : Files). found E d name) e ∙ pair.found)
 
   -- it gives a cell, and nothing else
   cell-is : rename_given W.files d g other q.entry ≡ machine.cell_given d g (q.entry / 16)
-      (with_entry (value_of W.files d (q.entry / 16)) q.entry (spelled_entry it.inode it.generation other)) machine.no_meta
+      (with_entry (value_of W.files d (q.entry / 16)) q.entry
+      (spelled_entry it.inode it.generation other)) machine.no_meta
   cell-is = rw (pair.pair.at, rename_given) refl
 
-  after-files : files_after W.files (gives W.files (step.Rename d g name other) no_claims) ≡ files_after W.files (rename_given W.files d g other q.entry)
+  after-files : files_after W.files (gives W.files (step.Rename d g name other) no_claims) ≡ files_after W.files
+      (rename_given W.files d g other q.entry)
   after-files = ap (files_after W.files) (gives-it W.files refl)
 
   quiet : IsQuiet W (step.Rename d g name other) (files_after W.files (rename_given W.files d g other q.entry))
@@ -131,9 +145,11 @@ module _ (old : DiskState) (k : Books) (H : List Entry1) (p : Past) (d g : ℕ) 
     none_claimed = λ b. refl;
     files = after-files;
     used = λ j. ap (λ (z : Given). is_some (files_after W.files z j)) cell-is
-        ∙ cell-used W.files d g (q.entry / 16) (with_entry (value_of W.files d (q.entry / 16)) q.entry (spelled_entry it.inode it.generation other)) j;
+        ∙ cell-used W.files d g (q.entry / 16)
+        (with_entry (value_of W.files d (q.entry / 16)) q.entry (spelled_entry it.inode it.generation other)) j;
     blocks = λ home h. subst (λ (z : Given). has_block (files_after W.files z) home ≡ true) (sym cell-is)
-        (cell-blocks W.files d g (q.entry / 16) (with_entry (value_of W.files d (q.entry / 16)) q.entry (spelled_entry it.inode it.generation other))
+        (cell-blocks W.files d g (q.entry / 16)
+        (with_entry (value_of W.files d (q.entry / 16)) q.entry (spelled_entry it.inode it.generation other))
         (entry-bytes (value_of W.files d (q.entry / 16)) q.entry (spelled_entry it.inode it.generation other)) home h);
     sees_no_inode = λ i. refl;
     sees_no_block = λ b. refl;
@@ -145,32 +161,40 @@ module _ (old : DiskState) (k : Books) (H : List Entry1) (p : Past) (d g : ℕ) 
 
   -- The write
 
-  proper : Proper (during (mark_at p.base H (old.moment + 1) p.mark p.stamps) (rename_given W.files d g other q.entry)) X x.block c
-  proper = subst (λ (z : Cell). Proper (during (mark_at p.base H (old.moment + 1) p.mark p.stamps) (rename_given W.files d g other q.entry)) X x.block z)
+  proper : Proper
+      (during (mark_at p.base H (old.moment + 1) p.mark p.stamps) (rename_given W.files d g other q.entry)) X x.block c
+  proper = subst (λ (z : Cell). Proper
+      (during (mark_at p.base H (old.moment + 1) p.mark p.stamps) (rename_given W.files d g other q.entry)) X x.block z)
       (write-here X x c on.geometry.fits on.geometry.multiple area)
       (law.0 (mark_at p.base H (old.moment + 1) p.mark p.stamps) (on.area x.block area))
 
   proper-all : (b : ℕ) (cell : Cell) → OneOf ((x.block, c) ∷ []) b cell
-      → Proper (during (mark_at p.base H (old.moment + 1) p.mark p.stamps) (rename_given W.files d g other q.entry)) X b cell
+      → Proper (during (mark_at p.base H (old.moment + 1) p.mark p.stamps)
+      (rename_given W.files d g other q.entry)) X b cell
   proper-all b cell (inl one) = subst₂ (λ (n : ℕ) (z : Cell). Proper
-      (during (mark_at p.base H (old.moment + 1) p.mark p.stamps) (rename_given W.files d g other q.entry)) X n z) (sym one.0) (sym one.1) proper
+      (during (mark_at p.base H (old.moment + 1) p.mark p.stamps) (rename_given W.files d g other q.entry)) X n z)
+      (sym one.0) (sym one.1) proper
   proper-all b cell (inr none) = absurd none
 
   numbers : (b : ℕ) (cell : Cell) → OneOf ((x.block, c) ∷ []) b cell → CellNumbers (Numbered W no_claims) X b cell
-  numbers b cell (inl one) = subst₂ (λ (n : ℕ) (z : Cell). CellNumbers (Numbered W no_claims) X n z) (sym one.0) (sym one.1)
-      (subst (λ (z : Cell). CellNumbers (Numbered W no_claims) X x.block z) (write-here X x c on.geometry.fits on.geometry.multiple area)
+  numbers b cell (inl one) =
+      subst₂ (λ (n : ℕ) (z : Cell). CellNumbers (Numbered W no_claims) X n z) (sym one.0) (sym one.1)
+      (subst (λ (z : Cell). CellNumbers (Numbered W no_claims) X x.block z)
+      (write-here X x c on.geometry.fits on.geometry.multiple area)
       (law-rename-numbers W X Y d g q.entry (next_stamp W) other own.file x it no_claims on.numbers lies))
   numbers b cell (inr none) = absurd none
 
   last : (b : ℕ) (cell : Cell) → OneOf ((x.block, c) ∷ []) b cell → cell ≡ cell_at Y b
-  last b cell (inl one) = one.1 ∙ sym (ap (cell_at Y) one.0 ∙ write-here X x c on.geometry.fits on.geometry.multiple area)
+  last b cell (inl one) =
+      one.1 ∙ sym (ap (cell_at Y) one.0 ∙ write-here X x c on.geometry.fits on.geometry.multiple area)
   last b cell (inr none) = absurd none
 
   -- What it gives
 
   nothing : (j : ℕ) → j ≢ d → GivesNothing (rename_given W.files d g other q.entry) j
   nothing j ne = subst (λ (z : Given). GivesNothing z j) (sym cell-is)
-      (cell-elsewhere d g (q.entry / 16) (with_entry (value_of W.files d (q.entry / 16)) q.entry (spelled_entry it.inode it.generation other))
+      (cell-elsewhere d g (q.entry / 16)
+      (with_entry (value_of W.files d (q.entry / 16)) q.entry (spelled_entry it.inode it.generation other))
       machine.no_meta j ne (λ h. refl))
 
   pub rename-step : NameStep old H p (step.Rename d g name other) no_claims ((x.block, c) ∷ [])
@@ -184,7 +208,8 @@ module _ (old : DiskState) (k : Books) (H : List Entry1) (p : Past) (d g : ℕ) 
       nothing = λ j ne zero. nothing j ne;
       there = ap is_some own.is;
       used = λ j ne. quiet.used j;
-      owned = λ live. absurd (let n : is_live (inode Y 0) ≡ false = ap is_live (write-records X x c on.geometry.fits on.geometry.multiple area 0 ∙ no-zero X) in
+      owned = λ live. absurd (let n : is_live (inode Y 0) ≡ false =
+          ap is_live (write-records X x c on.geometry.fits on.geometry.multiple area 0 ∙ no-zero X) in
           cc (n, live));
     };
     ends = record {
@@ -198,5 +223,6 @@ module _ (old : DiskState) (k : Books) (H : List Entry1) (p : Past) (d g : ℕ) 
   }
 
   pub rename-follows : Follows W (step.Rename d g name other) no_claims k
-  rename-follows = quiet-follows X k W (step.Rename d g name other) (files_after W.files (rename_given W.files d g other q.entry)) o.says on.match o.homes
+  rename-follows = quiet-follows X k W (step.Rename d g name other)
+      (files_after W.files (rename_given W.files d g other q.entry)) o.says on.match o.homes
       o.homes_past quiet

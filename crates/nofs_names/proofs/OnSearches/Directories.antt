@@ -18,24 +18,39 @@ use Rattle.nofs_names.specs.Searches.Directories.{NamedFails, OpensNamed, ByStop
 use Rattle.nofs_names.specs.Searches.Refusals.{OpensDirectory}
 use Rattle.nofs_names.specs.declared.searches.directories.NameIn.{NameIn}
 
--- the directory of a name was not opened: what is left to the step is its own answer to a bad name and to a part that refuses
-pub unopened-goes : (old new : DiskState) (k : Books) (at : NameIn) (why : Refusal) (s : Step) → IsDisk old → IsSafe old k → StaysButFaults old new
-    → (IsSafe new k → k.stopped ≡ false → is_name at.name.now ≡ false → Goes new k new k s no_claims (reply.Refused refusal.BadName))
-    → (k.stopped ≡ false → is_name at.name.now ≡ true → (last : LastRead) → OpensDirectory old new k at.directory at.generation last (Err why)
+-- the directory of a name was not opened: what is left to the step is its own answer to a bad name and to a part that
+-- refuses
+pub unopened-goes : (old new : DiskState) (k : Books) (at : NameIn) (why : Refusal) (s : Step) → IsDisk old
+    → IsSafe old k → StaysButFaults old new
+    → (IsSafe new k
+    → k.stopped ≡ false → is_name at.name.now ≡ false → Goes new k new k s no_claims (reply.Refused refusal.BadName))
+    → (k.stopped ≡ false → is_name at.name.now ≡ true → (last : LastRead)
+    → OpensDirectory old new k at.directory at.generation last (Err why)
     → Goes old k new k s no_claims (reply.Refused why))
     → NamedFails old new k at why → Goes old k new k s no_claims (reply.Refused why)
 unopened-goes old new k at why s is safe stays bad unopened (ByStop stopped e) =
-    subst (λ (w : Refusal). Goes old k new k s no_claims (reply.Refused w)) (sym e) (goes-stopped old new k s is safe stays stopped)
+    subst (λ (w : Refusal). Goes old k new k s no_claims (reply.Refused w)) (sym e)
+    (goes-stopped old new k s is safe stays stopped)
 unopened-goes old new k at why s is safe stays bad unopened (ByName going none e) =
     subst (λ (w : Refusal). Goes old k new k s no_claims (reply.Refused w)) (sym e)
     (goes-after old new (reads-keep old new stays) new k k s no_claims (reply.Refused refusal.BadName)
     (bad (safe-keeps old new (reads-keep old new stays) k safe) going none))
-unopened-goes old new k at why s is safe stays bad unopened (ByOpening going good last opens) = unopened going good last opens
+unopened-goes old new k at why s is safe stays bad unopened (ByOpening going good last opens) =
+    unopened going good last opens
 
 -- the directory of a name is opened
-pub named-open : (old new : DiskState) (k : Books) (at : NameIn) (last : LastRead) → k.stopped ≡ false → is_name at.name.now ≡ true
-    → NameOk at.name.now → (res : Result Record Refusal) → OpensDirectory old new k at.directory at.generation last res → OpensNamed old new k at last res
+pub named-open : (old new : DiskState) (k : Books) (at : NameIn) (last : LastRead)
+    → k.stopped ≡ false → is_name at.name.now ≡ true
+    → NameOk at.name.now → (res : Result Record Refusal) → OpensDirectory old new k at.directory at.generation last res
+    → OpensNamed old new k at last res
 named-open old new k at last going is good (Ok r) opens =
     record { stays = opens.stays; going = going; name_is = is; good = good; opened = opens; refused = tt }
 named-open old new k at last going is good (Err why) opens =
-    record { stays = opens.stays; going = tt; name_is = tt; good = tt; opened = tt; refused = ByOpening going is last opens }
+    record {
+      stays = opens.stays;
+      going = tt;
+      name_is = tt;
+      good = tt;
+      opened = tt;
+      refused = ByOpening going is last opens;
+    }

@@ -1,5 +1,6 @@
 -- How a search of a directory goes on, place by place and slot by slot.
-use Rattle.std.proofs.Common.{◌≡◌, ℕ, ◌+◌, ◌*◌, ◌/◌, ◌%◌, ◌<◌, ◌≤◌, Bool, true, false, cond, ltb, ◌&&◌, not, List, Option, Some, None, is_some, refl, sym, ap}
+use Rattle.std.proofs.Common.{◌≡◌, ℕ, ◌+◌, ◌*◌, ◌/◌, ◌%◌, ◌<◌, ◌≤◌, Bool, true, false, cond, ltb, ◌&&◌, not, List}
+use Rattle.std.proofs.Common.{Option, Some, None, is_some, refl, sym, ap}
 use Rattle.std.proofs.Common.{◌∙◌, subst, arith, lt-ltb}
 use Rattle.std.specs.Prelude.{bytes_eq}
 use Rattle.std.proofs.lemmas.Slice.Eq.{bytes_eq-Decides}
@@ -7,7 +8,8 @@ use Rattle.nofs_dirent.specs.Entries.{entry_limit}
 use Rattle.nofs_inode.specs.declared.inode.FileKind.TheVariants.{Directory as Folder}
 use Rattle.nofs_dirent.specs.Entries as cells
 use Rattle.nofs_model.specs.Cells.{Entry, Record, entry_in}
-use Rattle.nofs_model.specs.Image.{Image, inode, files_in, agreed, FileState, Files, is_folder, entry_at, entry_held, entry_in_file, value}
+use Rattle.nofs_model.specs.Image.{Image, inode, files_in, agreed, FileState, Files, is_folder, entry_at, entry_held}
+use Rattle.nofs_model.specs.Image.{entry_in_file, value}
 use Rattle.nofs_model.specs.declared.image.value.Value.{Value}
 use Rattle.nofs_model.specs.declared.image.value.Value.TheVariants.{Hole, Bytes, Lost}
 use Rattle.nofs_history.specs.Meta.{is_bytes}
@@ -48,7 +50,8 @@ same-name : (name : List ℕ) (o : Option Entry) → name_test name o ≡ cells.
 same-name name None = refl
 same-name name (Some it) = refl
 
-cell-name : (payload name : List ℕ) (place : ℕ) → cells.has_name payload name place ≡ cells.is_named name (cells.name_of (entry_in payload place))
+cell-name : (payload name : List ℕ) (place : ℕ)
+    → cells.has_name payload name place ≡ cells.is_named name (cells.name_of (entry_in payload place))
 unfolding cells.has_name
 cell-name payload name place = refl
 
@@ -56,7 +59,8 @@ abbrev value_in_file : ℕ → Option FileState → Value
 value_in_file k o = elim o [ None ↦ Hole | Some f ↦ f.values k ]
 
 -- one more entry was tested
-one-more : (F : Files) (d : ℕ) (name : List ℕ) (n k : ℕ) (v : Unfound) → Passed F d name n k v → finds F d name n ≡ false
+one-more : (F : Files) (d : ℕ) (name : List ℕ) (n k : ℕ) (v : Unfound) → Passed F d name n k v
+    → finds F d name n ≡ false
     → Passed F d name (n + 1) k (record v {
       dead = first_or v.dead (where_true (is_dead F d name n) n);
       empty =
@@ -70,9 +74,11 @@ one-more F d name n k v p nope = record {
   hole = p.hole;
 }
 
-one-as : (F : Files) (d : ℕ) (name : List ℕ) (n k : ℕ) (v : Unfound) (dead empty : Bool) → Passed F d name n k v → finds F d name n ≡ false
+one-as : (F : Files) (d : ℕ) (name : List ℕ) (n k : ℕ) (v : Unfound) (dead empty : Bool) → Passed F d name n k v
+    → finds F d name n ≡ false
     → is_dead F d name n ≡ dead → is_empty F d n ≡ empty
-    → Passed F d name (n + 1) k (record v { dead = first_or v.dead (where_true dead n); empty = first_or v.empty (where_true empty n) })
+    → Passed F d name (n + 1) k
+    (record v { dead = first_or v.dead (where_true dead n); empty = first_or v.empty (where_true empty n) })
 one-as F d name n k v dead empty p nope ed ee =
     subst (λ (w : Unfound). Passed F d name (n + 1) k w) (λ j. record v {
       dead = first_or v.dead (where_true (ed j) n);
@@ -81,9 +87,11 @@ one-as F d name n k v dead empty p nope ed ee =
     }) (one-more F d name n k v p nope)
 
 -- one more slot was tested
-slot-as : (F : Files) (d : ℕ) (name : List ℕ) (n k : ℕ) (v : Unfound) (lost hole : Bool) → Passed F d name n k v → is_lost_slot F d k ≡ lost
+slot-as : (F : Files) (d : ℕ) (name : List ℕ) (n k : ℕ) (v : Unfound) (lost hole : Bool) → Passed F d name n k v
+    → is_lost_slot F d k ≡ lost
     → is_hole_slot F d k ≡ hole
-    → Passed F d name n (k + 1) (record v { lost = first_or v.lost (where_true lost k); hole = first_or v.hole (where_true hole k) })
+    → Passed F d name n (k + 1)
+    (record v { lost = first_or v.lost (where_true lost k); hole = first_or v.hole (where_true hole k) })
 slot-as F d name n k v lost hole p el eh = record {
   none = p.none;
   dead = p.dead;
@@ -106,13 +114,15 @@ skipped F d name k v none no_bytes p =
       none = (λ j. least_from (finds F d name) 0 (size j)) ∙ least-skip (finds F d name) (16 * k) 16
           (λ e low high. (λ j. quiet e low high j && machine.is_paired F d e)) ∙ p.none;
       dead = (λ j. least_from (is_dead F d name) 0 (size j))
-          ∙ least-skip (is_dead F d name) (16 * k) 16 (λ e low high. (λ j. quiet e low high j && not (machine.is_paired F d e))) ∙ p.dead;
+          ∙ least-skip (is_dead F d name) (16 * k) 16
+          (λ e low high. (λ j. quiet e low high j && not (machine.is_paired F d e))) ∙ p.dead;
       empty = (λ j. least_from (is_empty F d) 0 (size j)) ∙ least-skip (is_empty F d) (16 * k) 16 vacant ∙ p.empty;
       lost = p.lost;
       hole = p.hole;
     }
 
-module _ (F : Files) (X : Image) (d : ℕ) (dr : Record) (match : FilesMatch F X) (a : agreed (files_in X) d ≡ true) (same : inode X d ≡ dr)
+module _ (F : Files) (X : Image) (d : ℕ) (dr : Record) (match : FilesMatch F X) (a : agreed (files_in X) d ≡ true)
+    (same : inode X d ≡ dr)
     (folder : dr.kind ≡ Some Folder) where
   -- the value of a slot
   pub value-at : (k : ℕ) (v : Value) → k < 72 → value X d k ≡ v → machine.value_of F d k ≡ v
@@ -124,57 +134,71 @@ module _ (F : Files) (X : Image) (d : ℕ) (dr : Record) (match : FilesMatch F X
   held-at e k v low at ev =
       let m = matched-agreed F X d match (agreed-live X d a) a in
       let range : e < entry_limit = omega (arith, low, at) in
-      let t : (is_folder m.file.kind && ltb e entry_limit) ≡ true = (λ j. dir-folder F X d e dr match a same folder j && lt-ltb e entry_limit range j) in
+      let t : (is_folder m.file.kind && ltb e entry_limit) ≡ true =
+      (λ j. dir-folder F X d e dr match a same folder j && lt-ltb e entry_limit range j) in
       let w : m.file.values (e / 16) ≡ v = ap m.file.values at ∙ m.values k (omega (arith, low)) ∙ ev in
       ap (λ (o : Option FileState). entry_in_file o e) m.is ∙ (λ j. cond (t j) (entry_held (w j) e) None)
 
-  pub ends-bytes : (n k : ℕ) (payload name : List ℕ) (v : Unfound) → k < 72 → value X d k ≡ Bytes payload → Passed F d name n k v → Passed F d name n (k + 1) v
+  pub ends-bytes : (n k : ℕ) (payload name : List ℕ) (v : Unfound) → k < 72 → value X d k ≡ Bytes payload
+      → Passed F d name n k v → Passed F d name n (k + 1) v
   ends-bytes n k payload name v low b p =
       let e = value-at k (Bytes payload) low b in
-      subst (λ (w : Unfound). Passed F d name n (k + 1) w) (λ j. record v { lost = or-none v.lost j; hole = or-none v.hole j })
+      subst (λ (w : Unfound). Passed F d name n (k + 1) w)
+      (λ j. record v { lost = or-none v.lost j; hole = or-none v.hole j })
       (slot-as F d name n k v false false p (ap machine.is_lost e) (ap machine.is_hole e))
 
   pub ends-hole : (k : ℕ) (name : List ℕ) (v : Unfound) → k < 72 → value X d k ≡ Hole → Passed F d name (16 * k) k v
       → Passed F d name (16 * (k + 1)) (k + 1) (record v { hole = first_or v.hole (Some k) })
   ends-hole k name v low b p =
       let e = value-at k Hole low b in
-      subst (λ (o : Option ℕ). Passed F d name (16 * (k + 1)) (k + 1) (record v { lost = o; hole = first_or v.hole (Some k) })) (or-none v.lost)
-      (slot-as F d name (16 * (k + 1)) k v false true (skipped F d name k v (λ n at. held-at n k Hole low at b) (ap is_bytes e) p) (ap machine.is_lost e)
+      subst (λ (o : Option ℕ). Passed F d name (16 * (k + 1)) (k + 1)
+      (record v { lost = o; hole = first_or v.hole (Some k) })) (or-none v.lost)
+      (slot-as F d name (16 * (k + 1)) k v false true
+      (skipped F d name k v (λ n at. held-at n k Hole low at b) (ap is_bytes e) p) (ap machine.is_lost e)
       (ap machine.is_hole e))
 
   pub ends-lost : (k : ℕ) (name : List ℕ) (v : Unfound) → k < 72 → value X d k ≡ Lost → Passed F d name (16 * k) k v
       → Passed F d name (16 * (k + 1)) (k + 1) (record v { lost = first_or v.lost (Some k) })
   ends-lost k name v low b p =
       let e = value-at k Lost low b in
-      subst (λ (o : Option ℕ). Passed F d name (16 * (k + 1)) (k + 1) (record v { lost = first_or v.lost (Some k); hole = o })) (or-none v.hole)
-      (slot-as F d name (16 * (k + 1)) k v true false (skipped F d name k v (λ n at. held-at n k Lost low at b) (ap is_bytes e) p) (ap machine.is_lost e)
+      subst (λ (o : Option ℕ). Passed F d name (16 * (k + 1)) (k + 1)
+      (record v { lost = first_or v.lost (Some k); hole = o })) (or-none v.hole)
+      (slot-as F d name (16 * (k + 1)) k v true false
+      (skipped F d name k v (λ n at. held-at n k Lost low at b) (ap is_bytes e) p) (ap machine.is_lost e)
       (ap machine.is_hole e))
 
   -- In a slot that holds
 
-  module _ (e k place : ℕ) (payload name : List ℕ) (low : k < 72) (at : e / 16 ≡ k) (in_cell : e % 16 ≡ place) (bytes : value X d k ≡ Bytes payload) where
+  module _ (e k place : ℕ) (payload name : List ℕ) (low : k < 72) (at : e / 16 ≡ k) (in_cell : e % 16 ≡ place)
+      (bytes : value X d k ≡ Bytes payload) where
     pub entry-is : entry_at F d e ≡ entry_in payload place
     entry-is = held-at e k (Bytes payload) low at bytes ∙ ap (entry_in payload) in_cell
 
     name-is : machine.entry_has_name F d name e ≡ cells.has_name payload name place
-    name-is = ap (name_test name) entry-is ∙ same-name name (entry_in payload place) ∙ sym (cell-name payload name place)
+    name-is = ap (name_test name) entry-is ∙ same-name name (entry_in payload place)
+        ∙ sym (cell-name payload name place)
 
     empty-is : is_empty F d e ≡ not (is_some (entry_in payload place))
     empty-is =
-        let v : machine.value_of F d (e / 16) ≡ Bytes payload = ap (machine.value_of F d) at ∙ value-at k (Bytes payload) low bytes in
+        let v : machine.value_of F d (e / 16) ≡ Bytes payload = ap (machine.value_of F d) at
+        ∙ value-at k (Bytes payload) low bytes in
         (λ j. is_bytes (v j) && not (is_some (entry-is j)))
 
-    named-by : (o : Option Entry) (named : Named) → named_in o ≡ Some named → (it : Entry) × (o ≡ Some it) × (named ≡ named_by it)
+    named-by : (o : Option Entry) (named : Named) → named_in o ≡ Some named
+        → (it : Entry) × (o ≡ Some it) × (named ≡ named_by it)
     named-by None named en = cc
     named-by (Some it) named en = (it, refl, sym (cc en))
 
     -- what was seen of the place says whether it is a pair
-    paired-as : (s : Seen) (named : Named) → named_in (entry_in payload place) ≡ Some named → IsNamed X (link_to d e dr.generation) named s
+    paired-as : (s : Seen) (named : Named) → named_in (entry_in payload place) ≡ Some named
+        → IsNamed X (link_to d e dr.generation) named s
         → machine.is_paired F d e ≡ is_found s
     paired-as s named en is =
         let (it, eo, ei) = named-by (entry_in payload place) named en in
-        let p : is_some (paired_kind (inode X named.inode) named (link_to d e dr.generation)) ≡ machine.is_paired F d e =
-        subst (λ (q : Named). is_some (paired_kind (inode X q.inode) q (link_to d e dr.generation)) ≡ machine.is_paired F d e) (sym ei)
+        let p : is_some (paired_kind (inode X named.inode) named (link_to d e dr.generation))
+        ≡ machine.is_paired F d e =
+        subst (λ (q : Named). is_some (paired_kind (inode X q.inode) q (link_to d e dr.generation))
+        ≡ machine.is_paired F d e) (sym ei)
         (paired-is F X d e dr match a same folder it (entry-is ∙ eo) (inode X it.inode) refl) in
         sym p ∙ go s is
       where
@@ -185,7 +209,8 @@ module _ (F : Files) (X : Image) (d : ℕ) (dr : Record) (match : FilesMatch F X
         go seen.Dead is = ap is_some is
         go (seen.Found p) is = ap is_some is.0
 
-    some-place : (named : Named) → named_in (entry_in payload place) ≡ Some named → is_some (entry_in payload place) ≡ true
+    some-place : (named : Named) → named_in (entry_in payload place) ≡ Some named
+        → is_some (entry_in payload place) ≡ true
     some-place named en = let (it, eo, ei) = named-by (entry_in payload place) named en in ap is_some eo
 
     not-named : cells.has_name payload name place ≡ false → machine.entry_has_name F d name e ≡ false
@@ -195,26 +220,32 @@ module _ (F : Files) (X : Image) (d : ℕ) (dr : Record) (match : FilesMatch F X
     no-entry en = cell-name payload name place ∙ ap (λ (o : Option Entry). cells.is_named name (cells.name_of o)) en
 
     -- the place was passed
-    pub passes : (v : Unfound) (s : Seen) → is_found s ≡ false → IsSeen X (link_to d e dr.generation) payload place name s → Passed F d name e k v
+    pub passes : (v : Unfound) (s : Seen)
+        → is_found s ≡ false → IsSeen X (link_to d e dr.generation) payload place name s → Passed F d name e k v
         → Passed F d name (e + 1) k (noted v e s)
     passes v seen.Empty nf is p =
         let h = not-named (no-entry is) in
-        subst (λ (o : Option ℕ). Passed F d name (e + 1) k (record v { dead = o; empty = first_or v.empty (Some e) })) (or-none v.dead)
-        (one-as F d name e k v false true p (rw h refl) (rw h refl) (empty-is ∙ ap (λ (o : Option Entry). not (is_some o)) is))
+        subst (λ (o : Option ℕ). Passed F d name (e + 1) k (record v { dead = o; empty = first_or v.empty (Some e) }))
+        (or-none v.dead)
+        (one-as F d name e k v false true p (rw h refl) (rw h refl)
+        (empty-is ∙ ap (λ (o : Option Entry). not (is_some o)) is))
     passes v seen.Other nf is p =
         let h = not-named is.1 in
-        subst (λ (w : Unfound). Passed F d name (e + 1) k w) (λ j. record v { dead = or-none v.dead j; empty = or-none v.empty j })
+        subst (λ (w : Unfound). Passed F d name (e + 1) k w)
+        (λ j. record v { dead = or-none v.dead j; empty = or-none v.empty j })
         (one-as F d name e k v false false p (rw h refl) (rw h refl) (empty-is ∙ ap not is.0))
     passes v seen.Dead nf is p =
         let h = name-is ∙ is.0 in
         let (named, en, nm) = is.1 in
         let q = paired-as seen.Dead named en nm in
-        subst (λ (o : Option ℕ). Passed F d name (e + 1) k (record v { dead = first_or v.dead (Some e); empty = o })) (or-none v.empty)
+        subst (λ (o : Option ℕ). Passed F d name (e + 1) k (record v { dead = first_or v.dead (Some e); empty = o }))
+        (or-none v.empty)
         (one-as F d name e k v true false p (rw (h, q) refl) (rw (h, q) refl) (empty-is ∙ ap not (some-place named en)))
     passes v (seen.Found x) nf is p = cc nf
 
     -- the place has the pair
-    pub found-here : (v : Unfound) (x : Paired) → IsSeen X (link_to d e dr.generation) payload place name (seen.Found x) → Passed F d name e k v
+    pub found-here : (v : Unfound) (x : Paired) → IsSeen X (link_to d e dr.generation) payload place name (seen.Found x)
+        → Passed F d name e k v
         → IsFoundEntry F X d name x
     unfolding machine.found
     found-here v x is p =
@@ -238,12 +269,15 @@ module _ (F : Files) (X : Image) (d : ℕ) (dr : Record) (match : FilesMatch F X
             named = has-that-name it eo is.0;
             paired = ap (machine.is_paired F d) here ∙ q;
             agreed = subst (λ (n : ℕ). agreed (files_in X) n ≡ true) number ag.0;
-            generation = ag.2 ∙ ap (λ (r : Record). r.generation) (ap (inode X) (ap (λ (q : Named). q.inode) (sym ei)) ∙ nm.1);
+            generation =
+                ag.2 ∙ ap (λ (r : Record). r.generation) (ap (inode X) (ap (λ (q : Named). q.inode) (sym ei)) ∙ nm.1);
           };
         }
       where
-        has-that-name : (it : Entry) → entry_in payload place ≡ Some it → cells.has_name payload name place ≡ true → it.name ≡ name
+        has-that-name : (it : Entry) → entry_in payload place ≡ Some it
+            → cells.has_name payload name place ≡ true → it.name ≡ name
         has-that-name it eo h =
-            let b : bytes_eq it.name name ≡ true = sym (cell-name payload name place ∙ ap (λ (o : Option Entry). cells.is_named name (cells.name_of o)) eo)
+            let b : bytes_eq it.name name ≡ true =
+            sym (cell-name payload name place ∙ ap (λ (o : Option Entry). cells.is_named name (cells.name_of o)) eo)
             ∙ h in
             (bytes_eq-Decides it.name name).0 b

@@ -1,5 +1,7 @@
--- The disk after a cell of the data area and a record of the table were written, and what a step on names gives to files.
-use Rattle.std.proofs.Common.{◌≡◌, ◌≢◌, ℕ, ◌+◌, ◌/◌, ◌%◌, ◌<◌, ◌≤◌, Bool, true, false, cond, leb, ltb, leb-true, [], ◌∷◌, length, Option, Some, None, is_some}
+-- The disk after a cell of the data area and a record of the table were written, and what a step on names gives to
+-- files.
+use Rattle.std.proofs.Common.{◌≡◌, ◌≢◌, ℕ, ◌+◌, ◌/◌, ◌%◌, ◌<◌, ◌≤◌, Bool, true, false, cond, leb, ltb, leb-true, []}
+use Rattle.std.proofs.Common.{◌∷◌, length, Option, Some, None, is_some}
 use Rattle.std.proofs.Common.{refl, ◌∙◌, arith}
 use Rattle.std.specs.Prelude.{slice_set}
 use Rattle.std.proofs.lemmas.List.{get_or-set_same, get_or-set_other, length-set}
@@ -30,20 +32,24 @@ module _ (X : Image) (i : ℕ) (x : Pointer) (c1 c2 : Cell) (r' : Record) (whole
   below = (data-place X x.block area).1
 
   inside : (1 ≤ i) × (i ≤ (super_at X).inodes)
-  inside = let b = and-both (leb 1 i) (leb i (super_at X).inodes) has.range in (leb-true 1 i b.0, leb-true i (super_at X).inodes b.1)
+  inside = let b = and-both (leb 1 i) (leb i (super_at X).inodes) has.range in
+      (leb-true 1 i b.0, leb-true i (super_at X).inodes b.1)
 
   pub table-low : table_block i ≤ (super_at X).inodes / 4
   table-low = let a = inside in let q = quarters in omega (arith, a, q)
 
   pub in-table : cell_at after (table_block i) ≡ c2
-  in-table = get_or-set_same (slice_set X x.block c1) (table_block i) c2 no_cell (let l = length-set X x.block c1 in let a = table-low in let t =
+  in-table = get_or-set_same (slice_set X x.block c1) (table_block i) c2 no_cell
+      (let l = length-set X x.block c1 in let a = table-low in let t =
       table in let w = whole in omega (arith, l, a, t, w))
 
   pub elsewhere : (b : ℕ) → b ≢ x.block → b ≢ table_block i → cell_at after b ≡ cell_at X b
-  elsewhere b n m = get_or-set_other (slice_set X x.block c1) (table_block i) b c2 no_cell m ∙ get_or-set_other X x.block b c1 no_cell n
+  elsewhere b n m = get_or-set_other (slice_set X x.block c1) (table_block i) b c2 no_cell m
+      ∙ get_or-set_other X x.block b c1 no_cell n
 
   pub in-slot : cell_at after x.block ≡ c1
-  in-slot = get_or-set_other (slice_set X x.block c1) (table_block i) x.block c2 no_cell (λ e. let a = above in let b = table-low in omega (arith, a, b, e))
+  in-slot = get_or-set_other (slice_set X x.block c1) (table_block i) x.block c2 no_cell
+      (λ e. let a = above in let b = table-low in omega (arith, a, b, e))
       ∙ get_or-set_same X x.block c1 no_cell (let b = below in let w = whole in omega (arith, b, w))
 
   pub super-stays : cell_at after 0 ≡ cell_at X 0
@@ -70,13 +76,15 @@ KeepsFile None = Unit {0}
 KeepsFile (Some Gone) = ⊥
 KeepsFile (Some (Is kind size links)) = Unit {0}
 
-module _ (F : Files) (d g k : ℕ) (v : Value) (metas : ℕ → ℕ → Option Meta) (j : ℕ) (keeps : (h : ℕ) → KeepsFile (metas j h)) where
+module _ (F : Files) (d g k : ℕ) (v : Value) (metas : ℕ → ℕ → Option Meta) (j : ℕ)
+    (keeps : (h : ℕ) → KeepsFile (metas j h)) where
   meta-some : (o : Option Meta) (f : FileState) → KeepsFile o → is_some (after_meta o f) ≡ true
   meta-some None f h = refl
   meta-some (Some Gone) f h = absurd h
   meta-some (Some (Is kind size links)) f h = refl
 
-  meta-block : (o : Option Meta) (f : FileState) (slot : ℕ) → KeepsFile o → block_in (Some f) slot ≡ true → block_in (after_meta o f) slot ≡ true
+  meta-block : (o : Option Meta) (f : FileState) (slot : ℕ) → KeepsFile o
+      → block_in (Some f) slot ≡ true → block_in (after_meta o f) slot ≡ true
   meta-block None f slot h e = e
   meta-block (Some Gone) f slot h e = absurd h
   meta-block (Some (Is kind size links)) f slot h e = e
@@ -88,15 +96,19 @@ module _ (F : Files) (d g k : ℕ) (v : Value) (metas : ℕ → ℕ → Option M
       go None = refl
       go (Some f) = meta-some (metas j f.generation) (filled (cell_given d g k v metas) j f) (keeps f.generation)
 
-  pub file-blocks : (slot : ℕ) → is_bytes v ≡ true → block_in (F j) slot ≡ true → block_in (files_after F (cell_given d g k v metas) j) slot ≡ true
+  pub file-blocks : (slot : ℕ) → is_bytes v ≡ true → block_in (F j) slot ≡ true
+      → block_in (files_after F (cell_given d g k v metas) j) slot ≡ true
   file-blocks slot ev = go (F j)
     where
-      inside' : (f : FileState) (b : Bool) → cond b (is_bytes (f.values slot)) (is_present (f.nodes (path_of slot))) ≡ true
+      inside' : (f : FileState) (b : Bool)
+          → cond b (is_bytes (f.values slot)) (is_present (f.nodes (path_of slot))) ≡ true
           → cond b (is_bytes ((filled (cell_given d g k v metas) j f).values slot))
           (is_present ((filled (cell_given d g k v metas) j f).nodes (path_of slot))) ≡ true
       inside' f true e = kept-bytes _ v (f.values slot) ev e
       inside' f false e = kept-node _ (f.nodes (path_of slot)) e
 
-      go : (o : Option FileState) → block_in o slot ≡ true → block_in (file_after (cell_given d g k v metas) j o) slot ≡ true
+      go : (o : Option FileState)
+          → block_in o slot ≡ true → block_in (file_after (cell_given d g k v metas) j o) slot ≡ true
       go None e = e
-      go (Some f) e = meta-block (metas j f.generation) (filled (cell_given d g k v metas) j f) slot (keeps f.generation) (inside' f (ltb slot slot_limit) e)
+      go (Some f) e = meta-block (metas j f.generation) (filled (cell_given d g k v metas) j f) slot
+          (keeps f.generation) (inside' f (ltb slot slot_limit) e)

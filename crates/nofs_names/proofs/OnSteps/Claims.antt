@@ -1,5 +1,6 @@
 -- A step that claims blocks for one slot, or none, and perhaps an inode: what was claimed is used, and known to be.
-use Rattle.std.proofs.Common.{◌≡◌, ◌≢◌, ℕ, ◌+◌, ◌-◌, ◌<◌, ◌≤◌, Bool, true, false, cond, ltb, ◌&&◌, ◌||◌, not, List, Option, Some, None, is_some, inl, inr, refl}
+use Rattle.std.proofs.Common.{◌≡◌, ◌≢◌, ℕ, ◌+◌, ◌-◌, ◌<◌, ◌≤◌, Bool, true, false, cond, ltb, ◌&&◌, ◌||◌, not, List}
+use Rattle.std.proofs.Common.{Option, Some, None, is_some, inl, inr, refl}
 use Rattle.std.proofs.Common.{sym, ap, ◌∙◌, subst, arith}
 use Rattle.std.proofs.lemmas.Bool.{cases_eq}
 use Rattle.std.proofs.Math.Bool.{and-false, or-true}
@@ -9,8 +10,10 @@ use Rattle.nofs_model.specs.Cells.{Pointer, SuperBlock}
 use Rattle.nofs_model.specs.Image.{Image, is_special, Files, Home}
 use Rattle.nofs_model.proofs.OnSlots.Find.{and-both}
 use Rattle.nofs_history.specs.Machine.{gives, files_after}
-use Rattle.nofs_history.specs.World.{World, is_fixed, is_free_inode, blocks_needed, inodes_needed, uses_inode, uses_block}
-use Rattle.nofs_history.specs.Claims.{cell_slot, has_block, homes_after, claimed_home, next_stamp, IsClaim, IsInodeClaim, ClaimedInode}
+use Rattle.nofs_history.specs.World.{World, is_fixed, is_free_inode, blocks_needed, inodes_needed, uses_inode}
+use Rattle.nofs_history.specs.World.{uses_block}
+use Rattle.nofs_history.specs.Claims.{cell_slot, has_block, homes_after, claimed_home, next_stamp, IsClaim}
+use Rattle.nofs_history.specs.Claims.{IsInodeClaim, ClaimedInode}
 use Rattle.nofs_history.specs.History.{FilesMatch}
 use Rattle.nofs_history.specs.Next.{Learns, sees_inode, sees_block}
 use Rattle.nofs_history.specs.declared.machine.history.Claims.{Claims}
@@ -48,7 +51,8 @@ pub record IsClaiming (W : World) (s : Step) (c : Claims) (G : Files) (at : Home
 
 -- the books after it: the numbers and what is known stay, so many stamps are used, and the claimed blocks are not free
 pub record Taken (k l : Books) (c : Claims) (n : ℕ) : Type 0 where
-  pub same : l ≡ record k { free_inodes = l.free_inodes; agreement = l.agreement; free_blocks = l.free_blocks; serial = k.serial + n }
+  pub same : l ≡ record k
+      { free_inodes = l.free_inodes; agreement = l.agreement; free_blocks = l.free_blocks; serial = k.serial + n }
   pub here : (x : Pointer) → IsClaimed c x → is_set l.free_blocks x.block ≡ false
   pub other : (m : ℕ) → ((x : Pointer) → IsClaimed c x → m ≢ x.block) → is_set l.free_blocks m ≡ is_set k.free_blocks m
 
@@ -81,7 +85,8 @@ pub data InodeAfter (W : World) (k l : Books) (G : Files) (j : ℕ) : Type 0 whe
   WasLeft : is_some (G j) ≡ is_some (W.files j) → (1 ≤ j → is_set l.free_inodes (j - 1) ≡ is_set k.free_inodes (j - 1))
       → known_agreement l.agreement j ≡ known_agreement k.agreement j → InodeAfter W k l G j
 
-module _ (X : Image) (k l : Books) (W : World) (s : Step) (c : Claims) (n : ℕ) (G : Files) (at : Home) (says : Says k W) (match : FilesMatch W.files X)
+module _ (X : Image) (k l : Books) (W : World) (s : Step) (c : Claims) (n : ℕ) (G : Files) (at : Home) (says : Says k W)
+    (match : FilesMatch W.files X)
     (homes : HomesMatch W X) (past : (b : ℕ) → W.blocks ≤ b → W.homes b ≡ None)
     (claiming : IsClaiming W s c G at) (taken : Taken k l c n) (needs : inodes_needed s + blocks_needed W.files s ≡ n)
     (inode : (j : ℕ) → InodeAfter W k l G j) where
@@ -137,7 +142,8 @@ module _ (X : Image) (k l : Books) (W : World) (s : Step) (c : Claims) (n : ℕ)
   block-known m = says.known_blocks m ∙ sym (ap (λ (b : Books). knows_block b m) taken.same)
 
   known-here : (x : Pointer) → IsClaimed c x → W.known_blocks x.block ≡ true
-  known-here x q = (and-both (W.known_blocks x.block) (not (uses_block W x.block)) (claim-was W s c x claiming.claim q).0).0
+  known-here x q =
+      (and-both (W.known_blocks x.block) (not (uses_block W x.block)) (claim-was W s c x claiming.claim q).0).0
 
   learns : Learns W s true V
   learns = record {
@@ -164,7 +170,8 @@ module _ (X : Image) (k l : Books) (W : World) (s : Step) (c : Claims) (n : ℕ)
     blocks = says.blocks ∙ ap (λ (q : SuperBlock). q.blocks) (sym l-at);
     inodes = says.inodes ∙ ap (λ (q : SuperBlock). q.inodes) (sym l-at);
     mount = says.mount ∙ ap (λ (q : SuperBlock). q.mount) (sym l-at);
-    serial = (let m = needs in let q = says.serial in let e = ap (λ (b : Books). b.serial) taken.same in omega (arith, m, q, e));
+    serial = (let m = needs in let q = says.serial in let e = ap (λ (b : Books). b.serial) taken.same in
+        omega (arith, m, q, e));
     stopped = says.stopped ∙ ap (λ (b : Books). b.stopped) (sym taken.same);
     known_inodes = λ j. refl;
     known_blocks = λ m. refl;
@@ -178,13 +185,15 @@ module _ (X : Image) (k l : Books) (W : World) (s : Step) (c : Claims) (n : ℕ)
     agreement = λ j a t. agrees j a t (inode j);
   }
     where
-      free-inode : (j : ℕ) → 1 ≤ j → j ≤ k.at.inodes → InodeAfter W k l G j → is_set l.free_inodes (j - 1) ≡ is_free_inode V j
+      free-inode : (j : ℕ) → 1 ≤ j → j ≤ k.at.inodes → InodeAfter W k l G j
+          → is_set l.free_inodes (j - 1) ≡ is_free_inode V j
       free-inode j low high (WasMade known made free known_agreement) = free
           ∙ sym (ap (λ (t : Bool). knows_inode l j && not t) (V-made j made) ∙ and-false (knows_inode l j))
       free-inode j low high (WasLeft used free known_agreement) = free low ∙ says.free_inodes j low high
           ∙ (λ q. inode-known j q && not (sym (V-left j used) q))
 
-      agrees : (j : ℕ) (a : Bool) → known_agreement l.agreement j ≡ Some a → InodeAfter W k l G j → is_some (V.files j) ≡ a
+      agrees : (j : ℕ) (a : Bool) → known_agreement l.agreement j ≡ Some a → InodeAfter W k l G j
+          → is_some (V.files j) ≡ a
       agrees j a t (WasMade known made free is) = V-file j ∙ made ∙ is a t
       agrees j a t (WasLeft used free is) = V-file j ∙ used ∙ says.agreement j a (sym is ∙ t)
 
@@ -210,7 +219,8 @@ pub made-inode : (W : World) (k l : Books) (c : Claims) (G : Files) → InodeWas
     → ((j : ℕ) → j ≢ c.inode → is_some (G j) ≡ is_some (W.files j)) → (j : ℕ) → InodeAfter W k l G j
 made-inode W k l c G was taken made used j = elim (cases_eq j c.inode) [
   | inl here ↦ subst (InodeAfter W k l G) (sym here)
-      (WasMade (and-both (W.known_inodes c.inode) (not (uses_inode W c.inode)) was.free).0 made taken.here (λ a t. is-true a (taken.agreed a t)))
+      (WasMade (and-both (W.known_inodes c.inode) (not (uses_inode W c.inode)) was.free).0 made taken.here
+      (λ a t. is-true a (taken.agreed a t)))
   | inr other ↦ WasLeft (used j other) (λ low. taken.others j low other) (taken.told_as j other)
 ]
   where
@@ -219,7 +229,9 @@ made-inode W k l c G was taken made used j = elim (cases_eq j c.inode) [
 
 -- A step that claims no inode
 
-pub left-inode : (W : World) (k l : Books) (c : Claims) (n : ℕ) (G : Files) → Takes k l c n → ((j : ℕ) → is_some (G j) ≡ is_some (W.files j)) → (j : ℕ)
+pub left-inode : (W : World) (k l : Books) (c : Claims) (n : ℕ) (G : Files) → Takes k l c n
+    → ((j : ℕ) → is_some (G j) ≡ is_some (W.files j)) → (j : ℕ)
     → InodeAfter W k l G j
-left-inode W k l c n G takes used j = WasLeft (used j) (λ low. ap (λ (b : Books). is_set b.free_inodes (j - 1)) takes.same)
+left-inode W k l c n G takes used j =
+    WasLeft (used j) (λ low. ap (λ (b : Books). is_set b.free_inodes (j - 1)) takes.same)
     (ap (λ (b : Books). known_agreement b.agreement j) takes.same)

@@ -1,5 +1,6 @@
 -- A step that claims nothing and leaves used what was used: what the maps say stays.
-use Rattle.std.proofs.Common.{◌≡◌, ℕ, ◌+◌, ◌≤◌, Bool, true, false, cond, ltb, ◌&&◌, ◌||◌, not, Option, Some, None, is_some, unwrap_or, inl, refl, sym, ap, ◌∙◌}
+use Rattle.std.proofs.Common.{◌≡◌, ℕ, ◌+◌, ◌≤◌, Bool, true, false, cond, ltb, ◌&&◌, ◌||◌, not, Option, Some, None}
+use Rattle.std.proofs.Common.{is_some, unwrap_or, inl, refl, sym, ap, ◌∙◌}
 use Rattle.std.proofs.Common.{subst, arith}
 use Rattle.nofs_ptrs.specs.Paths.{slot_limit}
 use Rattle.nofs_model.specs.Cells.{null}
@@ -9,7 +10,8 @@ use Rattle.nofs_model.specs.declared.image.value.Value.TheVariants.{Hole}
 use Rattle.nofs_history.specs.Meta.{is_bytes}
 use Rattle.nofs_history.specs.Machine.{gives, cell_given, no_meta, files_after, filled}
 use Rattle.nofs_history.specs.World.{World, is_fixed, blocks_needed, inodes_needed, uses_inode, uses_block}
-use Rattle.nofs_history.specs.Claims.{no_claims, IsBlockClaim, next_stamp, has_block, homes_after, claimed_home, IsClaim, IsInodeClaim, Unclaimed}
+use Rattle.nofs_history.specs.Claims.{no_claims, IsBlockClaim, next_stamp, has_block, homes_after, claimed_home}
+use Rattle.nofs_history.specs.Claims.{IsClaim, IsInodeClaim, Unclaimed}
 use Rattle.nofs_history.specs.Claims.{NoInode, is_present}
 use Rattle.nofs_history.specs.History.{FilesMatch}
 use Rattle.nofs_history.specs.Next.{Learns, sees_inode, sees_block}
@@ -32,17 +34,22 @@ pub record IsQuiet (W : World) (s : Step) (G : Files) : Type 0 where
   pub sees_no_inode : (i : ℕ) → sees_inode s i ≡ false
   pub sees_no_block : (p : ℕ) → sees_block s p ≡ false
 
-module _ (X : Image) (k : Books) (W : World) (s : Step) (G : Files) (says : Says k W) (match : FilesMatch W.files X) (homes : HomesMatch W X) (past : (b : ℕ)
+module _ (X : Image) (k : Books) (W : World) (s : Step) (G : Files) (says : Says k W) (match : FilesMatch W.files X)
+    (homes : HomesMatch W X) (past : (b : ℕ)
     → W.blocks ≤ b → W.homes b ≡ None) (quiet : IsQuiet W s G) where
   abbrev V : World
   V = after_world W s no_claims k
 
   pub quiet-claim : IsClaim W s no_claims
   quiet-claim = record {
-    inode = subst (λ (n : ℕ). IsInodeClaim W (next_stamp W) no_claims (ltb 0 n)) (sym quiet.no_inode) (NoInode refl refl);
-    cell = subst (λ (n : ℕ). IsBlockClaim W (next_stamp W + inodes_needed s) null (ltb 0 n)) (sym quiet.no_block) (Unclaimed refl);
-    leaf = subst (λ (n : ℕ). IsBlockClaim W (next_stamp W + inodes_needed s + 1) null (ltb 1 n)) (sym quiet.no_block) (Unclaimed refl);
-    top = subst (λ (n : ℕ). IsBlockClaim W (next_stamp W + inodes_needed s + 2) null (ltb 2 n)) (sym quiet.no_block) (Unclaimed refl);
+    inode = subst (λ (n : ℕ). IsInodeClaim W (next_stamp W) no_claims (ltb 0 n)) (sym quiet.no_inode)
+        (NoInode refl refl);
+    cell = subst (λ (n : ℕ). IsBlockClaim W (next_stamp W + inodes_needed s) null (ltb 0 n)) (sym quiet.no_block)
+        (Unclaimed refl);
+    leaf = subst (λ (n : ℕ). IsBlockClaim W (next_stamp W + inodes_needed s + 1) null (ltb 1 n)) (sym quiet.no_block)
+        (Unclaimed refl);
+    top = subst (λ (n : ℕ). IsBlockClaim W (next_stamp W + inodes_needed s + 2) null (ltb 2 n)) (sym quiet.no_block)
+        (Unclaimed refl);
     apart = tt;
   }
 
@@ -50,10 +57,12 @@ module _ (X : Image) (k : Books) (W : World) (s : Step) (G : Files) (says : Says
   homes-same q = rw (quiet.none_claimed q, homes_after) (go (W.homes q) refl)
     where
       go : (h : Option Home) → W.homes q ≡ h
-          → (elim h as (λ (_ : Option Home). Option Home) [ None ↦ None | Some home ↦ cond (has_block V.files home) (Some home) None ]) ≡ h
+          → (elim h as (λ (_ : Option Home). Option Home)
+          [ None ↦ None | Some home ↦ cond (has_block V.files home) (Some home) None ]) ≡ h
       go None e = refl
       go (Some home) e = let b : has_block V.files home ≡ true =
-          subst (λ (F : Files). has_block F home ≡ true) (sym quiet.files) (quiet.blocks home (home-has W X match homes past q home e)) in rw b refl
+          subst (λ (F : Files). has_block F home ≡ true) (sym quiet.files)
+          (quiet.blocks home (home-has W X match homes past q home e)) in rw b refl
 
   V-file : (j : ℕ) → is_some (V.files j) ≡ is_some (W.files j)
   V-file j = (λ q. is_some (quiet.files q j)) ∙ quiet.used j
@@ -96,11 +105,13 @@ module _ (X : Image) (k : Books) (W : World) (s : Step) (G : Files) (says : Says
 
 -- A cell of a directory is given, and nothing else
 
-pub kept-bytes : (b : Bool) (u v : Value) → is_bytes u ≡ true → is_bytes v ≡ true → is_bytes (unwrap_or (cond b (Some u) None) v) ≡ true
+pub kept-bytes : (b : Bool) (u v : Value)
+    → is_bytes u ≡ true → is_bytes v ≡ true → is_bytes (unwrap_or (cond b (Some u) None) v) ≡ true
 kept-bytes true u v eu e = eu
 kept-bytes false u v eu e = e
 
-pub kept-node : (b : Bool) (v : NodeState) → is_present v ≡ true → is_present (unwrap_or (cond b (Some Present) None) v) ≡ true
+pub kept-node : (b : Bool) (v : NodeState)
+    → is_present v ≡ true → is_present (unwrap_or (cond b (Some Present) None) v) ≡ true
 kept-node true v e = refl
 kept-node false v e = e
 
@@ -108,11 +119,13 @@ abbrev pub block_in : Option FileState → ℕ → Bool
 block_in o k = cond (ltb k slot_limit) (is_bytes (elim o [ None ↦ Hole | Some f ↦ f.values k ]))
     (is_present (elim o [ None ↦ Absent | Some f ↦ f.nodes (path_of k) ]))
 
-pub cell-used : (F : Files) (d g k : ℕ) (v : Value) (j : ℕ) → is_some (files_after F (cell_given d g k v no_meta) j) ≡ is_some (F j)
+pub cell-used : (F : Files) (d g k : ℕ) (v : Value) (j : ℕ)
+    → is_some (files_after F (cell_given d g k v no_meta) j) ≡ is_some (F j)
 cell-used F d g k v j = go (F j)
   where
     go : (o : Option FileState)
-        → is_some (elim o as (λ (_ : Option FileState). Option FileState) [ None ↦ None | Some f ↦ Some (filled (cell_given d g k v no_meta) j f) ]) ≡ is_some o
+        → is_some (elim o as (λ (_ : Option FileState). Option FileState)
+        [ None ↦ None | Some f ↦ Some (filled (cell_given d g k v no_meta) j f) ]) ≡ is_some o
     go None = refl
     go (Some f) = refl
 
@@ -120,12 +133,14 @@ pub cell-blocks : (F : Files) (d g k : ℕ) (v : Value) → is_bytes v ≡ true 
     → has_block (files_after F (cell_given d g k v no_meta)) home ≡ true
 cell-blocks F d g k v ev home h = go (F home.inode) refl h
   where
-    inside : (f : FileState) (b : Bool) → cond b (is_bytes (f.values home.slot)) (is_present (f.nodes (path_of home.slot))) ≡ true
+    inside : (f : FileState) (b : Bool)
+        → cond b (is_bytes (f.values home.slot)) (is_present (f.nodes (path_of home.slot))) ≡ true
         → cond b (is_bytes ((filled (cell_given d g k v no_meta) home.inode f).values home.slot))
         (is_present ((filled (cell_given d g k v no_meta) home.inode f).nodes (path_of home.slot))) ≡ true
     inside f true e = kept-bytes _ v (f.values home.slot) ev e
     inside f false e = kept-node _ (f.nodes (path_of home.slot)) e
 
-    go : (o : Option FileState) → F home.inode ≡ o → block_in o home.slot ≡ true → has_block (files_after F (cell_given d g k v no_meta)) home ≡ true
+    go : (o : Option FileState) → F home.inode ≡ o → block_in o home.slot ≡ true
+        → has_block (files_after F (cell_given d g k v no_meta)) home ≡ true
     go None eo e = rw eo e
     go (Some f) eo e = rw eo (inside f (ltb home.slot slot_limit) e)

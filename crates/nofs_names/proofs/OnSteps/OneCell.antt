@@ -1,5 +1,6 @@
 -- The disk after one cell of the data area was written.
-use Rattle.std.proofs.Common.{◌≡◌, ◌≢◌, ℕ, ◌+◌, ◌-◌, ◌/◌, ◌%◌, ◌<◌, ◌≤◌, Bool, true, false, leb, ltb, ltb-true, leb-true, ◌&&◌, [], ◌∷◌, length, refl, sym, ap}
+use Rattle.std.proofs.Common.{◌≡◌, ◌≢◌, ℕ, ◌+◌, ◌-◌, ◌/◌, ◌%◌, ◌<◌, ◌≤◌, Bool, true, false, leb, ltb, ltb-true}
+use Rattle.std.proofs.Common.{leb-true, ◌&&◌, [], ◌∷◌, length, refl, sym, ap}
 use Rattle.std.proofs.Common.{◌∙◌, arith}
 use Rattle.std.proofs.lemmas.List.{get_or-set_same, get_or-set_other}
 use Rattle.nofs_disk.specs.Disk.{cell_at, no_cell}
@@ -9,7 +10,8 @@ use Rattle.nofs_model.proofs.OnSlots.Find.{and-both}
 use Rattle.nofs_model.proofs.OnSound.Writes.{supers}
 use Rattle.nofs_state.specs.Writes.Cells.{image_after}
 
-in-table : (X : Image) (j : ℕ) → is_inode X j ≡ true → inode X j ≡ record_at (cell_at X (1 + (j - 1) / 4)).payload ((j - 1) % 4)
+in-table : (X : Image) (j : ℕ)
+    → is_inode X j ≡ true → inode X j ≡ record_at (cell_at X (1 + (j - 1) / 4)).payload ((j - 1) % 4)
 unfolding inode
 in-table X j e = rw e refl
 
@@ -18,12 +20,14 @@ unfolding inode
 outside X j e = rw e refl
 
 -- where a block of the data area lies
-pub data-place : (X : Image) (b : ℕ) → is_data_block X b ≡ true → (1 + (super_at X).inodes / 4 ≤ b) × (b < (super_at X).blocks)
+pub data-place : (X : Image) (b : ℕ) → is_data_block X b ≡ true → (1 + (super_at X).inodes / 4 ≤ b)
+    × (b < (super_at X).blocks)
 data-place X b area =
     let p = and-both (leb (1 + (super_at X).inodes / 4) b) (ltb b (super_at X).blocks) area in
     (leb-true (1 + (super_at X).inodes / 4) b p.0, ltb-true b (super_at X).blocks p.1)
 
-module _ (X : Image) (x : Pointer) (c : Cell) (whole : (super_at X).blocks ≤ length X) (quarters : (super_at X).inodes % 4 ≡ 0)
+module _ (X : Image) (x : Pointer) (c : Cell) (whole : (super_at X).blocks ≤ length X)
+    (quarters : (super_at X).inodes % 4 ≡ 0)
     (area : is_data_block X x.block ≡ true) where
   abbrev pub after : Image
   after = image_after ((x.block, c) ∷ []) X
@@ -56,4 +60,5 @@ module _ (X : Image) (x : Pointer) (c : Cell) (whole : (super_at X).blocks ≤ l
           let one = leb-true 1 j b.0 in
           let most = leb-true j (super_at X).inodes b.1 in
           in-table after j (range ∙ e) ∙ ap (λ (q : Cell). record_at q.payload ((j - 1) % 4))
-          (elsewhere (1 + (j - 1) / 4) (λ n. let a = above in let q = quarters in omega (arith, a, one, most, q, n))) ∙ sym (in-table X j e)
+          (elsewhere (1 + (j - 1) / 4) (λ n. let a = above in let q = quarters in omega (arith, a, one, most, q, n)))
+          ∙ sym (in-table X j e)

@@ -1,5 +1,6 @@
 -- A step on names: what an open mount gives to it, what its writes owe, and what follows from them.
-use Rattle.std.proofs.Common.{◌≡◌, ◌≢◌, ℕ, ◌+◌, ◌-◌, ◌/◌, ◌%◌, ◌≤◌, Bool, true, false, eqb, eqb-true, leb, ltb, ◌&&◌, ◌||◌, List, [], ◌∷◌, ◌++◌, length, None}
+use Rattle.std.proofs.Common.{◌≡◌, ◌≢◌, ℕ, ◌+◌, ◌-◌, ◌/◌, ◌%◌, ◌≤◌, Bool, true, false, eqb, eqb-true, leb, ltb, ◌&&◌}
+use Rattle.std.proofs.Common.{◌||◌, List, [], ◌∷◌, ◌++◌, length, None}
 use Rattle.std.proofs.Common.{Some, is_some, IsTrue, Result, Ok, Err, refl, sym, ap, ◌∙◌, subst, subst₂, arith}
 use Rattle.std.proofs.lemmas.Bool.{eqb-false, lt-leb}
 use Rattle.nofs_disk.specs.Disk.{DiskState, IsDisk, Picks, cell_at}
@@ -71,7 +72,8 @@ pub record OpenImage (d : DiskState) (H : List Entry1) (p : Past) : Type 0 where
   pub area : (b : ℕ) → is_data_block d.now b ≡ true → is_data_block p.mark b ≡ true
   pub table : (b : ℕ) → b ≤ (super_at d.now).inodes / 4 → is_data_block p.mark b ≡ false
 
-pub open-image : (d : DiskState) (k : Books) (H : List Entry1) (p : Past) → IsDisk d → IsTrue d.tells → IsOpen d k H p → OpenImage d H p
+pub open-image : (d : DiskState) (k : Books) (H : List Entry1) (p : Past) → IsDisk d → IsTrue d.tells → IsOpen d k H p
+    → OpenImage d H p
 open-image d k H p is tells o = record {
   geometry = geometry;
   match = open-files d k H p o;
@@ -81,7 +83,8 @@ open-image d k H p is tells o = record {
   super = super;
   area = λ b. subst (λ (z : SuperBlock). (leb (1 + z.inodes / 4) b && ltb b z.blocks) ≡ true) (sym super);
   table = λ b low. ap (λ (z : SuperBlock). leb (1 + z.inodes / 4) b && ltb b z.blocks) super
-      ∙ (let t : leb (1 + (super_at d.now).inodes / 4) b ≡ false = lt-leb (1 + (super_at d.now).inodes / 4) b (omega (arith, low)) in rw t refl);
+      ∙ (let t : leb (1 + (super_at d.now).inodes / 4) b ≡ false =
+      lt-leb (1 + (super_at d.now).inodes / 4) b (omega (arith, low)) in rw t refl);
 }
   where
     geometry : IsGeometry (length d.now) (super_at d.now).blocks (super_at d.now).inodes
@@ -95,7 +98,8 @@ open-image d k H p is tells o = record {
     pick = now-picks d p.mark is tells o.stage.ready.survives.size
 
     survives : Survives (mark_at p.base H (d.moment + 1) p.mark p.stamps) d.now
-    survives = law-images (mark_at p.base H (d.moment + 1) p.mark p.stamps) d.may d.now o.stage.ready.survives.mark o.stage.ready.survives.explained pick
+    survives = law-images (mark_at p.base H (d.moment + 1) p.mark p.stamps) d.may d.now o.stage.ready.survives.mark
+        o.stage.ready.survives.explained pick
 
     super : super_at p.mark ≡ super_at d.now
     super = supers d.now p.mark (sym survives.reads.super)
@@ -111,8 +115,10 @@ pub record GivesName (W : World) (Y : Image) (s : Step) (c : Claims) (given : Gi
   pub used : (j : ℕ) → j ≢ i → is_some (files_after W.files given j) ≡ is_some (W.files j)
   pub owned : is_live (inode Y i) ≡ true → is_some (files_after W.files given i) ≡ true
 
-pub record WritesName (old : DiskState) (H : List Entry1) (p : Past) (s : Step) (c : Claims) (given : Given) (d i : ℕ) (ws : List (ℕ × Cell)) : Type 0 where
-  pub proper : (b : ℕ) (cell : Cell) → OneOf ws b cell → Proper (during (mark_at p.base H (old.moment + 1) p.mark p.stamps) given) old.now b cell
+pub record WritesName (old : DiskState) (H : List Entry1) (p : Past) (s : Step) (c : Claims) (given : Given) (d i : ℕ)
+    (ws : List (ℕ × Cell)) : Type 0 where
+  pub proper : (b : ℕ) (cell : Cell) → OneOf ws b cell
+      → Proper (during (mark_at p.base H (old.moment + 1) p.mark p.stamps) given) old.now b cell
   pub numbers : (b : ℕ) (cell : Cell) → OneOf ws b cell → CellNumbers (Numbered p.world c) old.now b cell
   pub files : FilesMatch (files_after p.world.files given) (image_after ws old.now)
   pub move : HomesMove p.world.files s c old.now (image_after ws old.now)
@@ -120,7 +126,8 @@ pub record WritesName (old : DiskState) (H : List Entry1) (p : Past) (s : Step) 
   -- each cell is what a read gives when all are written
   pub last : (b : ℕ) (cell : Cell) → OneOf ws b cell → cell ≡ cell_at (image_after ws old.now) b
 
-pub record NameStep (old : DiskState) (H : List Entry1) (p : Past) (s : Step) (c : Claims) (ws : List (ℕ × Cell)) : Type 0 where
+pub record NameStep (old : DiskState) (H : List Entry1) (p : Past) (s : Step) (c : Claims)
+    (ws : List (ℕ × Cell)) : Type 0 where
   pub given : Given
   pub directory : ℕ
   pub file : ℕ
@@ -138,7 +145,8 @@ pub record Follows (W : World) (s : Step) (c : Claims) (l : Books) : Type 0 wher
   pub learns : Learns W s true (after_world W s c l)
   pub says : Says l (after_world W s c l)
 
-module _ (old new : DiskState) (k : Books) (H : List Entry1) (p : Past) (s : Step) (c : Claims) (ws : List (ℕ × Cell)) (is_old : IsDisk old)
+module _ (old new : DiskState) (k : Books) (H : List Entry1) (p : Past) (s : Step) (c : Claims) (ws : List (ℕ × Cell))
+    (is_old : IsDisk old)
     (tells : IsTrue old.tells) (o : IsOpen old k H p) (it : NameStep old H p s c ws) where
   abbrev W : World
   W = p.world
@@ -157,7 +165,8 @@ module _ (old new : DiskState) (k : Books) (H : List Entry1) (p : Past) (s : Ste
 
   proper-one : (G : Given) → G ≡ it.given → (b : ℕ) (cell : Cell) → OneOf ws b cell
       → Proper (during (mark_at p.base H (old.moment + 1) p.mark p.stamps) G) old.now b cell
-  proper-one G e b cell one = subst (λ (z : Given). Proper (during (mark_at p.base H (old.moment + 1) p.mark p.stamps) z) old.now b cell) (sym e)
+  proper-one G e b cell one = subst
+      (λ (z : Given). Proper (during (mark_at p.base H (old.moment + 1) p.mark p.stamps) z) old.now b cell) (sym e)
       (it.ends.proper b cell one)
 
   or-parts : (a b : Bool) → (a || b) ≡ false → (a ≡ false) × (b ≡ false)
@@ -166,10 +175,13 @@ module _ (old new : DiskState) (k : Books) (H : List Entry1) (p : Past) (s : Ste
   or-parts false false e = (refl, refl)
 
   nothing-else : (j : ℕ) → (eqb j d || eqb j i) ≡ false → GivesNothing it.given j
-  nothing-else j t = let a = or-parts (eqb j d) (eqb j i) t in it.gives.nothing j (eqb-false j d a.0) (eqb-false j i a.1)
+  nothing-else j t = let a = or-parts (eqb j d) (eqb j i) t in
+      it.gives.nothing j (eqb-false j d a.0) (eqb-false j i a.1)
 
-  owned : (j : ℕ) (b : Bool) → eqb j i ≡ b → (eqb j d || eqb j i) ≡ true → is_live (inode Y j) ≡ true → is_some (files_after W.files it.given j) ≡ true
-  owned j true e t live = let same = eqb-true j i e in subst (λ (n : ℕ). is_some (files_after W.files it.given n) ≡ true) (sym same)
+  owned : (j : ℕ) (b : Bool) → eqb j i ≡ b → (eqb j d || eqb j i) ≡ true → is_live (inode Y j) ≡ true
+      → is_some (files_after W.files it.given j) ≡ true
+  owned j true e t live = let same = eqb-true j i e in
+      subst (λ (n : ℕ). is_some (files_after W.files it.given n) ≡ true) (sym same)
       (it.gives.owned (subst (λ (n : ℕ). is_live (inode Y n) ≡ true) same live))
   owned j false e t live = it.gives.used j (eqb-false j i e)
       ∙ subst (λ (n : ℕ). is_some (W.files n) ≡ true) (sym (eqb-true j d (only (eqb j d) (eqb j i) e t))) it.gives.there
@@ -179,33 +191,39 @@ module _ (old new : DiskState) (k : Books) (H : List Entry1) (p : Past) (s : Ste
       only false b eb h = cc (eb, h)
 
   rest : (e : Entry1) → given_by (files_along (agreed_files p.base) H) e ≡ it.given → SteadyRest p.base (H ++ e ∷ []) Y
-  rest e ge = law-rest p.base H e (next_stamp W) (λ j. eqb j d || eqb j i) old.now Y (files_after W.files it.given) o.rest (record {
-    before = o.stage.ready.files;
-    after = it.ends.files;
-    touches = touches-of (next_stamp W) d i old.now Y it.ends.writes;
-    old = (open-image old k H p is_old tells o).pointers;
-    owned = λ j t live. owned j (eqb j i) refl t live;
-    stays = λ j t some. let a = or-parts (eqb j d) (eqb j i) t in it.gives.used j (eqb-false j i a.1) ∙ ap (λ (F : Files). is_some (F j)) o.files ∙ some;
-    no_value = λ j h l t some. (λ z. (ge z).slots j h l) ∙ (nothing-else j t).slots h l;
-    no_meta = λ j h t some. (λ z. (ge z).metas j h) ∙ (nothing-else j t).metas h;
-  })
+  rest e ge = law-rest p.base H e (next_stamp W) (λ j. eqb j d || eqb j i) old.now Y
+      (files_after W.files it.given) o.rest (record {
+        before = o.stage.ready.files;
+        after = it.ends.files;
+        touches = touches-of (next_stamp W) d i old.now Y it.ends.writes;
+        old = (open-image old k H p is_old tells o).pointers;
+        owned = λ j t live. owned j (eqb j i) refl t live;
+        stays = λ j t some. let a = or-parts (eqb j d) (eqb j i) t in
+            it.gives.used j (eqb-false j i a.1) ∙ ap (λ (F : Files). is_some (F j)) o.files ∙ some;
+        no_value = λ j h l t some. (λ z. (ge z).slots j h l) ∙ (nothing-else j t).slots h l;
+        no_meta = λ j h t some. (λ z. (ge z).metas j h) ∙ (nothing-else j t).metas h;
+      })
 
   pub name-numbered : Adds (OneOf ws) old new → AddsNumbered W c old new
   name-numbered = Adds-map (OneOf ws) (λ n cell. CellNumbers (Numbered W c) old.now n cell) old new it.ends.numbers
 
-  pub name-proper : (e : Entry1) → given_by (files_along (agreed_files p.base) H) e ≡ gives (files_along (agreed_files p.base) H) s c
+  pub name-proper : (e : Entry1)
+      → given_by (files_along (agreed_files p.base) H) e ≡ gives (files_along (agreed_files p.base) H) s c
       → Adds (OneOf ws) old new → AddsProper p.base H e p.mark p.stamps old new
   name-proper e ge adds = Adds-map (OneOf ws)
-      (Proper (during (mark_at p.base H (old.moment + 1) p.mark p.stamps) (given_by (files_along (agreed_files p.base) H) e)) old.now) old new
+      (Proper (during (mark_at p.base H (old.moment + 1) p.mark p.stamps)
+      (given_by (files_along (agreed_files p.base) H) e)) old.now) old new
       (λ b cell one. proper-one (given_by (files_along (agreed_files p.base) H) e) (ge ∙ given-is) b cell one) adds
 
   -- the step is done, with these books after it
-  pub name-done : (l : Books) (r : Reply) → SameMount k l → Follows W s c l → r ≡ reply_of W s c → is_refused r ≡ false → is_flushed r ≡ false
+  pub name-done : (l : Books) (r : Reply) → SameMount k l → Follows W s c l → r ≡ reply_of W s c
+      → is_refused r ≡ false → is_flushed r ≡ false
       → WritesAll old new ws (Ok tt) → ((U : World) → first_of (rows W U s) ≡ None) → IsDone old new k l H p s c r ws
   name-done l r same follows answer accepted no_flush writes none = record {
     adds = writes.adds;
     later = writes.later;
-    proper = λ e es ec ge b cell one. proper-one (given_by (files_along (agreed_files p.base) H) e) (ge ∙ given-is) b cell one;
+    proper = λ e es ec ge b cell one. proper-one (given_by (files_along (agreed_files p.base) H) e)
+        (ge ∙ given-is) b cell one;
     numbers = it.ends.numbers;
     super = ap (λ (Z : Image). cell_at Z 0) writes.now ∙ it.ends.writes.super;
     size = writes.adds.disk.blocks;
@@ -215,9 +233,11 @@ module _ (old new : DiskState) (k : Books) (H : List Entry1) (p : Past) (s : Ste
     no_flush = no_flush;
     claim = it.gives.claim;
     learns = follows.learns;
-    files = subst₂ (λ (F : Files) (Z : Image). FilesMatch F Z) (sym (ap (files_after W.files) it.gives.is)) (sym writes.now) it.ends.files;
+    files = subst₂ (λ (F : Files) (Z : Image). FilesMatch F Z) (sym (ap (files_after W.files) it.gives.is))
+        (sym writes.now) it.ends.files;
     move = subst (λ (Z : Image). HomesMove W.files s c old.now Z) (sym writes.now) it.ends.move;
-    rest = λ e es ec ge. subst (λ (Z : Image). SteadyRest p.base (H ++ e ∷ []) Z) (sym writes.now) (rest e (ge ∙ given-is));
+    rest = λ e es ec ge. subst (λ (Z : Image). SteadyRest p.base (H ++ e ∷ []) Z) (sym writes.now)
+        (rest e (ge ∙ given-is));
     says = follows.says;
     books_at = same.at;
     history = same.history;
@@ -227,10 +247,13 @@ module _ (old new : DiskState) (k : Books) (H : List Entry1) (p : Past) (s : Ste
 -- What is written
 
 -- the record of an inode in its cell of the table after the step
-pub table-numbers : (W : World) (c : Claims) (X Y : Image) → OldNumbers W X → ((j : ℕ) → RecordWritten W c X j (inode Y j)) → cell_at Y 0 ≡ cell_at X 0
-    → (b : ℕ) (cell : Cell) → cell ≡ cell_at Y b → tag_of cell.tag ≡ Some (table_tag b) → CellNumbers (Numbered W c) X b cell
+pub table-numbers : (W : World) (c : Claims) (X Y : Image) → OldNumbers W X
+    → ((j : ℕ) → RecordWritten W c X j (inode Y j)) → cell_at Y 0 ≡ cell_at X 0
+    → (b : ℕ) (cell : Cell) → cell ≡ cell_at Y b → tag_of cell.tag ≡ Some (table_tag b)
+    → CellNumbers (Numbered W c) X b cell
 table-numbers W c X Y old each super b cell is tag = law-table-numbers W c X b cell old tag (λ j range same.
-    subst (λ (q : Record). RecordWritten W c X j q) (sym (ap (λ (z : Cell). record_at z.payload ((j - 1) % 4)) (is ∙ ap (cell_at Y) (sym same))
+    subst (λ (q : Record). RecordWritten W c X j q)
+    (sym (ap (λ (z : Cell). record_at z.payload ((j - 1) % 4)) (is ∙ ap (cell_at Y) (sym same))
     ∙ record-in Y j (ap (λ (q : SuperBlock). leb 1 j && leb j q.inodes) (supers X Y super) ∙ range))) (each j))
 
 module _ (s : ℕ) (X Y : Image) (d i k : ℕ) (x y : Pointer) where
@@ -254,51 +277,68 @@ each-last : (old : DiskState) (k : Books) (s : Step) (c : Claims) (ws : List (�
 each-last old k s c ws it tells H p o = one-each ws (image_after ws old.now) (it tells H p o).ends.last
 
 -- a write failed
-pub fault-goes : (old new : DiskState) (k q : Books) (s : Step) (c : Claims) (ws : List (ℕ × Cell)) (x : Failed) → IsDisk old → IsSafe old k → k.stopped ≡ false
+pub fault-goes : (old new : DiskState) (k q : Books) (s : Step) (c : Claims) (ws : List (ℕ × Cell)) (x : Failed)
+    → IsDisk old → IsSafe old k → k.stopped ≡ false
     → IsSafe old q → SameMount k q → IsApart ws 0 → may_write s ≡ true → WritesSoMany s c (length ws)
-    → ((tells : IsTrue old.tells) (H : List Entry1) (p : Past) → IsOpen old k H p → NameStep old H p s c ws) → RowsPass old k s
+    → ((tells : IsTrue old.tells) (H : List Entry1) (p : Past) → IsOpen old k H p → NameStep old H p s c ws)
+    → RowsPass old k s
     → WritesAll old new ws (Err x) → Goes old k new (stopped_books q) s c (reply.Refused refusal.WriteFault)
 fault-goes old new k q s c ws x is safe going claimed same apart may count it pass writes =
-    goes-fault old new k (stopped_books q) s c is going same.at same.history refl writes.adds.disk writes.adds.past writes.cause writes.later
+    goes-fault old new k
+    (stopped_books q) s c is going same.at same.history refl writes.adds.disk writes.adds.past writes.cause writes.later
     (WritesAlone refl (writes-cells k s c writes count (each-last old k s c ws it))) safe
     (safe-writes old new q ws (Err x) true writes apart claimed)
     (λ tells H p o. name-numbered old new k H p s c ws is tells o (it tells H p o) writes.adds)
     (λ tells caller H p o. (
-      name-proper old new k H p s c ws is tells o (it tells H p o) (entry caller old new s c (reply.Refused refusal.WriteFault)) refl writes.adds,
+      name-proper old new k H p s c ws is tells o (it tells H p o)
+          (entry caller old new s c (reply.Refused refusal.WriteFault)) refl writes.adds,
       pass tells H p o (stopped_world p.world),
       may,
       (it tells H p o).gives.claim,
     ))
 
 -- what a step on names comes to where the mount is open: its writes, and the books after it
-pub record NameComes (old : DiskState) (H : List Entry1) (p : Past) (q : Books) (s : Step) (c : Claims) (r : Reply) (ws : List (ℕ × Cell)) : Type 0 where
+pub record NameComes (old : DiskState) (H : List Entry1) (p : Past) (q : Books) (s : Step) (c : Claims) (r : Reply)
+    (ws : List (ℕ × Cell)) : Type 0 where
   pub step : NameStep old H p s c ws
   pub follows : Follows p.world s c q
   pub answer : r ≡ reply_of p.world s c
 
 -- all is written: the books after it are l
-pub done-goes : (old new : DiskState) (k l : Books) (s : Step) (c : Claims) (r : Reply) (ws : List (ℕ × Cell)) → IsDisk old → IsDisk new → IsSafe old k
-    → k.stopped ≡ false → IsSafe new l → SameMount k l → WritesSoMany s c (length ws) → is_refused r ≡ false → is_flushed r ≡ false
+pub done-goes : (old new : DiskState) (k l : Books) (s : Step) (c : Claims) (r : Reply) (ws : List (ℕ × Cell))
+    → IsDisk old → IsDisk new → IsSafe old k
+    → k.stopped ≡ false → IsSafe new l → SameMount k l → WritesSoMany s c (length ws)
+    → is_refused r ≡ false → is_flushed r ≡ false
     → makes_calls r ≡ true
-    → ((tells : IsTrue old.tells) (H : List Entry1) (p : Past) → IsOpen old k H p → NameComes old H p l s c r ws) → RowsPass old k s
+    → ((tells : IsTrue old.tells) (H : List Entry1) (p : Past) → IsOpen old k H p → NameComes old H p l s c r ws)
+    → RowsPass old k s
     → WritesAll old new ws (Ok tt) → Goes old k new l s c r
 done-goes old new k l s c r ws is is_new safe going after same count accepted no_flush made comes pass writes =
-    goes-done old new k l s c r ws is is_new going same.at same.history (same.stopped ∙ going) after accepted writes.adds.disk writes.adds.past writes.later
+    goes-done old new k l s c r ws is is_new going same.at same.history
+    (same.stopped ∙ going) after accepted writes.adds.disk writes.adds.past writes.later
     (WritesAlone made (subst (WritesCells old new (MeetsOpen old k) s c) (sym (accepted-fault r accepted))
     (writes-cells k s c writes count (each-last old k s c ws (λ tells H p o. (comes tells H p o).step))))) safe
     (λ tells H p o. let f = comes tells H p o in
-    name-done old new k H p s c ws is tells o f.step l r same f.follows f.answer accepted no_flush writes (pass tells H p o))
+    name-done old new k H p s c ws is tells o f.step l r same f.follows f.answer accepted no_flush writes
+    (pass tells H p o))
 
 -- all is written, or a write failed: the books after the claims are q
-pub stores-goes : (old new : DiskState) (k q l : Books) (s : Step) (c : Claims) (r : Reply) (ws : List (ℕ × Cell)) (result : Result (Unit {0}) Refusal)
-    → IsDisk old → IsDisk new → IsSafe old k → k.stopped ≡ false → IsSafe old q → SameMount k q → IsApart ws 0 → may_write s ≡ true → WritesSoMany s c (length ws)
+pub stores-goes : (old new : DiskState) (k q l : Books) (s : Step) (c : Claims) (r : Reply) (ws : List (ℕ × Cell))
+    (result : Result (Unit {0}) Refusal)
+    → IsDisk old → IsDisk new → IsSafe old k → k.stopped ≡ false → IsSafe old q → SameMount k q → IsApart ws 0
+    → may_write s ≡ true → WritesSoMany s c (length ws)
     → is_refused r ≡ false → is_flushed r ≡ false → makes_calls r ≡ true
-    → ((tells : IsTrue old.tells) (H : List Entry1) (p : Past) → IsOpen old k H p → NameComes old H p q s c r ws) → RowsPass old k s
+    → ((tells : IsTrue old.tells) (H : List Entry1) (p : Past) → IsOpen old k H p → NameComes old H p q s c r ws)
+    → RowsPass old k s
     → Stores old q new l ws result → Goes old k new l s c (done_answer r result)
-stores-goes old new k q l s c r ws result is is_new safe going claimed same apart may count accepted no_flush made comes pass (Stored writes el er) =
+stores-goes old new k q l s c r ws result is is_new safe going claimed same apart may count accepted no_flush made comes
+    pass (Stored writes el er) =
     subst₂ (λ (b : Books) (z : Result (Unit {0}) Refusal). Goes old k new b s c (done_answer r z)) (sym el) (sym er)
-    (done-goes old new k q s c r ws is is_new safe going (safe-writes old new q ws (Ok tt) q.stopped writes apart claimed) same count accepted no_flush made comes pass
+    (done-goes old new k q s c r ws is is_new safe going
+    (safe-writes old new q ws (Ok tt) q.stopped writes apart claimed) same count accepted no_flush made comes pass
     writes)
-stores-goes old new k q l s c r ws result is is_new safe going claimed same apart may count accepted no_flush made comes pass (NotStored x writes el er) =
+stores-goes old new k q l s c r ws result is is_new safe going claimed same apart may count accepted no_flush made comes
+    pass (NotStored x writes el er) =
     subst₂ (λ (b : Books) (z : Result (Unit {0}) Refusal). Goes old k new b s c (done_answer r z)) (sym el) (sym er)
-    (fault-goes old new k q s c ws x is safe going claimed same apart may count (λ tells H p o. (comes tells H p o).step) pass writes)
+    (fault-goes old new k q s c ws x is safe going claimed same apart may count
+    (λ tells H p o. (comes tells H p o).step) pass writes)

@@ -1,5 +1,6 @@
 -- How the parts of a step make the step: their rows stand one after another.
-use Rattle.std.proofs.Common.{◌≡◌, false, List, [], ◌∷◌, ◌++◌, Option, Some, None, IsTrue, Result, Err, IfErr, ℕ, refl, sym, subst, le_refl}
+use Rattle.std.proofs.Common.{◌≡◌, false, List, [], ◌∷◌, ◌++◌, Option, Some, None, IsTrue, Result, Err, IfErr, ℕ, refl}
+use Rattle.std.proofs.Common.{sym, subst, le_refl}
 use Rattle.nofs_disk.specs.Disk.{DiskState, IsDisk, StaysButFaults}
 use Rattle.nofs_disk.specs.Chains.{Rose-within}
 use Rattle.nofs_model.specs.Image.{Image}
@@ -33,33 +34,44 @@ first-right (None ∷ a) b e = first-right a b e
 first-right (Some x ∷ a) b e = cc e
 
 -- a part that refuses after other reads
-pub fails-after : (old mid new : DiskState) (given : Image → Type 0) (part : World → List (Option Refusal)) (why : Refusal) → StaysButFaults old mid
+pub fails-after : (old mid new : DiskState) (given : Image → Type 0) (part : World → List (Option Refusal))
+    (why : Refusal) → StaysButFaults old mid
     → Fails mid new given part why → Fails old new given part why
 fails-after old mid new given part why stays (ByRow plain range comes) = ByRow plain range (λ t.
-    subst (λ (X : Image). given X → (W : World) → FilesMatch W.files X → first_of (part W) ≡ Some why) stays.cells.now (comes (told-on old mid stays t)))
+    subst (λ (X : Image). given X → (W : World) → FilesMatch W.files X → first_of (part W) ≡ Some why) stays.cells.now
+    (comes (told-on old mid stays t)))
 fails-after old mid new given part why stays (ByRead is rose) =
     ByRead is (Rose-within old.faults mid.faults new.faults new.faults stays.disk.faults rose (le_refl new.faults))
 
 -- what is given for one part follows from what is given for the step
-pub fails-given : (old new : DiskState) (given first : Image → Type 0) (part : World → List (Option Refusal)) (why : Refusal)
+pub fails-given : (old new : DiskState) (given first : Image → Type 0)
+    (part : World → List (Option Refusal)) (why : Refusal)
     → (IsTrue old.tells → first old.now → given old.now) → Fails old new given part why → Fails old new first part why
-fails-given old new given first part why follows (ByRow plain range comes) = ByRow plain range (λ t f. comes t (follows t f))
+fails-given old new given first part why follows (ByRow plain range comes) =
+    ByRow plain range (λ t f. comes t (follows t f))
 fails-given old new given first part why follows (ByRead is rose) = ByRead is rose
 
 -- a part that was refused once the directory was open
-pub opened-fails : {A : Type 0} (old mid new : DiskState) (k : Books) (d : ℕ) (part : World → List (Option Refusal)) (res : Result A Refusal) (why : Refusal)
-    → StaysButFaults old mid → (IsTrue old.tells → KnownTrue k old.now → IsThere d old.now) → res ≡ Err why → IfErr res (Fails mid new (IsThere d) part)
+pub opened-fails : {A : Type 0} (old mid new : DiskState) (k : Books) (d : ℕ) (part : World → List (Option Refusal))
+    (res : Result A Refusal) (why : Refusal)
+    → StaysButFaults old mid → (IsTrue old.tells → KnownTrue k old.now → IsThere d old.now) → res ≡ Err why
+    → IfErr res (Fails mid new (IsThere d) part)
     → Fails old new (KnownTrue k) part why
-opened-fails {A} old mid new k d part res why stays there e refused = fails-given old new (IsThere d) (KnownTrue k) part why there
-    (fails-after old mid new (IsThere d) part why stays (subst (λ (q : Result A Refusal). IfErr q (Fails mid new (IsThere d) part)) e refused))
+opened-fails {A} old mid new k d part res why stays there e refused =
+    fails-given old new (IsThere d) (KnownTrue k) part why there
+    (fails-after old mid new (IsThere d) part why stays
+    (subst (λ (q : Result A Refusal). IfErr q (Fails mid new (IsThere d) part)) e refused))
 
 -- the step refuses where a part of it does
-pub goes-fails : (old new : DiskState) (k : Books) (s : Step) (part : World → List (Option Refusal)) (why : Refusal) → IsDisk old → IsSafe old k
+pub goes-fails : (old new : DiskState) (k : Books) (s : Step) (part : World → List (Option Refusal)) (why : Refusal)
+    → IsDisk old → IsSafe old k
     → k.stopped ≡ false → StaysButFaults old new → Fails old new (KnownTrue k) part why
-    → (IsTrue old.tells → (H : List Entry1) (p : Past) → IsOpen old k H p → first_of (part p.world) ≡ Some why → first_of (rows p.world p.world s) ≡ Some why)
+    → (IsTrue old.tells → (H : List Entry1) (p : Past) → IsOpen old k H p → first_of (part p.world) ≡ Some why
+    → first_of (rows p.world p.world s) ≡ Some why)
     → ((W : World) → IsLate (first_of (rows W W s))) → Goes old k new k s no_claims (reply.Refused why)
 goes-fails old new k s part why is safe going stays (ByRow plain range comes) row-is late =
     goes-row old new k s is safe stays why plain range going
     (λ t H p o. row-is t H p o (comes t (are-agreed old k H p safe o) p.world (open-files old k H p o)))
 goes-fails old new k s part why is safe going stays (ByRead e rose) row-is late =
-    subst (λ (w : Refusal). Goes old k new k s no_claims (reply.Refused w)) (sym e) (goes-read old new k s is safe stays going rose (λ t H p o. late p.world))
+    subst (λ (w : Refusal). Goes old k new k s no_claims (reply.Refused w)) (sym e)
+    (goes-read old new k s is safe stays going rose (λ t H p o. late p.world))

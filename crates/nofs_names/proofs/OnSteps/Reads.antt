@@ -23,10 +23,13 @@ module _ (old new : DiskState) (stays : StaysButFaults old new) where
   now : old.now ≡ new.now
   now = sym stays.cells.now
 
-  pub directory-on : (at : SuperBlock) (i g : ℕ) (r : Record) → KnowsDirectory old at i g r → KnowsDirectory new at i g r
-  directory-on at i g r k = record { known = KnowsInode-on old new at i r stays k.known; kind = k.kind; generation = k.generation }
+  pub directory-on : (at : SuperBlock) (i g : ℕ) (r : Record) → KnowsDirectory old at i g r
+      → KnowsDirectory new at i g r
+  directory-on at i g r k =
+      record { known = KnowsInode-on old new at i r stays k.known; kind = k.kind; generation = k.generation }
 
-  pub there-on : (k : Books) (d : ℕ) → (IsTrue old.tells → KnownTrue k old.now → IsThere d old.now) → IsTrue new.tells → KnownTrue k new.now
+  pub there-on : (k : Books) (d : ℕ) → (IsTrue old.tells → KnownTrue k old.now → IsThere d old.now) → IsTrue new.tells
+      → KnownTrue k new.now
       → IsThere d new.now
   there-on k d there t = subst (λ (X : Image). KnownTrue k X → IsThere d X) now (there (back t))
 
@@ -34,7 +37,8 @@ module _ (old new : DiskState) (stays : StaysButFaults old new) where
   paired-on at q k = (KnowsInode-on old new at q.inode q.record stays k.0, k.1, k.2, k.3, k.4)
 
   pub found-on : (d : ℕ) (name : List ℕ) (q : Paired) → FoundIn old d name q → FoundIn new d name q
-  found-on d name q found t = subst (λ (X : Image). IsThere d X → (F : Files) → FilesMatch F X → IsFoundEntry F X d name q) now (found (back t))
+  found-on d name q found t =
+      subst (λ (X : Image). IsThere d X → (F : Files) → FilesMatch F X → IsFoundEntry F X d name q) now (found (back t))
 
   pub no-names-on : (i : ℕ) → HasNoNames old i → HasNoNames new i
   no-names-on i none t F m = none (back t) F (subst (λ (X : Image). FilesMatch F X) stays.cells.now m)

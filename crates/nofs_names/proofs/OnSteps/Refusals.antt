@@ -1,5 +1,6 @@
 -- The rows of refusals of the parts that steps on names share.
-use Rattle.std.proofs.Common.{◌≡◌, ℕ, true, false, List, [], ◌∷◌, Option, Some, None, option_map, IsTrue, Result, Ok, Err, IfErr, refl, sym, ap, ◌∙◌, subst}
+use Rattle.std.proofs.Common.{◌≡◌, ℕ, true, false, List, [], ◌∷◌, Option, Some, None, option_map, IsTrue, Result, Ok}
+use Rattle.std.proofs.Common.{Err, IfErr, refl, sym, ap, ◌∙◌, subst}
 use Rattle.nofs_dirent.specs.Entries.{entry_limit}
 use Rattle.nofs_disk.specs.Disk.{DiskState}
 use Rattle.nofs_inode.specs.declared.inode.FileKind.TheVariants.{Directory as Folder}
@@ -33,23 +34,36 @@ use Rattle.nofs_names.proofs.OnSearches.PairTests.{kind-of}
 use Rattle.nofs_history.specs.Steps.{InRange}
 
 -- whether an agreed inode is a directory
-pub folder-at : (F : Files) (X : Image) (i : ℕ) (r : Record) (kind : FileKind) → FilesMatch F X → agreed (files_in X) i ≡ true → inode X i ≡ r
+pub folder-at : (F : Files) (X : Image) (i : ℕ) (r : Record) (kind : FileKind) → FilesMatch F X
+    → agreed (files_in X) i ≡ true → inode X i ≡ r
     → r.kind ≡ Some kind → is_folder_at F i ≡ is_folder kind
 folder-at F X i r kind match a er ek =
     let m = matched-agreed F X i match (agreed-live X i a) a in
-    let k : Some m.file.kind ≡ Some kind = sym (kind-of F X i m.file match a m.is) ∙ ap (λ (q : Record). q.kind) er ∙ ek in
+    let k : Some m.file.kind ≡ Some kind = sym (kind-of F X i m.file match a m.is)
+    ∙ ap (λ (q : Record). q.kind) er ∙ ek in
     let s : m.file.kind ≡ kind = cc k in
     rw (m.is, is_folder_at) (ap is_folder s)
 
 -- The directory
 
-module _ (old new : DiskState) (k : Books) (d g : ℕ) (last : LastRead) (res : Result Opened Refusal) (opens : Opens old new k d g last res) where
-  no-directory : (why : Refusal) → Fails old new (KnownTrue k) (directory_rows d g) why → OpensDirectory old new k d g last (Err why)
+module _ (old new : DiskState) (k : Books) (d g : ℕ) (last : LastRead) (res : Result Opened Refusal)
+    (opens : Opens old new k d g last res) where
+  no-directory : (why : Refusal) → Fails old new (KnownTrue k) (directory_rows d g) why
+      → OpensDirectory old new k d g last (Err why)
   no-directory why fails =
-      record { stays = opens.stays; directory = tt; generation = tt; passes = tt; there = tt; kept = tt; refused = fails }
+      record {
+        stays = opens.stays;
+        directory = tt;
+        generation = tt;
+        passes = tt;
+        there = tt;
+        kept = tt;
+        refused = fails;
+      }
 
   pub directory-stale : (why : Refusal) → res ≡ Err why → OpensDirectory old new k d g last (Err why)
-  directory-stale why e = no-directory why (go why (subst (λ (q : Result Opened Refusal). IfErr q (OpenFails old new k d g)) e opens.refused))
+  directory-stale why e = no-directory why
+      (go why (subst (λ (q : Result Opened Refusal). IfErr q (OpenFails old new k d g)) e opens.refused))
     where
       go : (w : Refusal) → OpenFails old new k d g w → Fails old new (KnownTrue k) (directory_rows d g) w
       go refusal.Stale fails = ByRow refl tt (λ t all W match. rw (stale-some W old.now d g match (fails t all)) refl)
@@ -60,8 +74,10 @@ module _ (old new : DiskState) (k : Books) (d g : ℕ) (last : LastRead) (res : 
     opened : Opens old new k d g last (Ok it)
     opened = subst (λ (q : Result Opened Refusal). Opens old new k d g last q) is opens
 
-    folder-of : IsTrue old.tells → KnownTrue k old.now → (W : World) → FilesMatch W.files old.now → is_folder_at W.files d ≡ is_folder it.kind
-    folder-of t all W match = folder-at W.files old.now d it.found it.kind match (current-agreed old.now d g (opened.current t all))
+    folder-of : IsTrue old.tells → KnownTrue k old.now → (W : World) → FilesMatch W.files old.now
+        → is_folder_at W.files d ≡ is_folder it.kind
+    folder-of t all W match =
+        folder-at W.files old.now d it.found it.kind match (current-agreed old.now d g (opened.current t all))
         (record-of old new k.at d it.found opens.stays opened.known.known t) opened.known.kind
 
     pub directory-file : is_folder it.kind ≡ false → OpensDirectory old new k d g last (Err refusal.NotDirectory)
@@ -72,9 +88,14 @@ module _ (old new : DiskState) (k : Books) (d g : ℕ) (last : LastRead) (res : 
     pub directory-is : is_folder it.kind ≡ true → OpensDirectory old new k d g last (Ok it.found)
     directory-is folder = record {
       stays = opens.stays;
-      directory = record { known = opened.known.known; kind = opened.known.kind ∙ ap Some (folder-kind it.kind folder); generation = refl };
+      directory = record {
+        known = opened.known.known;
+        kind = opened.known.kind ∙ ap Some (folder-kind it.kind folder);
+        generation = refl;
+      };
       generation = opened.known.generation;
-      passes = λ t all W match. let f = folder-of t all W match ∙ folder in rw (stale-none W old.now d g match (opened.current t all), f) refl;
+      passes = λ t all W match. let f = folder-of t all W match ∙ folder in
+          rw (stale-none W old.now d g match (opened.current t all), f) refl;
       there = λ t all. current-agreed old.now d g (opened.current t all);
       kept = opened.kept;
       refused = tt;
@@ -86,16 +107,19 @@ module _ (old new : DiskState) (k : Books) (d g : ℕ) (last : LastRead) (res : 
 
 -- The name
 
-missing-is : (F : Files) (W : World) (d : ℕ) (name : List ℕ) (u : Unfound) → W.files ≡ F → Passed F d name entry_limit 72 u → missing W d name ≡ missing_in u
+missing-is : (F : Files) (W : World) (d : ℕ) (name : List ℕ) (u : Unfound)
+    → W.files ≡ F → Passed F d name entry_limit 72 u → missing W d name ≡ missing_in u
 unfolding found first_dead first_lost_slot
 missing-is F W d name u e p =
-    let q : Passed W.files d name entry_limit 72 u = subst (λ (G : Files). Passed G d name entry_limit 72 u) (sym e) p in
+    let q : Passed W.files d name entry_limit 72 u =
+    subst (λ (G : Files). Passed G d name entry_limit 72 u) (sym e) p in
     rw (q.none, q.dead, q.lost) refl
 
 plain-missing : (u : Unfound) (why : Refusal) → Some why ≡ missing_in u → is_plain why ≡ true
 plain-missing u why e = go u.dead u.lost (e)
   where
-    go : (a b : Option ℕ) → Some why ≡ first_of (option_map refusal.LostEntry a ∷ option_map refusal.LostSlot b ∷ Some refusal.Missing ∷ [])
+    go : (a b : Option ℕ) → Some why
+        ≡ first_of (option_map refusal.LostEntry a ∷ option_map refusal.LostSlot b ∷ Some refusal.Missing ∷ [])
         → is_plain why ≡ true
     go (Some a) b h = ap is_plain (let s : why ≡ refusal.LostEntry a = cc h in s)
     go None (Some b) h = ap is_plain (let s : why ≡ refusal.LostSlot b = cc h in s)
@@ -104,21 +128,24 @@ plain-missing u why e = go u.dead u.lost (e)
 range-missing : (u : Unfound) (why : Refusal) → Some why ≡ missing_in u → InRange why
 range-missing u why e = go u.dead u.lost (e)
   where
-    go : (a b : Option ℕ) → Some why ≡ first_of (option_map refusal.LostEntry a ∷ option_map refusal.LostSlot b ∷ Some refusal.Missing ∷ []) → InRange why
+    go : (a b : Option ℕ) → Some why ≡ first_of (option_map refusal.LostEntry a ∷ option_map refusal.LostSlot b
+        ∷ Some refusal.Missing ∷ []) → InRange why
     go (Some a) b h = let s : why ≡ refusal.LostEntry a = cc h in subst (λ (w : Refusal). InRange w) (sym s) tt
     go None (Some b) h = let s : why ≡ refusal.LostSlot b = cc h in subst (λ (w : Refusal). InRange w) (sym s) tt
     go None None h = let s : why ≡ refusal.Missing = cc h in subst (λ (w : Refusal). InRange w) (sym s) tt
 
 module _ (old new : DiskState) (at : SuperBlock) (d : ℕ) (name : List ℕ) (names records : LastRead) where
-  pub pair-found : (s : Searched) (res : Result Paired Refusal) → Searches old new at d name names records (Ok s) → IsPairOf s res
+  pub pair-found : (s : Searched) (res : Result Paired Refusal) → Searches old new at d name names records (Ok s)
+      → IsPairOf s res
       → FindsPair old new at d name names records res
-  pair-found (searched.Found p) res search is = subst (λ (r : Result Paired Refusal). FindsPair old new at d name names records r) (sym is) (record {
-    stays = search.stays;
-    known = search.known;
-    found = λ t there F match. search.answer t F match there;
-    kept = search.kept;
-    refused = tt;
-  })
+  pair-found (searched.Found p) res search is =
+      subst (λ (r : Result Paired Refusal). FindsPair old new at d name names records r) (sym is) (record {
+        stays = search.stays;
+        known = search.known;
+        found = λ t there F match. search.answer t F match there;
+        kept = search.kept;
+        refused = tt;
+      })
   pair-found (searched.Unfound u) res search is =
       let (why, e, ew) = is in
       subst (λ (r : Result Paired Refusal). FindsPair old new at d name names records r) (sym e) (record {
@@ -130,27 +157,32 @@ module _ (old new : DiskState) (at : SuperBlock) (d : ℕ) (name : List ℕ) (na
             missing-is W.files W d name u refl (search.answer t W.files match there) ∙ sym ew in rw m refl);
       })
 
-  pub name-unused : (s : Searched) (res : Result Unfound Refusal) → Searches old new at d name names records (Ok s) → res ≡ unused_in s
+  pub name-unused : (s : Searched) (res : Result Unfound Refusal) → Searches old new at d name names records (Ok s)
+      → res ≡ unused_in s
       → FindsNone old new d name names records res
-  name-unused (searched.Found p) res search is = subst (λ (r : Result Unfound Refusal). FindsNone old new d name names records r) (sym is) (record {
-    stays = search.stays;
-    seen = tt;
-    kept = tt;
-    refused = ByRow refl tt (λ t there W match. let f = (search.answer t W.files match there).found in rw f refl);
-  })
-  name-unused (searched.Unfound u) res search is = subst (λ (r : Result Unfound Refusal). FindsNone old new d name names records r) (sym is) (record {
-    stays = search.stays;
-    seen = λ t there F match. search.answer t F match there;
-    kept = search.kept;
-    refused = tt;
-  })
+  name-unused (searched.Found p) res search is =
+      subst (λ (r : Result Unfound Refusal). FindsNone old new d name names records r) (sym is) (record {
+        stays = search.stays;
+        seen = tt;
+        kept = tt;
+        refused = ByRow refl tt (λ t there W match. let f = (search.answer t W.files match there).found in rw f refl);
+      })
+  name-unused (searched.Unfound u) res search is =
+      subst (λ (r : Result Unfound Refusal). FindsNone old new d name names records r) (sym is) (record {
+        stays = search.stays;
+        seen = λ t there F match. search.answer t F match there;
+        kept = search.kept;
+        refused = tt;
+      })
 
 -- where no pair has the name, no row of an existing name comes, and this is the place of a new entry
 
-pub exists-none : (W : World) (d : ℕ) (name : List ℕ) (u : Unfound) → Passed W.files d name entry_limit 72 u → exists W d name ≡ None
+pub exists-none : (W : World) (d : ℕ) (name : List ℕ) (u : Unfound) → Passed W.files d name entry_limit 72 u
+    → exists W d name ≡ None
 unfolding found
 exists-none W d name u p = let n = p.none in rw n refl
 
-pub place-is : (F : Files) (d : ℕ) (name : List ℕ) (u : Unfound) → Passed F d name entry_limit 72 u → place_for F d name ≡ place_of_entry u
+pub place-is : (F : Files) (d : ℕ) (name : List ℕ) (u : Unfound) → Passed F d name entry_limit 72 u
+    → place_for F d name ≡ place_of_entry u
 unfolding place_for first_dead
 place-is F d name u p = λ j. first_of (p.dead j ∷ p.empty j ∷ hole_place (p.hole j) ∷ [])

@@ -1,5 +1,6 @@
 -- What Drop answers, whether what it finds may go, and what it asks of its writes.
-use Rattle.std.specs.Prelude.{◌≡◌, ◌≤◌, ◌/◌, ◌%◌, false, IsTrue, ℕ, Bool, ◌&&◌, List, [], ◌∷◌, Option, is_some, Result, Ok, Err, IfErr, OnOk}
+use Rattle.std.specs.Prelude.{◌≡◌, ◌≤◌, ◌/◌, ◌%◌, false, IsTrue, ℕ, Bool, ◌&&◌, List, [], ◌∷◌, Option, is_some, Result}
+use Rattle.std.specs.Prelude.{Ok, Err, IfErr, OnOk}
 use Rattle.nofs_dirent.specs.Entries.{entry_limit}
 use Rattle.nofs_disk.specs.Disk.{DiskState, StaysButFaults}
 use Rattle.nofs_history.specs.Claims.{no_claims}
@@ -35,7 +36,8 @@ drop_answer (Err why) = reply.Refused why
 
 -- the row of a directory with a name of a file
 abbrev pub filled_rows : ℕ → World → List (Option Refusal)
-filled_rows i W = row (is_folder_at W.files i && is_some (least_from (λ e. is_paired W.files i e) 0 entry_limit)) refusal.NotEmpty ∷ []
+filled_rows i W = row (is_folder_at W.files i && is_some (least_from (λ e. is_paired W.files i e) 0 entry_limit))
+    refusal.NotEmpty ∷ []
 
 pub record FindsEmpty (old new : DiskState) (i : ℕ) (result : Result (Unit {0}) Refusal) : Type 0 where
   pub stays : StaysButFaults old new

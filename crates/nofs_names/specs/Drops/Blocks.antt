@@ -9,13 +9,15 @@ use Rattle.nofs_state.specs.Inodes.Blocks.{MarkFails}
 use Rattle.nofs_names.specs.Drops.Removal.{BlocksOf}
 
 -- the blocks of all slots are marked, and no others
-pub record MarksInode (old new : DiskState) (at : SuperBlock) (i : ℕ) (bits : List Bool) (last : LastRead) (result : Result (Unit {0}) Refusal) : Type 0 where
+pub record MarksInode (old new : DiskState) (at : SuperBlock) (i : ℕ) (bits : List Bool) (last : LastRead)
+    (result : Result (Unit {0}) Refusal) : Type 0 where
   pub stays : StaysButFaults old new
   pub owned : OnOk result (BlocksOf new at i bits)
   pub kept : OnOk result (IsLast new last)
   pub refused : IfErr result (MarkFails old new)
 
-pub record OwnsBlocks (old new : DiskState) (at : SuperBlock) (i : ℕ) (last : LastRead) (result : Result (List Bool) Refusal) : Type 0 where
+pub record OwnsBlocks (old new : DiskState) (at : SuperBlock) (i : ℕ) (last : LastRead)
+    (result : Result (List Bool) Refusal) : Type 0 where
   pub stays : StaysButFaults old new
   pub owned : IfOk result (BlocksOf new at i)
   pub kept : OnOk result (IsLast new last)

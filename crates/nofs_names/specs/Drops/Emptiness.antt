@@ -1,5 +1,6 @@
 -- Whether a directory has a name of a file.
-use Rattle.std.specs.Prelude.{◌≡◌, ℕ, ◌<◌, Bool, true, false, List, Option, Some, None, is_some, IsTrue, Result, IfOk, OnOk, OnErr}
+use Rattle.std.specs.Prelude.{◌≡◌, ℕ, ◌<◌, Bool, true, false, List, Option, Some, None, is_some, IsTrue, Result, IfOk}
+use Rattle.std.specs.Prelude.{OnOk, OnErr}
 use Rattle.nofs_dirent.specs.Entries.{entry_limit}
 use Rattle.nofs_disk.specs.declared.Failed.{Failed}
 use Rattle.nofs_disk.specs.Disk.{DiskState, StaysButFaults, Rose}
@@ -18,7 +19,8 @@ abbrev pub pair_in : Image → BackLink → Option Named → Bool
 pair_in X link None = false
 pair_in X link (Some named) = is_some (paired_kind (inode X named.inode) named link)
 
-pub record TellsPair (old new : DiskState) (link : BackLink) (payload : List ℕ) (place : ℕ) (last : LastRead) (result : Result Bool Failed) : Type 0 where
+pub record TellsPair (old new : DiskState) (link : BackLink) (payload : List ℕ) (place : ℕ) (last : LastRead)
+    (result : Result Bool Failed) : Type 0 where
   pub stays : StaysButFaults old new
   pub found : IfOk result (λ b. IsTrue old.tells → b ≡ pair_in old.now link (named_in (entry_in payload place)))
   pub kept : OnOk result (IsLast new last)
@@ -35,6 +37,7 @@ NamesAre F d n false = NoPairs F d n
 
 pub record NamesOn (old new : DiskState) (d n m : ℕ) (last : LastRead) (result : Result Bool Failed) : Type 0 where
   pub stays : StaysButFaults old new
-  pub names : IfOk result (λ b. IsTrue old.tells → IsThere d old.now → (F : Files) → FilesMatch F old.now → NoPairs F d n → NamesAre F d m b)
+  pub names : IfOk result (λ b. IsTrue old.tells → IsThere d old.now → (F : Files) → FilesMatch F old.now
+      → NoPairs F d n → NamesAre F d m b)
   pub kept : OnOk result (IsLast new last)
   pub cause : OnErr result (Rose old.faults new.faults)

@@ -9,9 +9,11 @@ use Rattle.nofs_agree.specs.Chain.{AreTrue, is_agreed_link}
 use Rattle.nofs_agree.specs.Reads.{IsLast}
 use Rattle.nofs_agree.specs.declared.reads.LastRead.{LastRead}
 
-pub record TellsKept (old new : DiskState) (known : List (Option Bool)) (i : ℕ) (links : List BackLink) (last : LastRead) (result : Result Bool Failed)
+pub record TellsKept (old new : DiskState) (known : List (Option Bool)) (i : ℕ) (links : List BackLink)
+    (last : LastRead) (result : Result Bool Failed)
     : Type 0 where
   pub stays : StaysButFaults old new
-  pub found : IfOk result (λ b. IsTrue old.tells → AreTrue old.now known → b ≡ (is_special i || list_any (is_agreed_link (files_in old.now) i) links))
+  pub found : IfOk result (λ b. IsTrue old.tells → AreTrue old.now known
+      → b ≡ (is_special i || list_any (is_agreed_link (files_in old.now) i) links))
   pub kept : OnOk result (IsLast new last)
   pub cause : OnErr result (Rose old.faults new.faults)

@@ -24,8 +24,10 @@ pub record ClearedIn (d : DiskState) (x : Pointer) (place : ℕ) (c : Cell) : Ty
 
 -- a directory that has no name of a file
 abbrev pub HasNoNames : DiskState → ℕ → Type 0
-HasNoNames d i = IsTrue d.tells → (F : Files) → FilesMatch F d.now → is_folder_at F i ≡ true → (b : ℕ) → b < entry_limit → is_paired F i b ≡ false
+HasNoNames d i = IsTrue d.tells → (F : Files) → FilesMatch F d.now
+    → is_folder_at F i ≡ true → (b : ℕ) → b < entry_limit → is_paired F i b ≡ false
 
 -- the inode has another name, or is one that never goes
 abbrev pub KeepsName : DiskState → Books → ℕ → ℕ → Paired → Type 0
-KeepsName d k i g q = IsTrue d.tells → KnownTrue k d.now → (F : Files) → FilesMatch F d.now → is_gone (drop_meta F q.inode (link_to i q.entry g)) ≡ false
+KeepsName d k i g q = IsTrue d.tells → KnownTrue k d.now → (F : Files) → FilesMatch F d.now
+    → is_gone (drop_meta F q.inode (link_to i q.entry g)) ≡ false

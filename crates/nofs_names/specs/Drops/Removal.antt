@@ -2,7 +2,8 @@
 use Rattle.nofs_state.specs.Inodes.Blocks.{AreFreed}
 use Rattle.nofs_state.specs.declared.books.maps.Books.{Books}
 use Rattle.nofs_names.specs.declared.searches.slots.Paired.{Paired}
-use Rattle.std.specs.Prelude.{◌≡◌, ℕ, ◌+◌, ◌-◌, ◌/◌, ◌<◌, ◌≤◌, Bool, true, false, ◌==◌, List, Option, Some, None, length, IsTrue, slice_set}
+use Rattle.std.specs.Prelude.{◌≡◌, ℕ, ◌+◌, ◌-◌, ◌/◌, ◌<◌, ◌≤◌, Bool, true, false, ◌==◌, List, Option, Some, None}
+use Rattle.std.specs.Prelude.{length, IsTrue, slice_set}
 use Rattle.nofs_bits.specs.Bits.{is_set}
 use Rattle.nofs_disk.specs.Disk.{DiskState}
 use Rattle.nofs_model.specs.Cells.{SuperBlock}
@@ -40,8 +41,10 @@ is_of i (Some home) = home.inode == i
 pub record BlocksOf (d : DiskState) (at : SuperBlock) (i : ℕ) (freed : List Bool) : Type 0 where
   pub size : length freed ≡ at.blocks
   pub in_area : (q : ℕ) → is_set freed q ≡ true → 1 + at.inodes / 4 ≤ q
-  pub owned : IsTrue d.tells → agreed (files_in d.now) i ≡ true → (q : ℕ) → q < at.blocks → is_set freed q ≡ is_of i (owner d.now q)
+  pub owned : IsTrue d.tells
+      → agreed (files_in d.now) i ≡ true → (q : ℕ) → q < at.blocks → is_set freed q ≡ is_of i (owner d.now q)
 
 -- the inode loses its last name
 abbrev pub LosesName : DiskState → Books → ℕ → ℕ → Paired → Type 0
-LosesName d k i g q = IsTrue d.tells → KnownTrue k d.now → (F : Files) → FilesMatch F d.now → is_gone (drop_meta F q.inode (link_to i q.entry g)) ≡ true
+LosesName d k i g q = IsTrue d.tells → KnownTrue k d.now → (F : Files) → FilesMatch F d.now
+    → is_gone (drop_meta F q.inode (link_to i q.entry g)) ≡ true

@@ -1,5 +1,6 @@
 -- Where a new entry goes, and which blocks it takes.
-use Rattle.std.specs.Prelude.{◌≡◌, ℕ, ◌+◌, ◌^◌, ◌<◌, ◌≤◌, ◌⊎◌, true, Bool, List, [], ◌∷◌, length, Option, Some, None, IsTrue, Result, Ok, Err, IfOk, IfErr}
+use Rattle.std.specs.Prelude.{◌≡◌, ℕ, ◌+◌, ◌^◌, ◌<◌, ◌≤◌, ◌⊎◌, true, Bool, List, [], ◌∷◌, length, Option, Some, None}
+use Rattle.std.specs.Prelude.{IsTrue, Result, Ok, Err, IfOk, IfErr}
 use Rattle.std.specs.Prelude.{IfSome, OnOk, nat_lt}
 use Rattle.nofs_dirent.specs.Entries.{entry_limit}
 use Rattle.nofs_bits.specs.Bits.{count_set, is_set}
@@ -71,10 +72,12 @@ IsSlotCell X entry.WithLeaf c = Unit {0}
 -- why a slot was not found: it neither holds nor is a hole, or a read failed
 abbrev pub SlotFails : DiskState → DiskState → ℕ → ℕ → Refusal → Type 0
 SlotFails old new d k why = ((is_plain why ≡ true) × InRange why ×
-    (IsTrue old.tells → ((x : Pointer) → find old.now d (path_of k) ≡ answer.Holds x → ⊥) × (find old.now d (path_of k) ≡ answer.Hole → ⊥)))
+    (IsTrue old.tells → ((x : Pointer) → find old.now d (path_of k) ≡ answer.Holds x → ⊥)
+    × (find old.now d (path_of k) ≡ answer.Hole → ⊥)))
     ⊎ ((why ≡ refusal.ReadFault) × Rose old.faults new.faults)
 
-pub record FindsEntrySlot (old new : DiskState) (at : SuperBlock) (d k : ℕ) (last : LastRead) (result : Result EntrySlot Refusal) : Type 0 where
+pub record FindsEntrySlot (old new : DiskState) (at : SuperBlock) (d k : ℕ) (last : LastRead)
+    (result : Result EntrySlot Refusal) : Type 0 where
   pub stays : StaysButFaults old new
   pub fits : IfOk result (FitsSlot at k)
   pub found : IfOk result (λ s. IsTrue old.tells → IsEntrySlot old.now d k s)
@@ -96,7 +99,8 @@ pub record AreFree (bits : List Bool) (n : ℕ) (b : EntryBlocks) : Type 0 where
 
 -- the rows of a step that claims n blocks and m inodes
 abbrev pub room_rows : ℕ → ℕ → World → World → List (Option Refusal)
-room_rows n m W after = row (nat_lt (free_blocks W) n) (refusal.Full n (free_blocks after) (unverified_blocks after) (next_block after)) ∷ row
+room_rows n m W after = row (nat_lt (free_blocks W) n)
+    (refusal.Full n (free_blocks after) (unverified_blocks after) (next_block after)) ∷ row
     (nat_lt (2 ^ 40) (W.serial + m + n)) refusal.SerialsSpent ∷ []
 
 -- so many blocks and stamps are left, or this row comes
@@ -104,4 +108,5 @@ pub record TakesBlocks (k : Books) (n m : ℕ) (result : Result EntryBlocks Refu
   pub free : IfOk result (AreFree k.free_blocks n)
   pub stamps : OnOk result (k.serial + m + n ≤ 2 ^ 40)
   pub passes : OnOk result ((W V : World) → Says k W → first_of (room_rows n m W V) ≡ None)
-  pub refused : IfErr result (λ why. (is_plain why ≡ true) × InRange why × ((W : World) → Says k W → first_of (room_rows n m W W) ≡ Some why))
+  pub refused : IfErr result
+      (λ why. (is_plain why ≡ true) × InRange why × ((W : World) → Says k W → first_of (room_rows n m W W) ≡ Some why))

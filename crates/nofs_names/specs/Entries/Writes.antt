@@ -1,5 +1,6 @@
 -- What a new entry writes: its cell with what is claimed for it, and the record of the inode that it names.
-use Rattle.std.specs.Prelude.{◌≡◌, ◌≢◌, ℕ, ◌+◌, ◌-◌, ◌*◌, ◌/◌, ◌%◌, ◌^◌, ◌<◌, ◌≤◌, true, List, [], ◌∷◌, length, Some, IsTrue, Result, IfOk, OnOk, OnErr}
+use Rattle.std.specs.Prelude.{◌≡◌, ◌≢◌, ℕ, ◌+◌, ◌-◌, ◌*◌, ◌/◌, ◌%◌, ◌^◌, ◌<◌, ◌≤◌, true, List, [], ◌∷◌, length, Some}
+use Rattle.std.specs.Prelude.{IsTrue, Result, IfOk, OnOk, OnErr}
 use Rattle.std.specs.Prelude.{slice_set}
 use Rattle.nofs_disk.specs.Disk.{DiskState, StaysButFaults, Rose, cell_at}
 use Rattle.nofs_disk.specs.Number.{put_bytes, zeros}
@@ -40,7 +41,8 @@ abbrev pub with_leaf : Record → Pointer → Record
 with_leaf r y = record r { leaf = y }
 
 -- what a new entry asks, over any disk
-pub record MayEnter (d : DiskState) (k : Books) (i : ℕ) (r : Record) (n : ℕ) (slot : EntrySlot) (b : EntryBlocks) (named : Entry) (new : Record) : Type 0
+pub record MayEnter (d : DiskState) (k : Books) (i : ℕ) (r : Record) (n : ℕ) (slot : EntrySlot) (b : EntryBlocks)
+    (named : Entry) (new : Record) : Type 0
   where
     pub directory : KnowsDirectory d k.at i r.generation r
     pub range : n < entry_limit
@@ -56,22 +58,26 @@ pub record MayEnter (d : DiskState) (k : Books) (i : ℕ) (r : Record) (n : ℕ)
 pub record IsEntering (calls : ℕ) (d : DiskState) (k : Books) (e : NewEntry) : Type 0 where
   pub safe : IsSafe d k
   pub spare : calls ≤ d.spare
-  pub may : MayEnter d k e.directory e.it.now e.place.now.entry e.place.now.slot e.place.now.blocks e.named.now e.record.now
+  pub may : MayEnter d k e.directory e.it.now e.place.now.entry e.place.now.slot e.place.now.blocks
+      e.named.now e.record.now
 
 -- the payload of a cell with the entry in its place
 abbrev pub entered : List ℕ → ℕ → Entry → List ℕ
 entered payload e it = put_bytes (64 * (e % 16)) (spelled_entry it.inode it.generation it.name) payload
 
--- the cells of the table with a record of a directory and one of an inode. Where both records lie in one cell, both are that cell
+-- the cells of the table with a record of a directory and one of an inode. Where both records lie in one cell, both are
+-- that cell
 pub record AreTables (before : Tables) (d : ℕ) (dr : Record) (i : ℕ) (r : Record) (after : Tables) : Type 0 where
   pub same : (d - 1) / 4 ≡ (i - 1) / 4 → (after.directory ≡ after.inode) ×
       ((middle : Cell) × IsTable before.directory d dr middle × IsTable middle i r after.inode)
-  pub apart : (d - 1) / 4 ≢ (i - 1) / 4 → IsTable before.directory d dr after.directory × IsTable before.inode i r after.inode
+  pub apart : (d - 1) / 4 ≢ (i - 1) / 4 → IsTable before.directory d dr after.directory
+      × IsTable before.inode i r after.inode
 
 -- a cell that the directory did not have
 pub record IsNewCell (d g n : ℕ) (it : Entry) (stamp : ℕ) (c : Cell) : Type 0 where
   pub payload : c.payload ≡ entered (zeros 1024) n it
-  pub tag : tag_of c.tag ≡ Some (record { kind = kind.Directory; inode = d; generation = g; slot = n / 16; stamp = stamp })
+  pub tag : tag_of c.tag
+      ≡ Some (record { kind = kind.Directory; inode = d; generation = g; slot = n / 16; stamp = stamp })
 
 -- the leaf with one pointer more
 pub record IsMoreLeaf (before : Cell) (n : ℕ) (x : Pointer) (c : Cell) : Type 0 where
@@ -89,7 +95,8 @@ pub record IsNewLeaf (d g stamp n : ℕ) (x : Pointer) (c : Cell) : Type 0 where
   pub long : length c.payload ≡ 1024
 
 -- into a slot that holds
-pub record EntersHeld (old : DiskState) (k : Books) (new : DiskState) (l : Books) (p : EntryPlace) (x : Pointer) (it : Entry) (r : Record) (t : Tables)
+pub record EntersHeld (old : DiskState) (k : Books) (new : DiskState) (l : Books) (p : EntryPlace) (x : Pointer)
+    (it : Entry) (r : Record) (t : Tables)
     (ended : Ended) : Type 0 where
   pub cell : Cell
   pub table : Cell
@@ -101,7 +108,8 @@ pub record EntersHeld (old : DiskState) (k : Books) (new : DiskState) (l : Books
   pub stores : Stores old k new l ((x.block, cell) ∷ (table_block it.inode, table) ∷ []) ended.result
 
 -- into a hole of the record
-pub record EntersDirect (old : DiskState) (k : Books) (new : DiskState) (l : Books) (d : ℕ) (dr : Record) (p : EntryPlace) (it : Entry) (r : Record)
+pub record EntersDirect (old : DiskState) (k : Books) (new : DiskState) (l : Books) (d : ℕ) (dr : Record)
+    (p : EntryPlace) (it : Entry) (r : Record)
     (t : Tables) (ended : Ended) : Type 0 where
   pub cell : Cell
   pub after : Tables
@@ -112,7 +120,8 @@ pub record EntersDirect (old : DiskState) (k : Books) (new : DiskState) (l : Boo
       ((p.blocks.cell, cell) ∷ (table_block d, after.directory) ∷ (table_block it.inode, after.inode) ∷ []) ended.result
 
 -- into a hole under a leaf that holds
-pub record EntersUnderLeaf (old : DiskState) (k : Books) (new : DiskState) (l : Books) (d : ℕ) (dr : Record) (p : EntryPlace) (y : Pointer) (it : Entry)
+pub record EntersUnderLeaf (old : DiskState) (k : Books) (new : DiskState) (l : Books) (d : ℕ) (dr : Record)
+    (p : EntryPlace) (y : Pointer) (it : Entry)
     (r : Record) (t : Tables) (ended : Ended) : Type 0 where
   pub cell : Cell
   pub leaf : Cell
@@ -121,28 +130,34 @@ pub record EntersUnderLeaf (old : DiskState) (k : Books) (new : DiskState) (l : 
   pub above : IsMoreLeaf p.cell (p.entry / 16 - 8) (claimed_pointer k p.blocks.cell) leaf
   pub written : IsTable t.inode it.inode r table
   pub claims : ended.claims ≡ record no_claims { cell = claimed_pointer k p.blocks.cell }
-  pub stores : Stores old (claimed_books k p.blocks.cell) new l ((p.blocks.cell, cell) ∷ (y.block, leaf) ∷ (table_block it.inode, table) ∷ []) ended.result
+  pub stores : Stores old (claimed_books k p.blocks.cell) new l
+      ((p.blocks.cell, cell) ∷ (y.block, leaf) ∷ (table_block it.inode, table) ∷ []) ended.result
 
 -- into a hole where there is no leaf
-pub record EntersWithLeaf (old : DiskState) (k : Books) (new : DiskState) (l : Books) (d : ℕ) (dr : Record) (p : EntryPlace) (it : Entry) (r : Record)
+pub record EntersWithLeaf (old : DiskState) (k : Books) (new : DiskState) (l : Books) (d : ℕ) (dr : Record)
+    (p : EntryPlace) (it : Entry) (r : Record)
     (t : Tables) (ended : Ended) : Type 0 where
   pub cell : Cell
   pub leaf : Cell
   pub after : Tables
   pub filled : IsNewCell d dr.generation p.entry it (claimed_pointer k p.blocks.cell).stamp cell
-  pub above : IsNewLeaf d dr.generation (claimed_pointer (claimed_books k p.blocks.cell) p.blocks.leaf).stamp (p.entry / 16 - 8)
+  pub above : IsNewLeaf d dr.generation
+      (claimed_pointer (claimed_books k p.blocks.cell) p.blocks.leaf).stamp (p.entry / 16 - 8)
       (claimed_pointer k p.blocks.cell) leaf
-  pub tables : AreTables t d (with_leaf dr (claimed_pointer (claimed_books k p.blocks.cell) p.blocks.leaf)) it.inode r after
+  pub tables : AreTables t d
+      (with_leaf dr (claimed_pointer (claimed_books k p.blocks.cell) p.blocks.leaf)) it.inode r after
   pub claims : ended.claims ≡ record no_claims {
     cell = claimed_pointer k p.blocks.cell;
     leaf = claimed_pointer (claimed_books k p.blocks.cell)
         p.blocks.leaf;
   }
   pub stores : Stores old (claimed_books (claimed_books k p.blocks.cell) p.blocks.leaf) new l
-      ((p.blocks.cell, cell) ∷ (p.blocks.leaf, leaf) ∷ (table_block d, after.directory) ∷ (table_block it.inode, after.inode) ∷ []) ended.result
+      ((p.blocks.cell, cell) ∷ (p.blocks.leaf, leaf) ∷ (table_block d, after.directory)
+      ∷ (table_block it.inode, after.inode) ∷ []) ended.result
 
 -- a new entry is written, by what stands in its slot
-abbrev pub Enters : DiskState → Books → DiskState → Books → ℕ → Record → EntryPlace → Entry → Record → Tables → EntrySlot → Ended → Type 0
+abbrev pub Enters : DiskState → Books → DiskState → Books → ℕ → Record → EntryPlace → Entry → Record → Tables
+    → EntrySlot → Ended → Type 0
 Enters old k new l d dr p it r t (entry.Held x) ended = EntersHeld old k new l p x it r t ended
 Enters old k new l d dr p it r t entry.Direct ended = EntersDirect old k new l d dr p it r t ended
 Enters old k new l d dr p it r t (entry.UnderLeaf y) ended = EntersUnderLeaf old k new l d dr p y it r t ended

@@ -17,7 +17,8 @@ use Rattle.nofs_names.specs.declared.searches.pairs.NamedPair.{NamedPair}
 use Rattle.nofs_names.specs.declared.searches.directories.NameIn.{NameIn}
 
 abbrev pub RenameGoes : DiskState → Books → DiskState → Books → NameIn → List ℕ → Result (Unit {0}) Refusal → Type 0
-RenameGoes old k new l at name result = Goes old k new l (step.Rename at.directory at.generation at.name.now name) no_claims (done_answer reply.Renamed result)
+RenameGoes old k new l at name result = Goes old k new l
+    (step.Rename at.directory at.generation at.name.now name) no_claims (done_answer reply.Renamed result)
 
 -- an entry was found that may get this name
 pub record MayRename (d : DiskState) (k : Books) (q : NamedPair) (name : List ℕ) : Type 0 where

@@ -28,10 +28,12 @@ IsSlotHeld slot answer.Lost result = result ≡ Err (refusal.LostSlot slot)
 
 -- why a slot that must hold was not found: it does not hold, or a read failed
 abbrev pub HoldFails : DiskState → DiskState → ℕ → ℕ → Refusal → Type 0
-HoldFails old new d slot why = ((is_plain why ≡ true) × InRange why × (IsTrue old.tells → (x : Pointer) → find old.now d (path_of slot) ≡ answer.Holds x
+HoldFails old new d slot why = ((is_plain why ≡ true) × InRange why
+    × (IsTrue old.tells → (x : Pointer) → find old.now d (path_of slot) ≡ answer.Holds x
     → ⊥)) ⊎ ((why ≡ refusal.ReadFault) × Rose old.faults new.faults)
 
-pub record HoldsSlot (old new : DiskState) (at : SuperBlock) (d slot : ℕ) (last : LastRead) (result : Result Pointer Refusal) : Type 0 where
+pub record HoldsSlot (old new : DiskState) (at : SuperBlock) (d slot : ℕ) (last : LastRead)
+    (result : Result Pointer Refusal) : Type 0 where
   pub stays : StaysButFaults old new
   pub area : IfOk result (λ x. InArea at (answer.Holds x))
   pub held : IfOk result (λ x. IsTrue old.tells → find old.now d (path_of slot) ≡ answer.Holds x)
@@ -45,4 +47,5 @@ done_answer r (Err why) = reply.Refused why
 
 -- the pair of a name, over any files that match the disk
 abbrev pub FoundIn : DiskState → ℕ → List ℕ → Paired → Type 0
-FoundIn old d name p = IsTrue old.tells → IsThere d old.now → (F : Files) → FilesMatch F old.now → IsFoundEntry F old.now d name p
+FoundIn old d name p = IsTrue old.tells → IsThere d old.now → (F : Files) → FilesMatch F old.now
+    → IsFoundEntry F old.now d name p

@@ -1,5 +1,6 @@
 -- Why a part of a step refuses, over any disk, and what the parts answer.
-use Rattle.std.specs.Prelude.{◌≡◌, ℕ, ◌*◌, true, List, [], ◌∷◌, Option, Some, None, option_map, IsTrue, Result, Ok, Err, IfOk, IfErr, OnOk}
+use Rattle.std.specs.Prelude.{◌≡◌, ℕ, ◌*◌, true, List, [], ◌∷◌, Option, Some, None, option_map, IsTrue, Result, Ok, Err}
+use Rattle.std.specs.Prelude.{IfOk, IfErr, OnOk}
 use Rattle.nofs_dirent.specs.Entries.{entry_limit}
 use Rattle.nofs_disk.specs.Disk.{DiskState, StaysButFaults, Rose}
 use Rattle.nofs_model.specs.Cells.{Record, SuperBlock}
@@ -26,14 +27,17 @@ use Rattle.nofs_names.specs.declared.searches.slots.Searched.{Searched}
 use Rattle.nofs_names.specs.declared.searches.slots.Searched.TheVariants as searched
 
 -- a part of a step refuses: by the first of these rows of the machine, or because a read failed
-pub data Fails (old new : DiskState) (given : Image → Type 0) (rows : World → List (Option Refusal)) (why : Refusal) : Type 0 where
-  ByRow : is_plain why ≡ true → InRange why → (IsTrue old.tells → given old.now → (W : World) → FilesMatch W.files old.now → first_of (rows W) ≡ Some why)
+pub data Fails (old new : DiskState) (given : Image → Type 0) (rows : World → List (Option Refusal))
+    (why : Refusal) : Type 0 where
+  ByRow : is_plain why ≡ true → InRange why
+      → (IsTrue old.tells → given old.now → (W : World) → FilesMatch W.files old.now → first_of (rows W) ≡ Some why)
       → Fails old new given rows why
   ByRead : why ≡ refusal.ReadFault → Rose old.faults new.faults → Fails old new given rows why
 
 -- a part does not refuse: none of these rows comes
 abbrev pub PartPasses : DiskState → (Image → Type 0) → (World → List (Option Refusal)) → Type 0
-PartPasses old given rows = IsTrue old.tells → given old.now → (W : World) → FilesMatch W.files old.now → first_of (rows W) ≡ None
+PartPasses old given rows = IsTrue old.tells → given old.now → (W : World) → FilesMatch W.files old.now
+    → first_of (rows W) ≡ None
 
 -- the inode is agreed
 abbrev pub IsThere : ℕ → Image → Type 0
@@ -50,7 +54,8 @@ directory_rows d g W = stale W d g ∷ not_directory W d ∷ []
 abbrev pub missing_rows : ℕ → List ℕ → World → List (Option Refusal)
 missing_rows d name W = missing W d name ∷ []
 
-pub record OpensDirectory (old new : DiskState) (k : Books) (d g : ℕ) (last : LastRead) (result : Result Record Refusal) : Type 0 where
+pub record OpensDirectory (old new : DiskState) (k : Books) (d g : ℕ) (last : LastRead)
+    (result : Result Record Refusal) : Type 0 where
   pub stays : StaysButFaults old new
   pub directory : IfOk result (λ r. KnowsDirectory new k.at d r.generation r)
   pub generation : IfOk result (λ r. r.generation ≡ g)
@@ -60,10 +65,12 @@ pub record OpensDirectory (old new : DiskState) (k : Books) (d g : ℕ) (last : 
   pub refused : IfErr result (Fails old new (KnownTrue k) (directory_rows d g))
 
 -- a name was looked for
-pub record FindsPair (old new : DiskState) (at : SuperBlock) (d : ℕ) (name : List ℕ) (names records : LastRead) (result : Result Paired Refusal) : Type 0 where
+pub record FindsPair (old new : DiskState) (at : SuperBlock) (d : ℕ) (name : List ℕ) (names records : LastRead)
+    (result : Result Paired Refusal) : Type 0 where
   pub stays : StaysButFaults old new
   pub known : IfOk result (KnowsPaired new at)
-  pub found : IfOk result (λ p. IsTrue old.tells → IsThere d old.now → (F : Files) → FilesMatch F old.now → IsFoundEntry F old.now d name p)
+  pub found : IfOk result
+      (λ p. IsTrue old.tells → IsThere d old.now → (F : Files) → FilesMatch F old.now → IsFoundEntry F old.now d name p)
   pub kept : OnOk result (IsLast new names × IsLast new records)
   pub refused : IfErr result (Fails old new (IsThere d) (missing_rows d name))
 
@@ -72,7 +79,8 @@ abbrev pub lost_in : Option ℕ → Option Refusal
 lost_in slot = first_of (option_map refusal.LostSlot slot ∷ Some refusal.Missing ∷ [])
 
 abbrev pub missing_in : Unfound → Option Refusal
-missing_in seen = first_of (option_map refusal.LostEntry seen.dead ∷ option_map refusal.LostSlot seen.lost ∷ Some refusal.Missing ∷ [])
+missing_in seen = first_of (option_map refusal.LostEntry seen.dead ∷ option_map refusal.LostSlot seen.lost
+    ∷ Some refusal.Missing ∷ [])
 
 -- what a search gives as an answer
 abbrev pub IsPairOf : Searched → Result Paired Refusal → Type 0
@@ -88,9 +96,11 @@ unused_in (searched.Found p) = Err refusal.Exists
 unused_in (searched.Unfound u) = Ok u
 
 -- a name was found to be unused
-pub record FindsNone (old new : DiskState) (d : ℕ) (name : List ℕ) (names records : LastRead) (result : Result Unfound Refusal) : Type 0 where
+pub record FindsNone (old new : DiskState) (d : ℕ) (name : List ℕ) (names records : LastRead)
+    (result : Result Unfound Refusal) : Type 0 where
   pub stays : StaysButFaults old new
-  pub seen : IfOk result (λ u. IsTrue old.tells → IsThere d old.now → (F : Files) → FilesMatch F old.now → Passed F d name entry_limit 72 u)
+  pub seen : IfOk result (λ u. IsTrue old.tells → IsThere d old.now → (F : Files) → FilesMatch F old.now
+      → Passed F d name entry_limit 72 u)
   pub kept : OnOk result (IsLast new names × IsLast new records)
   pub refused : IfErr result (Fails old new (IsThere d) (exists_rows d name))
 

@@ -1,5 +1,6 @@
 -- What a search of a directory answers, over any disk.
-use Rattle.std.specs.Prelude.{◌≡◌, ℕ, ◌/◌, ◌<◌, ◌≤◌, Bool, true, false, ◌&&◌, ◌||◌, not, List, Option, Some, None, is_some, IsTrue, Result, IfOk, IfSome}
+use Rattle.std.specs.Prelude.{◌≡◌, ℕ, ◌/◌, ◌<◌, ◌≤◌, Bool, true, false, ◌&&◌, ◌||◌, not, List, Option, Some, None}
+use Rattle.std.specs.Prelude.{is_some, IsTrue, Result, IfOk, IfSome}
 use Rattle.std.specs.Prelude.{OnOk, OnErr, if◌then◌else◌, nat_lt, ◌==◌}
 use Rattle.std.specs.List.{list_any}
 use Rattle.nofs_dirent.specs.Entries.{entry_limit}
@@ -38,10 +39,12 @@ IsEntrySpelled named = (1 ≤ named.inode) × (1 ≤ named.generation)
 abbrev pub is_root_record : ℕ → Record → Bool
 is_root_record i r = if i == 1 then is_record kind.Directory 1 r else (if i == 2 then is_record kind.File 2 r else true)
 
--- the record of a live inode answers an entry that names it: it has the back link to that entry, and is of the named generation
+-- the record of a live inode answers an entry that names it: it has the back link to that entry, and is of the named
+-- generation
 abbrev pub answers : Record → FileKind → Named → BackLink → Bool
 answers r kind named link = (r.generation == named.generation)
-    && ((not (is_folder kind) || nat_lt link.generation r.generation) && (list_any (λ l. same_link l link) r.links && is_root_record named.inode r))
+    && ((not (is_folder kind) || nat_lt link.generation r.generation)
+    && (list_any (λ l. same_link l link) r.links && is_root_record named.inode r))
 
 -- the kind of the inode that an entry names, where the two are a pair
 abbrev pub paired_kind : Record → Named → BackLink → Option FileKind
@@ -60,12 +63,14 @@ abbrev pub IsNamed : Image → BackLink → Named → Seen → Type 0
 IsNamed X link named seen.Empty = ⊥
 IsNamed X link named seen.Other = ⊥
 IsNamed X link named seen.Dead = paired_kind (inode X named.inode) named link ≡ None
-IsNamed X link named (seen.Found p) = (paired_kind (inode X named.inode) named link ≡ Some p.kind) × (inode X named.inode ≡ p.record) ×
+IsNamed X link named (seen.Found p) = (paired_kind (inode X named.inode) named link ≡ Some p.kind)
+    × (inode X named.inode ≡ p.record) ×
     (p.inode ≡ named.inode) × (p.entry ≡ link.entry)
 
 -- the record of what was found was read
 abbrev pub KnowsPaired : DiskState → SuperBlock → Paired → Type 0
-KnowsPaired d at p = KnowsInode d at p.inode p.record × (p.record.kind ≡ Some p.kind) × (1 ≤ p.inode) × (1 ≤ p.record.generation) × (p.entry < entry_limit)
+KnowsPaired d at p = KnowsInode d at p.inode p.record × (p.record.kind ≡ Some p.kind) × (1 ≤ p.inode)
+    × (1 ≤ p.record.generation) × (p.entry < entry_limit)
 
 -- the record of a pair was read
 abbrev pub KnowsSeen : DiskState → SuperBlock → Seen → Type 0
@@ -74,7 +79,8 @@ KnowsSeen d at seen.Other = Unit {0}
 KnowsSeen d at seen.Dead = Unit {0}
 KnowsSeen d at (seen.Found p) = KnowsPaired d at p
 
-pub record SeesNamed (old new : DiskState) (at : SuperBlock) (link : BackLink) (named : Named) (last : LastRead) (result : Result Seen Failed) : Type 0 where
+pub record SeesNamed (old new : DiskState) (at : SuperBlock) (link : BackLink) (named : Named) (last : LastRead)
+    (result : Result Seen Failed) : Type 0 where
   pub stays : StaysButFaults old new
   pub known : IfOk result (KnowsSeen new at)
   pub seen : IfOk result (λ it. IsTrue old.tells → IsNamed old.now link named it)
@@ -84,13 +90,15 @@ pub record SeesNamed (old new : DiskState) (at : SuperBlock) (link : BackLink) (
 -- what stands in a place of a cell
 abbrev pub IsSeen : Image → BackLink → List ℕ → ℕ → List ℕ → Seen → Type 0
 IsSeen X link payload place name seen.Empty = entry_in payload place ≡ None
-IsSeen X link payload place name seen.Other = (is_some (entry_in payload place) ≡ true) × (cells.has_name payload name place ≡ false)
+IsSeen X link payload place name seen.Other = (is_some (entry_in payload place) ≡ true)
+    × (cells.has_name payload name place ≡ false)
 IsSeen X link payload place name seen.Dead = (cells.has_name payload name place ≡ true) ×
     ((named : Named) × (named_in (entry_in payload place) ≡ Some named) × IsNamed X link named seen.Dead)
 IsSeen X link payload place name (seen.Found p) = (cells.has_name payload name place ≡ true) ×
     ((named : Named) × (named_in (entry_in payload place) ≡ Some named) × IsNamed X link named (seen.Found p))
 
-pub record SeesPlace (old new : DiskState) (at : SuperBlock) (link : BackLink) (payload : List ℕ) (place : ℕ) (name : List ℕ) (last : LastRead)
+pub record SeesPlace (old new : DiskState) (at : SuperBlock) (link : BackLink) (payload : List ℕ) (place : ℕ)
+    (name : List ℕ) (last : LastRead)
     (result : Result Seen Failed) : Type 0 where
   pub stays : StaysButFaults old new
   pub known : IfOk result (KnowsSeen new at)
@@ -145,11 +153,13 @@ IsPast F X d name n k v None = Passed F d name n k v
 IsPast F X d name n k v (Some p) = IsFoundEntry F X d name p
 
 -- a search from the first n entries and k slots on to the first m and l, over any files that match the disk
-pub record SearchesOn (old new : DiskState) (at : SuperBlock) (d : ℕ) (name : List ℕ) (n k m l : ℕ) (u v : Unfound) (last : LastRead)
+pub record SearchesOn (old new : DiskState) (at : SuperBlock) (d : ℕ) (name : List ℕ) (n k m l : ℕ) (u v : Unfound)
+    (last : LastRead)
     (result : Result (Option Paired) Failed) : Type 0 where
   pub stays : StaysButFaults old new
   pub known : IfOk result (λ it. IfSome it (KnowsPaired new at))
-  pub past : IfOk result (λ it. IsTrue old.tells → (F : Files) → FilesMatch F old.now → agreed (files_in old.now) d ≡ true → Passed F d name n k u
+  pub past : IfOk result (λ it. IsTrue old.tells → (F : Files) → FilesMatch F old.now
+      → agreed (files_in old.now) d ≡ true → Passed F d name n k u
       → IsPast F old.now d name m l v it)
   pub kept : OnOk result (IsLast new last)
   pub cause : OnErr result (Rose old.faults new.faults)
@@ -163,9 +173,11 @@ abbrev pub KnowsSearched : DiskState → SuperBlock → Searched → Type 0
 KnowsSearched d at (searched.Found p) = KnowsPaired d at p
 KnowsSearched d at (searched.Unfound u) = Unit {0}
 
-pub record Searches (old new : DiskState) (at : SuperBlock) (d : ℕ) (name : List ℕ) (last next : LastRead) (result : Result Searched Failed) : Type 0 where
+pub record Searches (old new : DiskState) (at : SuperBlock) (d : ℕ) (name : List ℕ) (last next : LastRead)
+    (result : Result Searched Failed) : Type 0 where
   pub stays : StaysButFaults old new
   pub known : IfOk result (KnowsSearched new at)
-  pub answer : IfOk result (λ it. IsTrue old.tells → (F : Files) → FilesMatch F old.now → agreed (files_in old.now) d ≡ true → IsSearched F old.now d name it)
+  pub answer : IfOk result (λ it. IsTrue old.tells → (F : Files) → FilesMatch F old.now
+      → agreed (files_in old.now) d ≡ true → IsSearched F old.now d name it)
   pub kept : OnOk result (IsLast new last × IsLast new next)
   pub cause : OnErr result (Rose old.faults new.faults)

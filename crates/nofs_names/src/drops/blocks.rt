@@ -56,7 +56,8 @@ fn mark_far<D: Disk>(
     requires known { Knows (D.state disk.old) it }
     requires size { length owned.old ≡ it.at.blocks }
     requires last { IsLast (D.state disk.old) last.old }
-    ensures { MarksAll (D.state disk.old) (D.state disk.new) it.at it.inode 72 slot_limit owned.old owned.new last.new result }
+    ensures { MarksAll (D.state disk.old)
+        (D.state disk.new) it.at it.inode 72 slot_limit owned.old owned.new last.new result }
 {
     match find_slot(disk, &it.at, it.inode, &it.record, Place::InRecord(9), last) {
         Ok(PathAnswer::Hole) => Ok(()),
@@ -83,7 +84,8 @@ fn mark_child<D: Disk>(
     requires known { Knows (D.state disk.old) it }
     requires size { length owned.old ≡ it.at.blocks }
     requires last { IsLast (D.state disk.old) last.old }
-    ensures { MarksAll (D.state disk.old) (D.state disk.new) it.at it.inode (72 + 64 * child) (72 + 64 * (child + 1)) owned.old owned.new last.new result }
+    ensures { MarksAll (D.state disk.old) (D.state disk.new) it.at it.inode (72 + 64 * child)
+        (72 + 64 * (child + 1)) owned.old owned.new last.new result }
 {
     let place = Place::UnderRecord {
         at: 9,

@@ -47,7 +47,8 @@ fn slot_has_names<D: Disk>(
     requires slot { slot < 72 }
     requires names { IsLast (D.state disk.old) names.old }
     requires last { IsLast (D.state disk.old) records.old }
-    ensures search { NamesOn (D.state disk.old) (D.state disk.new) directory.inode (16 * slot) (16 * (slot + 1)) records.new result }
+    ensures search { NamesOn (D.state disk.old) (D.state disk.new) directory.inode (16 * slot)
+        (16 * (slot + 1)) records.new result }
     ensures kept { OnOk result (IsLast (D.state disk.new) names.new) }
 {
     match directory.find(disk, slot, names)? {
@@ -66,9 +67,11 @@ fn cell_has_names<D: Disk>(
 ) -> Result<bool, Failed>
     requires directory { KnowsFolder (D.state disk.old) directory }
     requires slot { slot < 72 }
-    requires cell { IsTrue (D.state disk.old).tells → value (D.state disk.old).now directory.inode slot ≡ Bytes payload.now }
+    requires cell { IsTrue (D.state disk.old).tells
+        → value (D.state disk.old).now directory.inode slot ≡ Bytes payload.now }
     requires last { IsLast (D.state disk.old) records.old }
-    ensures { NamesOn (D.state disk.old) (D.state disk.new) directory.inode (16 * slot) (16 * (slot + 1)) records.new result }
+    ensures { NamesOn (D.state disk.old) (D.state disk.new) directory.inode (16 * slot)
+        (16 * (slot + 1)) records.new result }
 {
     for place in 0..16 {
         let link = BackLink {

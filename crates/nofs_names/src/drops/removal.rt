@@ -37,7 +37,8 @@ pub(crate) fn remove_file<D: Disk + Drop>(
     records: &mut LastRead,
 ) -> Result<(), Refusal>
     requires cleared { IsCleared (D.state core.old.disk) core.old.books it }
-    requires loses { LosesName (D.state core.old.disk) core.old.books it.pair.at.directory it.pair.at.generation it.pair.found }
+    requires loses { LosesName (D.state core.old.disk) core.old.books it.pair.at.directory
+        it.pair.at.generation it.pair.found }
     requires freed { BlocksOf (D.state core.old.disk) core.old.books.at it.pair.found.inode freed.now }
     requires last { IsLast (D.state core.old.disk) records.old }
     ensures { DropGoes (D.state core.old.disk) core.old.books (D.state core.new.disk) core.new.books it.entry.pair.at

@@ -75,7 +75,8 @@ fn drop_with_room<D: Disk + Drop>(
 ) -> Result<bool, Refusal>
     requires safe { IsSafe (D.state core.old.disk) core.old.books }
     requires spare { 2 ≤ (D.state core.old.disk).spare }
-    ensures { DropGoes (D.state core.old.disk) core.old.books (D.state core.new.disk) core.new.books at.entry (drop_answer result) }
+    ensures { DropGoes (D.state core.old.disk) core.old.books (D.state core.new.disk) core.new.books at.entry
+        (drop_answer result) }
 {
     let mut names = LastRead::NONE;
     let it = match open_named(&mut core.disk, &core.books, at, &mut names) {
@@ -101,11 +102,13 @@ fn drop_found<D: Disk + Drop>(
     alloc: Global,
     pair: NamedPair<'_>,
 ) -> Result<bool, Refusal>
-    requires finds { MayDrop (D.state core.old.disk) core.old.books pair.at.directory pair.at.generation pair.at.name.now pair.it pair.found }
+    requires finds { MayDrop (D.state core.old.disk) core.old.books pair.at.directory pair.at.generation
+        pair.at.name.now pair.it pair.found }
     requires safe { IsSafe (D.state core.old.disk) core.old.books }
     requires spare { 2 ≤ (D.state core.old.disk).spare }
     requires going { core.old.books.stopped ≡ false }
-    ensures { DropGoes (D.state core.old.disk) core.old.books (D.state core.new.disk) core.new.books pair.entry.at (drop_answer result) }
+    ensures { DropGoes (D.state core.old.disk) core.old.books (D.state core.new.disk) core.new.books pair.entry.at
+        (drop_answer result) }
 {
     let directory = ReadInode {
         at: core.books.at,
@@ -139,7 +142,8 @@ fn clear_place(payload: &mut [u8; 1024], place: u32)
 
 // The record of what was found, without its back link.
 fn without_name(it: NamedPair<'_>) -> Record
-    ensures { result ≡ relinked it.entry.found.record (machine.link_to it.entry.at.directory it.entry.found.entry it.entry.at.generation) }
+    ensures { result ≡ relinked
+        it.entry.found.record (machine.link_to it.entry.at.directory it.entry.found.entry it.entry.at.generation) }
 {
     let gone = BackLink {
         directory: it.at.directory,
@@ -156,7 +160,8 @@ fn drop_cleared<D: Disk + Drop>(
     it: Cleared<'_>,
 ) -> Result<bool, Refusal>
     requires { IsCleared (D.state core.old.disk) core.old.books it }
-    ensures { DropGoes (D.state core.old.disk) core.old.books (D.state core.new.disk) core.new.books it.entry.pair.at (drop_answer result) }
+    ensures { DropGoes (D.state core.old.disk) core.old.books (D.state core.new.disk) core.new.books it.entry.pair.at
+        (drop_answer result) }
 {
     let found = it.pair.found;
     let rest = without_name(it.pair);
@@ -182,9 +187,11 @@ fn drop_file<D: Disk + Drop>(
     records: &mut LastRead,
 ) -> Result<bool, Refusal>
     requires cleared { IsCleared (D.state core.old.disk) core.old.books it }
-    requires loses { LosesName (D.state core.old.disk) core.old.books it.pair.at.directory it.pair.at.generation it.pair.found }
+    requires loses { LosesName (D.state core.old.disk) core.old.books it.pair.at.directory
+        it.pair.at.generation it.pair.found }
     requires last { IsLast (D.state core.old.disk) records.old }
-    ensures { DropGoes (D.state core.old.disk) core.old.books (D.state core.new.disk) core.new.books it.entry.pair.at (drop_answer result) }
+    ensures { DropGoes (D.state core.old.disk) core.old.books (D.state core.new.disk) core.new.books it.entry.pair.at
+        (drop_answer result) }
 {
     let read = ReadInode {
         at: core.books.at,
@@ -237,7 +244,8 @@ fn drop_link<D: Disk + Drop>(
     records: &mut LastRead,
 ) -> Result<(), Refusal>
     requires cleared { IsCleared (D.state core.old.disk) core.old.books it }
-    requires keeps { KeepsName (D.state core.old.disk) core.old.books it.pair.at.directory it.pair.at.generation it.pair.found }
+    requires keeps { KeepsName (D.state core.old.disk) core.old.books it.pair.at.directory
+        it.pair.at.generation it.pair.found }
     requires last { IsLast (D.state core.old.disk) records.old }
     ensures { DropGoes (D.state core.old.disk) core.old.books (D.state core.new.disk) core.new.books it.entry.pair.at
         (done_answer (reply.Dropped false) result) }

@@ -29,7 +29,8 @@ pub(crate) fn put_entry(
     requires spelling { HasEntrySpelling (entry_with inode generation name.now) }
     ensures whole { length payload.old ≡ 1024 }
     ensures spells { Spells (spelled_entry inode generation name.now) (entry_with inode generation name.now) }
-    ensures put { OnOk result (payload.new ≡ put_bytes (64 * place) (spelled_entry inode generation name.now) payload.old) }
+    ensures put { OnOk result
+        (payload.new ≡ put_bytes (64 * place) (spelled_entry inode generation name.now) payload.old) }
 {
     let entry = Entry {
         inode,
@@ -55,7 +56,8 @@ pub(crate) fn hold_entry<D: Disk>(
     requires range { found.now.entry < entry_limit }
     requires known { Knows (D.state disk.old) directory }
     requires last { IsLast (D.state disk.old) names.old }
-    ensures { HoldsSlot (D.state disk.old) (D.state disk.new) directory.at directory.inode (found.now.entry / 16) names.new result }
+    ensures { HoldsSlot (D.state disk.old) (D.state disk.new) directory.at directory.inode
+        (found.now.entry / 16) names.new result }
 {
     let slot = found.entry / 16;
     match directory.find(disk, slot, names) {

@@ -107,7 +107,8 @@ fn find_hole<D: Disk>(
     directory: ReadInode,
     names: &mut LastRead,
 ) -> Result<EntrySlot, Refusal>
-    requires hole { IsTrue (D.state disk.old).tells → slots.find (D.state disk.old).now directory.inode (slots.path_of slot) ≡ answer.Hole }
+    requires hole { IsTrue (D.state disk.old).tells
+        → slots.find (D.state disk.old).now directory.inode (slots.path_of slot) ≡ answer.Hole }
     requires known { Knows (D.state disk.old) directory }
     requires slot { slot < 72 }
     requires last { IsLast (D.state disk.old) names.old }

@@ -82,7 +82,8 @@ fn new_tables(new: NewEntry<'_>, it: &Record) -> Tables
     requires inode { 1 ≤ new.named.now.inode }
     requires it { HasRecordSpelling it.now }
     requires new { HasRecordSpelling new.record.now }
-    ensures { AreTables new.entry.tables.now new.entry.directory it.now new.entry.named.now.inode new.entry.record.now result }
+    ensures { AreTables new.entry.tables.now new.entry.directory it.now new.entry.named.now.inode
+        new.entry.record.now result }
 {
     let inode = new.named.inode;
     let mut first = new.tables.directory;
@@ -106,7 +107,8 @@ fn fill_entries(cell: &mut Cell, owner: &Tag, place: u32, named: &Entry)
     requires place { place < 16 }
     requires spelling { HasEntrySpelling named.now }
     ensures tag { tag_of cell.new.tag ≡ Some owner.now }
-    ensures payload { cell.new.payload ≡ put_bytes (64 * place) (spelled_entry named.now.inode named.now.generation named.now.name) (zeros 1024) }
+    ensures payload { cell.new.payload ≡ put_bytes (64 * place)
+        (spelled_entry named.now.inode named.now.generation named.now.name) (zeros 1024) }
 {
     write_tag(owner, &mut cell.tag);
     clear_payload(&mut cell.payload);
@@ -118,7 +120,8 @@ fn add_entry(payload: &mut [u8; 1024], place: u32, named: &Entry)
     requires place { place < 16 }
     requires spelling { HasEntrySpelling named.now }
     ensures was { length payload.old ≡ 1024 }
-    ensures put { payload.new ≡ put_bytes (64 * place) (spelled_entry named.now.inode named.now.generation named.now.name) payload.old }
+    ensures put { payload.new ≡ put_bytes (64 * place)
+        (spelled_entry named.now.inode named.now.generation named.now.name) payload.old }
 {
     write_entry(payload, place, named);
 }
@@ -173,7 +176,8 @@ fn rooted(it: &Record, leaf: Pointer) -> Record
 
 // The tag of a directory's cell.
 fn cell_tag(inode: u32, generation: u64, slot: u32, stamp: u64) -> Tag
-    ensures { result ≡ record { kind = Kind.Directory; inode = inode; generation = generation; slot = slot; stamp = stamp } }
+    ensures { result
+        ≡ record { kind = Kind.Directory; inode = inode; generation = generation; slot = slot; stamp = stamp } }
 {
     Tag {
         kind: Kind::Directory,
@@ -186,7 +190,8 @@ fn cell_tag(inode: u32, generation: u64, slot: u32, stamp: u64) -> Tag
 
 // The tag of a leaf.
 fn leaf_tag(inode: u32, generation: u64, stamp: u64) -> Tag
-    ensures { result ≡ record { kind = Kind.Leaf; inode = inode; generation = generation; slot = 2 ^ 32; stamp = stamp } }
+    ensures { result
+        ≡ record { kind = Kind.Leaf; inode = inode; generation = generation; slot = 2 ^ 32; stamp = stamp } }
 {
     Tag {
         kind: Kind::Leaf,
@@ -201,7 +206,8 @@ fn leaf_tag(inode: u32, generation: u64, stamp: u64) -> Tag
 fn new_cell(new: NewEntry<'_>, stamp: u64) -> Cell
     requires range { new.place.now.entry < entry_limit }
     requires spelling { HasEntrySpelling new.named.now }
-    ensures { IsNewCell new.entry.directory new.entry.it.now.generation new.entry.place.now.entry new.entry.named.now stamp result }
+    ensures { IsNewCell new.entry.directory new.entry.it.now.generation new.entry.place.now.entry
+        new.entry.named.now stamp result }
 {
     let mut cell = new.place.cell;
     let slot = new.place.entry / 16;
@@ -226,7 +232,8 @@ fn enter_held<D: Disk + Drop>(core: &mut Core<D>, new: NewEntry<'_>, pointer: Po
     requires slot { new.place.now.slot ≡ EntrySlot.Held pointer }
     requires entering { IsEntering 2 (D.state core.old.disk) core.old.books new }
     ensures { EntersHeld (D.state core.old.disk) core.old.books (D.state core.new.disk)
-        core.new.books new.entry.place.now pointer new.entry.named.now new.entry.record.now new.entry.tables.now result }
+        core.new.books new.entry.place.now pointer new.entry.named.now new.entry.record.now
+        new.entry.tables.now result }
 {
     let mut cell = new.place.cell;
     add_entry(&mut cell.payload, new.place.entry % 16, new.named);

@@ -83,7 +83,8 @@ fn link_with_room<D: Disk + Drop>(core: &mut Core<D>, alloc: Global, new: NewNam
 fn open_both<D: Disk>(disk: &mut D, books: &Books, new: NewName<'_>) -> Result<Both, Refusal>
     requires numbers { IsAt (D.state disk.old) books.now.at }
     requires agreed { length books.now.agreement ≡ books.now.at.inodes }
-    ensures { OpensBoth (D.state disk.old) (D.state disk.new) books.now new.entry.at.directory new.entry.at.generation new.entry.inode new.entry.of result }
+    ensures { OpensBoth (D.state disk.old) (D.state disk.new) books.now new.entry.at.directory new.entry.at.generation
+        new.entry.inode new.entry.of result }
 {
     let mut last = LastRead::NONE;
     let at = new.at;
@@ -120,11 +121,13 @@ fn link_opened<D: Disk + Drop>(
     new: NewName<'_>,
     both: &Both,
 ) -> Ended
-    requires lead { Leads (D.state core.old.disk) core.old.books (link_step new) (named_rows new.at.directory new.at.name.now new.inode (link_step new)) }
+    requires lead { Leads (D.state core.old.disk) core.old.books (link_step new)
+        (named_rows new.at.directory new.at.name.now new.inode (link_step new)) }
     requires safe { IsSafe (D.state core.old.disk) core.old.books }
     requires spare { 4 ≤ (D.state core.old.disk).spare }
     requires going { core.old.books.stopped ≡ false }
-    requires stands { StandsLink (D.state core.old.disk) core.old.books new.at.directory new.at.generation new.at.name.now new.inode new.of both.now }
+    requires stands { StandsLink (D.state core.old.disk) core.old.books new.at.directory new.at.generation
+        new.at.name.now new.inode new.of both.now }
     requires name { NameOk new.at.name.now }
     ensures { LinkGoes (D.state core.old.disk) core.old.books (D.state core.new.disk) core.new.books new.entry result }
 {
@@ -166,7 +169,8 @@ fn link_at<D: Disk + Drop>(
     entry: u32,
 ) -> Ended
     requires places { HasPlaces (D.state core.old.disk) core.old.books new link entry }
-    requires stands { StandsLink (D.state core.old.disk) core.old.books new.at.directory new.at.generation new.at.name.now new.inode new.of both.now }
+    requires stands { StandsLink (D.state core.old.disk) core.old.books new.at.directory new.at.generation
+        new.at.name.now new.inode new.of both.now }
     requires name { NameOk new.at.name.now }
     requires lead { Leads (D.state core.old.disk) core.old.books (link_step new) (block_rows (link_step new)) }
     requires safe { IsSafe (D.state core.old.disk) core.old.books }
@@ -228,10 +232,13 @@ fn link_named<D: Disk + Drop>(
     requires spare { 4 ≤ (D.state core.old.disk).spare }
     requires going { core.old.books.stopped ≡ false }
     requires may { MayEnter (D.state core.old.disk)
-        core.old.books at.directory both.now.directory place.now.entry place.now.slot place.now.blocks named.now both.now.file }
-    requires known { MayLink (D.state core.old.disk) core.old.books at.directory at.generation both.now place.now named.now link }
+        core.old.books at.directory both.now.directory place.now.entry place.now.slot place.now.blocks
+        named.now both.now.file }
+    requires known { MayLink (D.state core.old.disk) core.old.books at.directory at.generation both.now place.now
+        named.now link }
     requires link { link < 4 }
-    ensures { LinkEnds (D.state core.old.disk) core.old.books (D.state core.new.disk) core.new.books (entry_step at.entry named.now) result }
+    ensures { LinkEnds (D.state core.old.disk) core.old.books (D.state core.new.disk) core.new.books
+        (entry_step at.entry named.now) result }
 {
     let mut last = LastRead::NONE;
     let tables = match read_tables(&mut core.disk, at.directory, named.inode, &mut last) {

@@ -6,7 +6,8 @@ ghost use Rattle.nofs_state.specs.Cores.Steps.{Goes};
 ghost use Rattle.nofs_agree.specs.Reads.{IsLast};
 ghost use Rattle.nofs_state.specs.Books.Maps.{IsSafe};
 ghost use Rattle.nofs_state.specs.Writes.Premises.{RowsPass};
-ghost use Rattle.nofs_names.specs.Makes.{AreInodesFull, FindsInode, GoesIn, MakeGoes, MayMake, RowsLeft, is_raised, made_answer, made_record};
+ghost use Rattle.nofs_names.specs.Makes.{AreInodesFull, FindsInode, GoesIn, MakeGoes, MayMake, RowsLeft, is_raised};
+ghost use Rattle.nofs_names.specs.Makes.{made_answer, made_record};
 
 use crate::entries::places::{entry_place, find_entry_slot, take_blocks};
 use crate::entries::writes::{EntryPlace, NewEntry, enter, read_tables};
@@ -177,11 +178,13 @@ fn make_at<D: Disk + Drop>(
     inode: u32,
     records: &mut LastRead,
 ) -> Ended
-    requires may { MayMake (D.state core.old.disk) core.old.books to.directory to.generation name to.it place.now inode }
+    requires may { MayMake (D.state core.old.disk) core.old.books to.directory to.generation name to.it
+        place.now inode }
     requires safe { IsSafe (D.state core.old.disk) core.old.books }
     requires spare { 4 ≤ (D.state core.old.disk).spare }
     requires going { core.old.books.stopped ≡ false }
-    requires rows { RowsPass (D.state core.old.disk) core.old.books (step.Make to.directory to.generation name to.kind) }
+    requires rows { RowsPass (D.state core.old.disk) core.old.books
+        (step.Make to.directory to.generation name to.kind) }
     requires records { IsLast (D.state core.old.disk) records.old }
     ensures { MakeGoes (D.state core.old.disk) core.old.books (D.state core.new.disk) core.new.books
         (step.Make to.directory to.generation name to.kind) result }

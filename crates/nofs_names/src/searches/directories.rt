@@ -95,7 +95,8 @@ pub(crate) fn find_pair<D: Disk>(
     requires directory { KnowsDirectory (D.state disk.old) at.now wanted.directory it.now.generation it.now }
     requires names { IsLast (D.state disk.old) names.old }
     requires last { IsLast (D.state disk.old) records.old }
-    ensures { FindsPair (D.state disk.old) (D.state disk.new) at.now wanted.entry.directory wanted.entry.name.now names.new records.new result }
+    ensures { FindsPair (D.state disk.old)
+        (D.state disk.new) at.now wanted.entry.directory wanted.entry.name.now names.new records.new result }
 {
     let directory = ReadInode {
         at: *at,

@@ -30,7 +30,8 @@ impl ReadInode {
         requires slot { slot < 72 }
         requires known { Knows (D.state disk.old) self }
         requires last { IsLast (D.state disk.old) last.old }
-        ensures { FindsSlot (D.state disk.old) (D.state disk.new) self.at (λ X. slots.find X self.inode (slots.path_of slot)) last.new result }
+        ensures { FindsSlot (D.state disk.old) (D.state disk.new) self.at
+            (λ X. slots.find X self.inode (slots.path_of slot)) last.new result }
     {
         let place = place_of(u64::from(slot));
         find_slot(disk, &self.at, self.inode, &self.record, place, last)

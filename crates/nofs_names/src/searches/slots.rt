@@ -103,7 +103,8 @@ fn see_place<D: Disk>(
     requires range { link.now.entry < entry_limit }
     requires place { place < 16 }
     requires last { IsLast (D.state disk.old) records.old }
-    ensures { SeesPlace (D.state disk.old) (D.state disk.new) at.now link.now payload.now place name.now records.new result }
+    ensures { SeesPlace (D.state disk.old)
+        (D.state disk.new) at.now link.now payload.now place name.now records.new result }
 {
     match named_at(payload, place) {
         None => Ok(Seen::Empty),
@@ -154,7 +155,8 @@ fn search_cell<D: Disk>(
 ) -> Result<Option<Paired>, Failed>
     requires directory { KnowsFolder (D.state disk.old) directory }
     requires slot { slot < 72 }
-    requires cell { IsTrue (D.state disk.old).tells → value (D.state disk.old).now directory.inode slot ≡ Bytes payload.now }
+    requires cell { IsTrue (D.state disk.old).tells
+        → value (D.state disk.old).now directory.inode slot ≡ Bytes payload.now }
     requires last { IsLast (D.state disk.old) records.old }
     ensures { SearchesOn (D.state disk.old) (D.state disk.new) directory.at directory.inode name.now (16 * slot) slot
         (16 * (slot + 1)) (slot + 1) unfound.old unfound.new records.new result }
@@ -189,7 +191,8 @@ fn search_slot<D: Disk>(
     requires slot { slot < 72 }
     requires names { IsLast (D.state disk.old) names.old }
     requires last { IsLast (D.state disk.old) records.old }
-    ensures search { SearchesOn (D.state disk.old) (D.state disk.new) directory.at directory.inode name.now (16 * slot) slot
+    ensures search { SearchesOn (D.state disk.old) (D.state disk.new) directory.at directory.inode name.now
+        (16 * slot) slot
         (16 * (slot + 1)) (slot + 1) unfound.old unfound.new records.new result }
     ensures kept { OnOk result (IsLast (D.state disk.new) names.new) }
 {
@@ -225,7 +228,8 @@ pub(crate) fn search<D: Disk>(
     requires directory { KnowsFolder (D.state disk.old) directory }
     requires names { IsLast (D.state disk.old) names.old }
     requires last { IsLast (D.state disk.old) records.old }
-    ensures { Searches (D.state disk.old) (D.state disk.new) directory.at directory.inode name.now names.new records.new result }
+    ensures { Searches (D.state disk.old)
+        (D.state disk.new) directory.at directory.inode name.now names.new records.new result }
 {
     let mut unfound = Unfound::NONE;
     for slot in 0..72 {

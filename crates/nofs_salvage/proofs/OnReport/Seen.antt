@@ -20,7 +20,8 @@ either-swap false b r = refl
 
 module _ {K : Type 0} (f : K → List ℕ) where
   -- a name is found by the order as it is by its bytes
-  pub any-same : (name : List ℕ) (keys : List K) → list_any (λ key. is_eq (slice_cmp nat_cmp name (f key))) keys ≡ list_any (λ key. bytes_eq name (f key)) keys
+  pub any-same : (name : List ℕ) (keys : List K)
+      → list_any (λ key. is_eq (slice_cmp nat_cmp name (f key))) keys ≡ list_any (λ key. bytes_eq name (f key)) keys
   any-same name [] = refl
   any-same name (key ∷ keys) = ap₂ (λ a b. a || b) (is_eq-slice_cmp name (f key)) (any-same name keys)
 
@@ -35,11 +36,14 @@ module _ {K : Type 0} (f : K → List ℕ) where
       more = insert_key (λ a b. slice_cmp nat_cmp (f a) (f b)) ks key
 
       go : (o : Ordering) → slice_cmp nat_cmp (f key) (f k) ≡ o
-          → list_any (λ x. bytes_eq other (f x)) more ≡ (bytes_eq other (f key) || list_any (λ x. bytes_eq other (f x)) ks)
+          → list_any (λ x. bytes_eq other (f x)) more
+          ≡ (bytes_eq other (f key) || list_any (λ x. bytes_eq other (f x)) ks)
           → list_any (λ x. bytes_eq other (f x)) (match_ordering o (key ∷ k ∷ ks) (k ∷ ks) (k ∷ more))
           ≡ (bytes_eq other (f key) || (bytes_eq other (f k) || list_any (λ x. bytes_eq other (f x)) ks))
       go Less e ih = refl
-      go Equal e ih = either-twice (bytes_eq other (f key)) (bytes_eq other (f k)) (list_any (λ x. bytes_eq other (f x)) ks)
+      go Equal e ih =
+          either-twice (bytes_eq other (f key)) (bytes_eq other (f k)) (list_any (λ x. bytes_eq other (f x)) ks)
           (ap (bytes_eq other) (exact_bytes (f key) (f k) e))
-      go Greater e ih = ap (λ b. bytes_eq other (f k) || b) ih ∙ either-swap (bytes_eq other (f key)) (bytes_eq other (f k))
+      go Greater e ih = ap (λ b. bytes_eq other (f k) || b) ih
+          ∙ either-swap (bytes_eq other (f key)) (bytes_eq other (f k))
           (list_any (λ x. bytes_eq other (f x)) ks)

@@ -1,6 +1,8 @@
 -- A line of a directory leads to what it says: the first pair of its name is its own.
-use Rattle.std.proofs.Common.{◌≡◌, ℕ, zero, suc, ◌+◌, ◌*◌, ◌<◌, ◌≤◌, inl, inr, List, [], ◌∷◌, ◌++◌, Bool, true, false, ◌&&◌, ◌||◌, not, if◌then◌else◌}
-use Rattle.std.proofs.Common.{Option, Some, None, is_some, refl, sym, ap, ◌∙◌, subst, append_assoc, bytes_eq, take, arith}
+use Rattle.std.proofs.Common.{◌≡◌, ℕ, zero, suc, ◌+◌, ◌*◌, ◌<◌, ◌≤◌, inl, inr, List, [], ◌∷◌, ◌++◌, Bool, true, false}
+use Rattle.std.proofs.Common.{◌&&◌, ◌||◌, not, if◌then◌else◌}
+use Rattle.std.proofs.Common.{Option, Some, None, is_some, refl, sym, ap, ◌∙◌, subst, append_assoc, bytes_eq, take}
+use Rattle.std.proofs.Common.{arith}
 use Rattle.std.specs.Prelude.{All, IsTrue, drop}
 use Rattle.std.specs.List.{list_any}
 use Rattle.std.proofs.lemmas.Bool.{cases_lt}
@@ -48,7 +50,8 @@ lines-join F d e (suc m) n =
     let first = line_of F d e (entry_at F d e) in
     let count : suc m + n ≡ suc (m + n) = omega arith in
     let same : suc e + m ≡ e + suc m = omega arith in
-    ap (lines_from F d e) count ∙ ap (λ l. first ++ l) (lines-join F d (suc e) m n ∙ ap (λ k. lines_from F d (suc e) m ++ lines_from F d k n) same)
+    ap (lines_from F d e) count
+    ∙ ap (λ l. first ++ l) (lines-join F d (suc e) m n ∙ ap (λ k. lines_from F d (suc e) m ++ lines_from F d k n) same)
     ∙ sym (append_assoc first (lines_from F d (suc e) m) (lines_from F d (e + suc m) n))
 
 lines-front : (F : Files) (d m n : ℕ) → lines_from F d 0 (m + n) ≡ lines_from F d 0 m ++ lines_from F d m n
@@ -62,7 +65,8 @@ unfolding lines_below lines_in_slot
 lines-below F d zero = refl
 lines-below F d (suc l) =
     let size : 16 * l + 16 ≡ 16 * suc l = omega arith in
-    ap (λ x. x ++ lines_from F d (16 * l) 16) (lines-below F d l) ∙ sym (lines-front F d (16 * l) 16) ∙ ap (lines_from F d 0) size
+    ap (λ x. x ++ lines_from F d (16 * l) 16) (lines-below F d l) ∙ sym (lines-front F d (16 * l) 16)
+    ∙ ap (lines_from F d 0) size
 
 -- a line among those of n entries is that of one of them, and behind the lines of those before
 record IsLine (F : Files) (d e n : ℕ) (before : List NameLine) (line : NameLine) : Type 0 where
@@ -71,20 +75,27 @@ record IsLine (F : Files) (d e n : ℕ) (before : List NameLine) (line : NameLin
   front : before ≡ lines_from F d e at
   own : line_of F d (e + at) (entry_at F d (e + at)) ≡ line ∷ []
 
-line-in : (F : Files) (d e n : ℕ) (before after : List NameLine) (line : NameLine) → lines_from F d e n ≡ before ++ line ∷ after
+line-in : (F : Files) (d e n : ℕ) (before after : List NameLine) (line : NameLine)
+    → lines_from F d e n ≡ before ++ line ∷ after
     → IsLine F d e n before line
 line-in F d e zero [] after line h = absurd (cc h)
 line-in F d e zero (b ∷ before) after line h = absurd (cc h)
-line-in F d e (suc n) before after line h = go (entry_at F d e) refl before h (λ b x. line-in F d (suc e) n b after line x)
+line-in F d e (suc n) before after line h =
+    go (entry_at F d e) refl before h (λ b x. line-in F d (suc e) n b after line x)
   where
-    later : (m : ℕ) → line_of F d (suc e + m) (entry_at F d (suc e + m)) ≡ line ∷ [] → line_of F d (e + suc m) (entry_at F d (e + suc m)) ≡ line ∷ []
-    later m own = let same : suc e + m ≡ e + suc m = omega arith in subst (λ (k : ℕ). line_of F d k (entry_at F d k) ≡ line ∷ []) same own
+    later : (m : ℕ) → line_of F d (suc e + m) (entry_at F d (suc e + m)) ≡ line ∷ []
+        → line_of F d (e + suc m) (entry_at F d (e + suc m)) ≡ line ∷ []
+    later m own = let same : suc e + m ≡ e + suc m = omega arith in
+        subst (λ (k : ℕ). line_of F d k (entry_at F d k) ≡ line ∷ []) same own
 
     first : (own : line_of F d e (entry_at F d e) ≡ line ∷ []) → line_of F d (e + 0) (entry_at F d (e + 0)) ≡ line ∷ []
-    first own = let same : e ≡ e + 0 = omega arith in subst (λ (k : ℕ). line_of F d k (entry_at F d k) ≡ line ∷ []) same own
+    first own = let same : e ≡ e + 0 = omega arith in
+        subst (λ (k : ℕ). line_of F d k (entry_at F d k) ≡ line ∷ []) same own
 
-    go : (o : Option Entry) → entry_at F d e ≡ o → (before : List NameLine) → line_of F d e o ++ lines_from F d (suc e) n ≡ before ++ line ∷ after
-        → ((b : List NameLine) → lines_from F d (suc e) n ≡ b ++ line ∷ after → IsLine F d (suc e) n b line) → IsLine F d e (suc n) before line
+    go : (o : Option Entry) → entry_at F d e ≡ o → (before : List NameLine) → line_of F d e o
+        ++ lines_from F d (suc e) n ≡ before ++ line ∷ after
+        → ((b : List NameLine) → lines_from F d (suc e) n ≡ b ++ line ∷ after → IsLine F d (suc e) n b line)
+        → IsLine F d e (suc n) before line
     go None is before h more =
         let r = more before h in record {
           at = suc r.at;
@@ -104,7 +115,8 @@ line-in F d e (suc n) before after line h = go (entry_at F d e) refl before h (�
         let r = more before (ap (drop 1) h) in record {
           at = suc r.at;
           within = omega (arith, r.within);
-          front = ap (λ l. b ∷ l) r.front ∙ sym (ap (λ l. l ++ lines_from F d (suc e) r.at) (ap (line_of F d e) is ∙ head));
+          front = ap (λ l. b ∷ l) r.front
+              ∙ sym (ap (λ l. l ++ lines_from F d (suc e) r.at) (ap (line_of F d e) is ∙ head));
           own = later r.at r.own;
         }
 
@@ -120,7 +132,8 @@ same-swap a b = go (bytes_eq a b) refl (bytes_eq b a) refl
     go false p true q = absurd (cc (p, (bytes_eq-Decides a b).1 (sym ((bytes_eq-Decides b a).0 q))))
 
 -- a line's pair has the name exactly where its entry does
-line-doubled : (F : Files) (d e : ℕ) (name : List ℕ) → list_any (λ line. not line.dead && bytes_eq name line.name) (line_of F d e (entry_at F d e)) ≡ false
+line-doubled : (F : Files) (d e : ℕ) (name : List ℕ)
+    → list_any (λ line. not line.dead && bytes_eq name line.name) (line_of F d e (entry_at F d e)) ≡ false
     → is_named_pair F d name e ≡ false
 line-doubled F d e name h = go (entry_at F d e) h
   where
@@ -130,10 +143,12 @@ line-doubled F d e name h = go (entry_at F d e) h
     last false a true same h = refl
     last false a false same h = refl
 
-    go : (o : Option Entry) → list_any (λ (line : NameLine). not line.dead && bytes_eq name line.name) (line_of F d e o) ≡ false
+    go : (o : Option Entry)
+        → list_any (λ (line : NameLine). not line.dead && bytes_eq name line.name) (line_of F d e o) ≡ false
         → ((elim o [ None ↦ false | Some entry ↦ bytes_eq entry.name name ]) && is_paired F d e) ≡ false
     go None h = refl
-    go (Some entry) h = last (is_paired F d e) (bytes_eq name entry.name) (bytes_eq entry.name name) (same-swap name entry.name) h
+    go (Some entry) h =
+        last (is_paired F d e) (bytes_eq name entry.name) (bytes_eq entry.name name) (same-swap name entry.name) h
 
 both-false : (a b : Bool) → (a || b) ≡ false → (a ≡ false) × (b ≡ false)
 both-false true b h = absurd (cc h)
@@ -152,7 +167,8 @@ none-named F d e (suc n) name h j low high =
     ]
 
 -- the first number that passes
-least-is : (test : ℕ → Bool) (at n l : ℕ) → ((j : ℕ) → at ≤ j → j < l → test j ≡ false) → at ≤ l → l < at + n → test l ≡ true → least_from test at n ≡ Some l
+least-is : (test : ℕ → Bool) (at n l : ℕ) → ((j : ℕ) → at ≤ j → j < l → test j ≡ false)
+    → at ≤ l → l < at + n → test l ≡ true → least_from test at n ≡ Some l
 unfolding least_from
 least-is test at zero l before low high holds = absurd (omega arith)
 least-is test at (suc n) l before low high holds = elim (cases_lt at l) [
@@ -162,7 +178,8 @@ least-is test at (suc n) l before low high holds = elim (cases_lt at l) [
       ∙ least-is test (suc at) n l (λ j h. before j (omega arith)) (omega arith) (omega arith) holds
   | inr below ↦
       let same : l ≡ at = omega arith in
-      ap (λ b. if b then Some at else least_from test (suc at) n) (subst (λ (k : ℕ). test k ≡ true) same holds) ∙ ap Some (sym same)
+      ap (λ b. if b then Some at else least_from test (suc at) n) (subst (λ (k : ℕ). test k ≡ true) same holds)
+      ∙ ap Some (sym same)
 ]
 
 -- What a line says
@@ -178,7 +195,8 @@ record IsEntry (F : Files) (d e : ℕ) (line : NameLine) : Type 0 where
 one-same : (x y : NameLine) → (x ∷ []) ≡ (y ∷ []) → x ≡ y
 one-same x y h = cc h
 
-entry-is : (F : Files) (d e : ℕ) (line : NameLine) → line_of F d e (entry_at F d e) ≡ line ∷ [] → line.dead ≡ false → IsEntry F d e line
+entry-is : (F : Files) (d e : ℕ) (line : NameLine)
+    → line_of F d e (entry_at F d e) ≡ line ∷ [] → line.dead ≡ false → IsEntry F d e line
 entry-is F d e line h live = go (entry_at F d e) refl h
   where
     kinds : (p f : Bool) → p ≡ true → f ≡ is_folder (if p && f then kind.Directory else kind.File)
@@ -193,20 +211,25 @@ entry-is F d e line h live = go (entry_at F d e) refl h
     go : (o : Option Entry) → entry_at F d e ≡ o → line_of F d e o ≡ line ∷ [] → IsEntry F d e line
     go None is h = absurd (cc h)
     go (Some entry) is h =
-        let same : record { name = entry.name; kind = kind_named F d e entry.inode; dead = not (is_paired F d e) } ≡ line = one-same _ line h in
-        let yes : is_paired F d e ≡ true = alive (is_paired F d e) line.dead (ap (λ (x : NameLine). x.dead) same) live in record {
+        let same : record { name = entry.name; kind = kind_named F d e entry.inode; dead = not (is_paired F d e) }
+        ≡ line = one-same _ line h in
+        let yes : is_paired F d e ≡ true =
+        alive (is_paired F d e) line.dead (ap (λ (x : NameLine). x.dead) same) live in record {
           entry = entry;
           is = is;
           paired = yes;
           name = ap (λ (x : NameLine). x.name) same;
-          kind = kinds (is_paired F d e) (is_folder_at F entry.inode) yes ∙ ap (λ (x : NameLine). is_folder x.kind) same;
+          kind = kinds (is_paired F d e) (is_folder_at F entry.inode) yes
+              ∙ ap (λ (x : NameLine). is_folder x.kind) same;
         }
 
 -- the name of a line finds its own entry
-finds-own : (F : Files) (d e : ℕ) (line : NameLine) → e < entry_limit → IsEntry F d e line → ((j : ℕ) → 0 ≤ j → j < e → is_named_pair F d line.name j ≡ false)
+finds-own : (F : Files) (d e : ℕ) (line : NameLine) → e < entry_limit → IsEntry F d e line
+    → ((j : ℕ) → 0 ≤ j → j < e → is_named_pair F d line.name j ≡ false)
     → found F d line.name ≡ Some e
 unfolding found
-finds-own F d e line low own before = least-is (is_named_pair F d line.name) 0 entry_limit e before (omega arith) low passes
+finds-own F d e line low own before =
+    least-is (is_named_pair F d line.name) 0 entry_limit e before (omega arith) low passes
   where
     named : entry_has_name F d line.name e ≡ true
     named = ap (λ (o : Option Entry). elim o [ None ↦ false | Some entry ↦ bytes_eq entry.name line.name ]) own.is
@@ -215,11 +238,13 @@ finds-own F d e line low own before = least-is (is_named_pair F d line.name) 0 e
     passes : is_named_pair F d line.name e ≡ true
     passes = ap (λ b. b && is_paired F d e) named ∙ own.paired
 
-own-inode : (F : Files) (d e : ℕ) (line : NameLine) (own : IsEntry F d e line) → found F d line.name ≡ Some e → inode_found F d line.name ≡ own.entry.inode
+own-inode : (F : Files) (d e : ℕ) (line : NameLine) (own : IsEntry F d e line) → found F d line.name ≡ Some e
+    → inode_found F d line.name ≡ own.entry.inode
 unfolding inode_found
 own-inode F d e line own is = ap (inode_at F d) is ∙ ap inode_in own.is
 
-leads : (F : Files) (d e : ℕ) (line : NameLine) → e < entry_limit → IsEntry F d e line → ((j : ℕ) → 0 ≤ j → j < e → is_named_pair F d line.name j ≡ false)
+leads : (F : Files) (d e : ℕ) (line : NameLine) → e < entry_limit → IsEntry F d e line
+    → ((j : ℕ) → 0 ≤ j → j < e → is_named_pair F d line.name j ≡ false)
     → IsTrue (is_name line.name) → LeadsTo F d line.name (is_folder line.kind)
 leads F d e line low own before name =
     let is = finds-own F d e line low own before in record {
@@ -233,7 +258,8 @@ unfolding lines_in_slot
 slot-lines F d l = refl
 
 -- the lines of a slot, behind those below it
-pub slot-told : (F : Files) (d l : ℕ) (lines : List NameLine) → l < 72 → lines ≡ lines_in_slot F d l → All (λ line. IsTrue (is_name line.name)) lines
+pub slot-told : (F : Files) (d l : ℕ) (lines : List NameLine) → l < 72 → lines ≡ lines_in_slot F d l
+    → All (λ line. IsTrue (is_name line.name)) lines
     → AreTold F d (lines_below F d l) lines
 slot-told F d l lines low are names before after line split = λ live fresh.
     let r = line-in F d (16 * l) 16 before after line (sym (slot-lines F d l) ∙ sym are ∙ split) in
@@ -241,14 +267,18 @@ slot-told F d l lines low are names before after line split = λ live fresh.
     let own = entry-is F d e line r.own live in
     let front : lines_below F d l ++ before ≡ lines_from F d 0 e = ap (λ x. x ++ before) (lines-below F d l)
     ∙ ap (λ x. lines_from F d 0 (16 * l) ++ x) r.front ∙ sym (lines-front F d (16 * l) r.at) in
-    let new : is_doubled (lines_from F d 0 e) line.name ≡ false = sym (ap (λ x. is_doubled x line.name) front) ∙ fresh in
-    let none : (j : ℕ) → 0 ≤ j → j < e → is_named_pair F d line.name j ≡ false = λ j low high. none-named F d 0 e line.name new j low (omega (arith, high)) in
+    let new : is_doubled (lines_from F d 0 e) line.name ≡ false =
+    sym (ap (λ x. is_doubled x line.name) front) ∙ fresh in
+    let none : (j : ℕ) → 0 ≤ j → j < e → is_named_pair F d line.name j ≡ false =
+    λ j low high. none-named F d 0 e line.name new j low (omega (arith, high)) in
     let name : IsTrue (is_name line.name) = All-head (λ (x : NameLine). IsTrue (is_name x.name)) line after
-    (all-last (λ (x : NameLine). IsTrue (is_name x.name)) before (line ∷ after) (subst (All (λ (x : NameLine). IsTrue (is_name x.name))) split names)) in
+    (all-last (λ (x : NameLine). IsTrue (is_name x.name)) before (line ∷ after)
+    (subst (All (λ (x : NameLine). IsTrue (is_name x.name))) split names)) in
     leads F d e line (omega (arith, low, r.within)) own none name
 
 -- line by line
-pub told-at : (F : Files) (d i : ℕ) (earlier lines : List NameLine) (line : NameLine) → take (i + 1) lines ≡ take i lines ++ line ∷ []
+pub told-at : (F : Files) (d i : ℕ) (earlier lines : List NameLine) (line : NameLine)
+    → take (i + 1) lines ≡ take i lines ++ line ∷ []
     → AreTold F d earlier lines → IsTold F d (earlier ++ take i lines) line
 told-at F d i earlier lines line front told =
     let split : lines ≡ take i lines ++ line ∷ drop (i + 1) lines = sym (take-append-drop (i + 1) lines)
@@ -256,25 +286,34 @@ told-at F d i earlier lines line front told =
     told (take i lines) (drop (i + 1) lines) line split
 
 -- what a list gives of a directory that was walked up to a slot
-pub listed-told : (W : World) (picks : List ℕ → Bool) (d : ℕ) (start : Findings) (k l : ℕ) (lines : List NameLine) (now : Findings) (seen : SeenNames)
+pub listed-told : (W : World) (picks : List ℕ → Bool) (d : ℕ) (start : Findings) (k l : ℕ) (lines : List NameLine)
+    (now : Findings) (seen : SeenNames)
     → l < 72 → All (λ line. IsTrue (is_name line.name)) lines
-    → (first_data_slot W.files d k ≡ Some l) × (is_lost (value_of W.files d l) ≡ false) × (lines ≡ lines_in_slot W.files d l)
-    → IsWalked W picks d k start now seen → AreSeen seen (lines_below W.files d l) × AreTold W.files d (lines_below W.files d l) lines
+    → (first_data_slot W.files d k ≡ Some l) × (is_lost (value_of W.files d l) ≡ false)
+    × (lines ≡ lines_in_slot W.files d l)
+    → IsWalked W picks d k start now seen
+    → AreSeen seen (lines_below W.files d l) × AreTold W.files d (lines_below W.files d l) lines
 listed-told W picks d start k l lines now seen low names is w = (
   walked-seen W picks d start k l now seen is.0 w,
   slot-told W.files d l lines low is.2 names,
 )
 
 -- The lines that a list names: each is told, and to go through them is to ask what may be asked
-module _ (W : World) (picks : List ℕ → Bool) (d : ℕ) (start : Findings) (k l : ℕ) (lines : List NameLine) (now : Findings) (seen : SeenNames)
-    (listed : NextSlot) (is : listed ≡ list.Names l lines) (part : IsFolderPart listed) (walked : IsWalked W picks d k start now seen)
+module _ (W : World) (picks : List ℕ → Bool) (d : ℕ) (start : Findings) (k l : ℕ) (lines : List NameLine)
+    (now : Findings) (seen : SeenNames)
+    (listed : NextSlot) (is : listed ≡ list.Names l lines) (part : IsFolderPart listed)
+    (walked : IsWalked W picks d k start now seen)
   where
-    pub names-told : IsListedFrom W.files d k listed → AreSeen seen (lines_below W.files d l) × AreTold W.files d (lines_below W.files d l) lines
-    names-told from = listed-told W picks d start k l lines now seen (rw is at part.below) (rw is at part.names) (rw is at from) walked
+    pub names-told : IsListedFrom W.files d k listed
+        → AreSeen seen (lines_below W.files d l) × AreTold W.files d (lines_below W.files d l) lines
+    names-told from = listed-told W picks d start k l lines now seen (rw is at part.below) (rw is at part.names)
+        (rw is at from) walked
 
-    pub names-right : (old mid new : List Made) (a b : Option Refusal) → MakesReads old mid a → MakesReads mid new b → AreAnswered W old new
+    pub names-right : (old mid new : List Made) (a b : Option Refusal) → MakesReads old mid a → MakesReads mid new b
+        → AreAnswered W old new
         → (AreAnswered W old mid → IsListedFrom W.files d k listed) → (AreAnswered W old mid → AreFair W.files old mid)
-        → (AreSeen seen (lines_below W.files d l) → AreTold W.files d (lines_below W.files d l) lines → AreAnswered W mid new → AreFair W.files mid new)
+        → (AreSeen seen (lines_below W.files d l) → AreTold W.files d (lines_below W.files d l) lines
+        → AreAnswered W mid new → AreFair W.files mid new)
         → AreFair W.files old new
     names-right old mid new a b first last answered from list_right lines_right =
         let told = names-told (from (answered-both W old mid new a b first last answered).0) in

@@ -1,5 +1,6 @@
 -- The files of an image have roots: inode 1 is agreed as a directory alone, and inode 2 as a file.
-use Rattle.std.proofs.Common.{◌≡◌, Bool, true, false, ◌&&◌, ◌||◌, not, if◌then◌else◌, Option, Some, None, is_some, refl, sym, ap, ◌∙◌}
+use Rattle.std.proofs.Common.{◌≡◌, Bool, true, false, ◌&&◌, ◌||◌, not, if◌then◌else◌, Option, Some, None, is_some, refl}
+use Rattle.std.proofs.Common.{sym, ap, ◌∙◌}
 use Rattle.nofs_model.specs.Kinds.{File, Directory as Folder}
 use Rattle.nofs_model.specs.Image.{Image, FileState, Files, files_in, is_folder, is_a, agreed}
 use Rattle.nofs_history.specs.Since.{agreed_files}
@@ -33,8 +34,10 @@ file-kind h is = flip (is_folder h.kind) (left-of (not (is_folder h.kind)) _ is)
     flip true x = absurd (cc x)
 
 -- a file that the image says is of a kind is so
-same-kind : (a b : Option FileState) (t : Bool) (g : Option FileState) (kind : Bool) → SameFile a b → b ≡ (if t then g else None)
-    → ((h : FileState) → t ≡ true → g ≡ Some h → is_folder h.kind ≡ kind) → is_some a ≡ true → elim a [ None ↦ false | Some f ↦ is_folder f.kind ] ≡ kind
+same-kind : (a b : Option FileState) (t : Bool) (g : Option FileState) (kind : Bool) → SameFile a b
+    → b ≡ (if t then g else None)
+    → ((h : FileState) → t ≡ true → g ≡ Some h → is_folder h.kind ≡ kind)
+    → is_some a ≡ true → elim a [ None ↦ false | Some f ↦ is_folder f.kind ] ≡ kind
 same-kind None b t g kind same is says some = absurd (cc some)
 same-kind (Some f) None t g kind same is says some = absurd same
 same-kind (Some f) (Some h) true g kind same is says some = ap is_folder same.kind ∙ says h refl (sym is)
@@ -48,7 +51,9 @@ opened X i = refl
 pub matched-roots : (F : Files) (X : Image) → FilesMatch F X → HasRoots F
 matched-roots F X match = (
   (λ there. same-kind (F 1) (agreed_files X 1) (agreed (files_in X) 1) (files_in X 1) true (match 1) (opened X 1)
-      (λ h so is. folder-kind h (ap (is_a Folder 1) (sym is) ∙ agreed-root (files_in X) so)) (left-of (is_some (F 1)) _ there)),
+      (λ h so is. folder-kind h (ap (is_a Folder 1) (sym is) ∙ agreed-root (files_in X) so))
+      (left-of (is_some (F 1)) _ there)),
   (λ there. same-kind (F 2) (agreed_files X 2) (agreed (files_in X) 2) (files_in X 2) false (match 2) (opened X 2)
-      (λ h so is. file-kind h (ap (is_a File 2) (sym is) ∙ agreed-label (files_in X) so)) (left-of (is_some (F 2)) _ there)),
+      (λ h so is. file-kind h (ap (is_a File 2) (sym is) ∙ agreed-label (files_in X) so))
+      (left-of (is_some (F 2)) _ there)),
 )

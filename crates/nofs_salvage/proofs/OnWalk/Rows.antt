@@ -1,15 +1,18 @@
 -- Why one step of a walk is refused, and that it is answered right where no row refuses it.
-use Rattle.std.proofs.Common.{◌≡◌, ℕ, inl, inr, ◌⊎◌, List, [], ◌∷◌, Bool, true, false, ◌&&◌, not, nat_le, ◌==◌, if◌then◌else◌, Option, Some, None}
+use Rattle.std.proofs.Common.{◌≡◌, ℕ, inl, inr, ◌⊎◌, List, [], ◌∷◌, Bool, true, false, ◌&&◌, not, nat_le, ◌==◌}
+use Rattle.std.proofs.Common.{if◌then◌else◌, Option, Some, None}
 use Rattle.std.proofs.Common.{is_some, refl, sym, ap, ◌∙◌, subst}
 use Rattle.std.specs.Prelude.{IfSome, zero, suc}
 use Rattle.std.specs.List.{list_any}
 use Rattle.nofs_model.specs.Cells.{Entry, is_name, entry_limit}
 use Rattle.nofs_model.specs.Image.{FileState, Files, entry_at, is_pair, links_in_file, links_of}
 use Rattle.nofs_history.specs.Search.{first_of, least_from}
-use Rattle.nofs_history.specs.Machine.{found, is_lost, is_folder_at, value_of, is_paired, entry_has_name, generation_of, same_link, link_to}
+use Rattle.nofs_history.specs.Machine.{found, is_lost, is_folder_at, value_of, is_paired, entry_has_name, generation_of}
+use Rattle.nofs_history.specs.Machine.{same_link, link_to}
 use Rattle.nofs_history.specs.World.{World}
 use Rattle.nofs_history.specs.Refusals.{rows, row, may_write, slots}
-use Rattle.nofs_history.specs.Answers.{reply_of, found_reply, found_entry, found_file, stat_file, stat_reply, listed_reply, lines_in_slot}
+use Rattle.nofs_history.specs.Answers.{reply_of, found_reply, found_entry, found_file, stat_file, stat_reply}
+use Rattle.nofs_history.specs.Answers.{listed_reply, lines_in_slot}
 use Rattle.nofs_history.specs.Next.{Next, AfterFault, ByRow, Done, ByRead, ByWrite}
 use Rattle.nofs_history.specs.declared.machine.history.Claims.{Claims}
 use Rattle.nofs_history.specs.declared.machine.history.Entry1.{Entry1}
@@ -37,15 +40,20 @@ pub data Cause (U V : World) (s : Step) (why : Refusal) : Type 0 where
 refused-is : (r : Reply) (why other : Refusal) → r ≡ reply.Refused other → r ≡ reply.Refused why → why ≡ other
 refused-is r why other a b = cc (a, b)
 
-cause : (U V : World) (e : Entry1) (s : Step) (why : Refusal) → may_write s ≡ false → e.step ≡ s → e.reply ≡ reply.Refused why → Next U e V → Cause U V s why
+cause : (U V : World) (e : Entry1) (s : Step) (why : Refusal)
+    → may_write s ≡ false → e.step ≡ s → e.reply ≡ reply.Refused why → Next U e V → Cause U V s why
 cause U V e s why reads at is (AfterFault x r c same) = Halt (refused-is e.reply why refusal.Stopped r is)
 cause U V e s why reads at is (ByRow other x f (inl r) c k st l) =
-    Row (subst (λ (t : Step). first_of (rows U V t) ≡ Some other) at f ∙ ap Some (sym (refused-is e.reply why other r is)))
-cause U V e s why reads at is (ByRow other x f (inr (r, late)) c k st l) = Fault (refused-is e.reply why refusal.ReadFault r is)
+    Row (subst (λ (t : Step). first_of (rows U V t) ≡ Some other) at f
+    ∙ ap Some (sym (refused-is e.reply why other r is)))
+cause U V e s why reads at is (ByRow other x f (inr (r, late)) c k st l) =
+    Fault (refused-is e.reply why refusal.ReadFault r is)
 cause U V e s why reads at is (Done x f r c fs hs se vs l) =
-    Answer e.claims (subst (λ (t : Step). first_of (rows U V t) ≡ None) at f) (sym is ∙ subst (λ (t : Step). e.reply ≡ reply_of U t e.claims) at r)
+    Answer e.claims (subst (λ (t : Step). first_of (rows U V t) ≡ None) at f)
+    (sym is ∙ subst (λ (t : Step). e.reply ≡ reply_of U t e.claims) at r)
 cause U V e s why reads at is (ByRead x f r c k st l) = Fault (refused-is e.reply why refusal.ReadFault r is)
-cause U V e s why reads at is (ByWrite x f w r c k st l) = absurd (clash (may_write s) (subst (λ (t : Step). may_write t ≡ true) at w) reads)
+cause U V e s why reads at is (ByWrite x f w r c k st l) =
+    absurd (clash (may_write s) (subst (λ (t : Step). may_write t ≡ true) at w) reads)
 
 -- The rows
 
@@ -59,7 +67,8 @@ module _ (F : Files) where
   lacks : (why : Refusal) → refusal.Stale ≡ why → LacksRoot F → MayRefuse F why
   lacks why e h = subst (λ (w : Refusal). MayRefuse F w) e h
 
-  stat-row : (t : Bool) (why : Refusal) → (t ≡ false → LacksRoot F) → first_of (row (not t) refusal.Stale ∷ []) ≡ Some why → MayRefuse F why
+  stat-row : (t : Bool) (why : Refusal) → (t ≡ false → LacksRoot F)
+      → first_of (row (not t) refusal.Stale ∷ []) ≡ Some why → MayRefuse F why
   stat-row true why lack h = absurd (cc h)
   stat-row false why lack h = let is : refusal.Stale ≡ why = cc h in lacks why is (lack refl)
 
@@ -70,14 +79,17 @@ module _ (F : Files) where
   list-row false v why lack kind h = let is : refusal.Stale ≡ why = cc h in lacks why is (lack refl)
 
   get-row : (z t v : Bool) (why : Refusal) → (t ≡ false → LacksRoot F) → (t ≡ true → v ≡ false)
-      → first_of (row z refusal.TooLarge ∷ row (not t) refusal.Stale ∷ row v refusal.IsDirectory ∷ []) ≡ Some why → (refusal.TooLarge ≡ why) ⊎ MayRefuse F why
+      → first_of (row z refusal.TooLarge ∷ row (not t) refusal.Stale ∷ row v refusal.IsDirectory ∷ []) ≡ Some why
+      → (refusal.TooLarge ≡ why) ⊎ MayRefuse F why
   get-row true t v why lack kind h = inl (cc h)
   get-row false true true why lack kind h = absurd (cc (kind refl))
   get-row false true false why lack kind h = absurd (cc h)
   get-row false false v why lack kind h = let is : refusal.Stale ≡ why = cc h in inr (lacks why is (lack refl))
 
-  look-row : (n t v w : Bool) (x : Option Refusal) (why : Refusal) → n ≡ true → w ≡ true → (t ≡ false → LacksRoot F) → (t ≡ true → v ≡ true)
-      → first_of (row (not n) refusal.BadName ∷ row (not t) refusal.Stale ∷ row (not v) refusal.NotDirectory ∷ (if w then None else x) ∷ []) ≡ Some why
+  look-row : (n t v w : Bool) (x : Option Refusal) (why : Refusal) → n ≡ true → w ≡ true → (t ≡ false → LacksRoot F)
+      → (t ≡ true → v ≡ true)
+      → first_of (row (not n) refusal.BadName ∷ row (not t) refusal.Stale ∷ row (not v) refusal.NotDirectory
+      ∷ (if w then None else x) ∷ []) ≡ Some why
       → MayRefuse F why
   look-row true true true true x why name finds lack kind h = absurd (cc h)
   look-row true true true false x why name finds lack kind h = absurd (cc finds)
@@ -85,8 +97,10 @@ module _ (F : Files) where
   look-row true false v w x why name finds lack kind h = let is : refusal.Stale ≡ why = cc h in lacks why is (lack refl)
   look-row false t v w x why name finds lack kind h = absurd (cc name)
 
-  pub get-right : (why : Refusal) → (refusal.TooLarge ≡ why) ⊎ MayRefuse F why → IfSome (if is_too_large why then None else Some why) (MayRefuse F)
-  get-right why (inl large) = subst (λ (w : Refusal). IfSome (if is_too_large w then None else Some w) (MayRefuse F)) large tt
+  pub get-right : (why : Refusal) → (refusal.TooLarge ≡ why) ⊎ MayRefuse F why
+      → IfSome (if is_too_large why then None else Some why) (MayRefuse F)
+  get-right why (inl large) =
+      subst (λ (w : Refusal). IfSome (if is_too_large w then None else Some w) (MayRefuse F)) large tt
   get-right why (inr may) = go (is_too_large why)
     where
       go : (b : Bool) → IfSome (if b then None else Some why) (MayRefuse F)
@@ -95,14 +109,16 @@ module _ (F : Files) where
 
 -- The answers where no row comes
 
-pub there-none : (t : Bool) (rest : List (Option Refusal)) → first_of (row (not t) refusal.Stale ∷ rest) ≡ None → t ≡ true
+pub there-none : (t : Bool) (rest : List (Option Refusal))
+    → first_of (row (not t) refusal.Stale ∷ rest) ≡ None → t ≡ true
 there-none true rest h = refl
 there-none false rest h = absurd (cc h)
 
 no-stat : (F : Files) (i g : ℕ) (why : Refusal) → is_there F i g ≡ true → reply.Refused why ≡ stat_reply F i → ⊥
 no-stat F i g why there h = go (F i) there h
   where
-    go : (o : Option FileState) → (is_some o && ((elim o [ None ↦ 0 | Some f ↦ f.generation ]) == g)) ≡ true → reply.Refused why ≡ stat_file F i o → ⊥
+    go : (o : Option FileState) → (is_some o && ((elim o [ None ↦ 0 | Some f ↦ f.generation ]) == g)) ≡ true
+        → reply.Refused why ≡ stat_file F i o → ⊥
     go None t r = cc t
     go (Some f) t r = cc r
 
@@ -135,18 +151,21 @@ unfolding found
 found-paired F d name e h = right-of (entry_has_name F d name e) (is_paired F d e)
     (least-holds (λ e. entry_has_name F d name e && is_paired F d e) 0 entry_limit e h)
 
-no-file : (F : Files) (i : ℕ) (why : Refusal) (test : _ → Bool) (o : Option FileState) → list_any test (links_in_file o) ≡ true
+no-file : (F : Files) (i : ℕ) (why : Refusal) (test : _ → Bool) (o : Option FileState)
+    → list_any test (links_in_file o) ≡ true
     → reply.Refused why ≡ found_file i o → ⊥
 no-file F i why test None h r = cc h
 no-file F i why test (Some f) h r = cc r
 
-no-entry : (F : Files) (d e : ℕ) (why : Refusal) → is_paired F d e ≡ true → reply.Refused why ≡ found_entry F (entry_at F d e) → ⊥
+no-entry : (F : Files) (d e : ℕ) (why : Refusal)
+    → is_paired F d e ≡ true → reply.Refused why ≡ found_entry F (entry_at F d e) → ⊥
 no-entry F d e why pair h = go (entry_at F d e) pair h
   where
     go : (o : Option Entry)
         → elim o [
           | None ↦ false
-          | Some entry ↦ list_any (λ link. same_link link (link_to d e (generation_of F d)) && is_pair F entry.inode link) (links_of F entry.inode)
+          | Some entry ↦ list_any (λ link. same_link link (link_to d e (generation_of F d))
+              && is_pair F entry.inode link) (links_of F entry.inode)
         ] ≡ true
         → reply.Refused why ≡ found_entry F o → ⊥
     go None p r = cc p
@@ -160,7 +179,8 @@ no-look F d name (Some e) why is finds h = no-entry F d e why (found-paired F d 
 -- One step
 
 module _ (U V : World) (i g : ℕ) (why : Refusal) where
-  pub stat-cause : MayAsk U.files true (record { inode = i; generation = g }) ⊎ MayAsk U.files false (record { inode = i; generation = g })
+  pub stat-cause : MayAsk U.files true (record { inode = i; generation = g })
+      ⊎ MayAsk U.files false (record { inode = i; generation = g })
       → Cause U V (step.Stat i g) why → MayRefuse U.files why
   stat-cause ask (Fault e) = fault U.files why e
   stat-cause ask (Halt e) = halt U.files why e
@@ -168,7 +188,8 @@ module _ (U V : World) (i g : ℕ) (why : Refusal) where
   stat-cause (inr ask) (Row h) = stat-row U.files (is_there U.files i g) why ask.lacking h
   stat-cause ask (Answer claims none h) = absurd (no-stat U.files i g why (there-none (is_there U.files i g) [] none) h)
 
-  pub list-cause : (k : ℕ) → MayAsk U.files true (record { inode = i; generation = g }) → Cause U V (step.List i g k) why → MayRefuse U.files why
+  pub list-cause : (k : ℕ) → MayAsk U.files true (record { inode = i; generation = g })
+      → Cause U V (step.List i g k) why → MayRefuse U.files why
   list-cause k ask (Fault e) = fault U.files why e
   list-cause k ask (Halt e) = halt U.files why e
   list-cause k ask (Row h) = list-row U.files (is_there U.files i g) (is_folder_at U.files i) why ask.lacking ask.kind h
@@ -178,16 +199,20 @@ module _ (U V : World) (i g : ℕ) (why : Refusal) where
       → (refusal.TooLarge ≡ why) ⊎ MayRefuse U.files why
   get-cause k ask (Fault e) = inr (fault U.files why e)
   get-cause k ask (Halt e) = inr (halt U.files why e)
-  get-cause k ask (Row h) = get-row U.files (nat_le (slots U) k) (is_there U.files i g) (is_folder_at U.files i) why ask.lacking ask.kind h
+  get-cause k ask (Row h) =
+      get-row U.files (nat_le (slots U) k) (is_there U.files i g) (is_folder_at U.files i) why ask.lacking ask.kind h
   get-cause k ask (Answer claims none h) = absurd (no-value why (value_of U.files i k) h)
 
-  pub look-cause : (name : List ℕ) (folder : Bool) → MayAsk U.files true (record { inode = i; generation = g }) → LeadsTo U.files i name folder
+  pub look-cause : (name : List ℕ) (folder : Bool) → MayAsk U.files true (record { inode = i; generation = g })
+      → LeadsTo U.files i name folder
       → Cause U V (step.Look i g name) why → MayRefuse U.files why
   look-cause name folder ask leads (Fault e) = fault U.files why e
   look-cause name folder ask leads (Halt e) = halt U.files why e
-  look-cause name folder ask leads (Row h) = look-row U.files (is_name name) (is_there U.files i g) (is_folder_at U.files i)
+  look-cause name folder ask leads (Row h) =
+      look-row U.files (is_name name) (is_there U.files i g) (is_folder_at U.files i)
       (is_some (found U.files i name)) _ why leads.name_ok leads.finds ask.lacking ask.kind h
-  look-cause name folder ask leads (Answer claims none h) = absurd (no-look U.files i name (found U.files i name) why refl leads.finds h)
+  look-cause name folder ask leads (Answer claims none h) =
+      absurd (no-look U.files i name (found U.files i name) why refl leads.finds h)
 
 -- a step that was answered in W
 pub answered-right : (W : World) (s : Step) (r : Reply) → may_write s ≡ false

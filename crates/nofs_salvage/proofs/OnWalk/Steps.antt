@@ -1,5 +1,6 @@
 -- The steps that a walk makes, one list after the other.
-use Rattle.std.proofs.Common.{◌≡◌, ℕ, ◌++◌, List, [], ◌∷◌, false, Option, Some, None, refl, sym, ap, ◌∙◌, subst, append_assoc}
+use Rattle.std.proofs.Common.{◌≡◌, ℕ, ◌++◌, List, [], ◌∷◌, false, Option, Some, None, refl, sym, ap, ◌∙◌, subst}
+use Rattle.std.proofs.Common.{append_assoc}
 use Rattle.std.specs.Prelude.{All}
 use Rattle.std.proofs.lemmas.List.{append_cancel_left, append-nil}
 use Rattle.std.proofs.lemmas.List.Elements.{All-nil, All-cons, All-head, All-tail, All-append}
@@ -41,16 +42,19 @@ first-later : (ms ns : List Made) → first_refusal ms ≡ None → first_refusa
 first-later [] ns h = refl
 first-later (m ∷ ms) ns h =
     let none = both-none (refusal_of m) (first_refusal ms) h in
-    ap (λ o. first_of (o ∷ first_refusal (ms ++ ns) ∷ [])) none.0 ∙ only (first_refusal (ms ++ ns)) ∙ first-later ms ns none.1
+    ap (λ o. first_of (o ∷ first_refusal (ms ++ ns) ∷ [])) none.0 ∙ only (first_refusal (ms ++ ns))
+    ∙ first-later ms ns none.1
 
 -- Steps that read
 
 -- no step was made
 pub reads-none : (old : List Made) → MakesReads old old None
-reads-none old = record { made = []; more = sym (append-nil old); read = All-nil (λ (m : Made). IsReadingStep m.0); refused = refl }
+reads-none old =
+    record { made = []; more = sym (append-nil old); read = All-nil (λ (m : Made). IsReadingStep m.0); refused = refl }
 
 -- one step was made
-pub reads-one : (old : List Made) (s : Step) (r : Reply) → IsReadingStep s → MakesReads old (old ++ (s, r) ∷ []) (refusal_of (s, r))
+pub reads-one : (old : List Made) (s : Step) (r : Reply) → IsReadingStep s
+    → MakesReads old (old ++ (s, r) ∷ []) (refusal_of (s, r))
 reads-one old s r read = record {
   made = (s, r) ∷ [];
   more = refl;
@@ -63,7 +67,8 @@ reads-one old s r read = record {
     only-two (Some why) = refl
 
 -- more steps were made behind steps that were not refused
-pub reads-on : (old mid new : List Made) (why : Option Refusal) → MakesReads old mid None → MakesReads mid new why → MakesReads old new why
+pub reads-on : (old mid new : List Made) (why : Option Refusal) → MakesReads old mid None → MakesReads mid new why
+    → MakesReads old new why
 reads-on old mid new why a b = record {
   made = a.made ++ b.made;
   more = b.more ∙ ap (λ l. l ++ b.made) a.more ∙ append_assoc old a.made b.made;
@@ -78,7 +83,8 @@ refused-step old s refusal.OutOfMemory read no-get = reads-none old
 refused-step old s why read no-get = rw no-get at (reads-one old s (reply.Refused why) read)
 
 -- a get
-pub get-reads : (old : List Made) (i g k : ℕ) (r : Reply) → MakesReads old (with_made old (step.Get i g k) r) (refusal_by (got_by r))
+pub get-reads : (old : List Made) (i g k : ℕ) (r : Reply)
+    → MakesReads old (with_made old (step.Get i g k) r) (refusal_by (got_by r))
 get-reads old i g k (reply.Refused refusal.OutOfMemory) = reads-none old
 get-reads old i g k (reply.Refused why) = reads-one old (step.Get i g k) (reply.Refused why) tt
 get-reads old i g k r = reads-one old (step.Get i g k) r tt
@@ -86,7 +92,8 @@ get-reads old i g k r = reads-one old (step.Get i g k) r tt
 -- What was answered
 
 -- of the steps from old to new, those up to mid and those behind
-pub answered-both : (W : World) (old mid new : List Made) (a b : Option Refusal) → MakesReads old mid a → MakesReads mid new b → AreAnswered W old new
+pub answered-both : (W : World) (old mid new : List Made) (a b : Option Refusal) → MakesReads old mid a
+    → MakesReads mid new b → AreAnswered W old new
     → AreAnswered W old mid × AreAnswered W mid new
 answered-both W old mid new a b first last h =
     let parts : h.made ≡ first.made ++ last.made = append_cancel_left old h.made (first.made ++ last.made)
@@ -97,7 +104,8 @@ answered-both W old mid new a b first last h =
     )
 
 -- the one step that was made
-pub answered-one : (W : World) (old new : List Made) (m : Made) → new ≡ old ++ m ∷ [] → AreAnswered W old new → IsAnswered W m
+pub answered-one : (W : World) (old new : List Made) (m : Made) → new ≡ old ++ m ∷ [] → AreAnswered W old new
+    → IsAnswered W m
 answered-one W old new m is h =
     let same : h.made ≡ m ∷ [] = append_cancel_left old h.made (m ∷ []) (sym h.more ∙ is) in
     All-head (IsAnswered W) m [] (subst (All (IsAnswered W)) same h.each)

@@ -1,5 +1,6 @@
--- What a part of a walk has noted where it ends well: the steps that were made grew from `made` to `new_made`, and the findings
--- from old to new. What it says of a world W holds where these steps were answered in W, while no file changed.
+-- What a part of a walk has noted where it ends well: the steps that were made grew from `made` to `new_made`, and the
+-- findings from old to new. What it says of a world W holds where these steps were answered in W, while no file
+-- changed.
 use Rattle.std.specs.Prelude.{◌≡◌, ℕ, ◌<◌, ◌≤◌, Bool, true, List, ◌++◌}
 use Rattle.nofs_history.specs.World.{World}
 use Rattle.nofs_history.specs.Steps.{Made}
@@ -17,13 +18,15 @@ use Rattle.nofs_salvage.specs.Report.Lines.{AreTold, AreFolders}
 use Rattle.nofs_salvage.specs.Walk.Asks.{Asks, HasReached, AreGiven, AreReached}
 
 -- these lines of directory `at`, behind earlier ones of it
-pub record LinesNoted (picks : List ℕ → Bool) (at : InodeHandle) (lines : List NameLine) (made new_made : List Made) (old new : Findings)
+pub record LinesNoted (picks : List ℕ → Bool) (at : InodeHandle) (lines : List NameLine) (made new_made : List Made)
+    (old new : Findings)
     (seen new_seen : SeenNames) : Type 0 where
   -- their names were met
   pub names : (earlier : List NameLine) → AreSeen seen earlier → AreSeen new_seen (earlier ++ lines)
   -- their losses and the directories that they name were added
   pub noted : (W : World) (earlier : List NameLine) → AreSeen seen earlier → AreAnswered W made new_made
-      → AddsFindings (lines_losses W picks at.inode earlier lines) (lines_folders W.files at.inode earlier lines) old new
+      → AddsFindings (lines_losses W picks at.inode earlier lines)
+      (lines_folders W.files at.inode earlier lines) old new
   -- where the lines lead to what they say, and all on the old list are directories, all on the new one are
   pub folders : (W : World) (earlier : List NameLine) → AreSeen seen earlier → AreAnswered W made new_made
       → AreTold W.files at.inode earlier lines → AreFolders W.files old.tree → AreFolders W.files new.tree
@@ -32,26 +35,31 @@ pub record LinesNoted (picks : List ℕ → Bool) (at : InodeHandle) (lines : Li
       → AreReached first new_made new.tree
 
 -- the slots of directory `at` from a slot up to the next one, behind those below it
-pub record SlotsNoted (picks : List ℕ → Bool) (at : InodeHandle) (slot next : ℕ) (made new_made : List Made) (old new : Findings)
+pub record SlotsNoted (picks : List ℕ → Bool) (at : InodeHandle) (slot next : ℕ) (made new_made : List Made)
+    (old new : Findings)
     (seen new_seen : SeenNames) : Type 0 where
   -- the next one lies behind it, at most at the end of the directory
   pub later : (slot < next) × (next ≤ 72)
   -- their losses and the directories that they name were added
-  pub walked : (W : World) (start : Findings) → IsWalked W picks at.inode slot start old seen → AreAnswered W made new_made
+  pub walked : (W : World) (start : Findings) → IsWalked W picks at.inode slot start old seen
+      → AreAnswered W made new_made
       → IsWalked W picks at.inode next start new new_seen
   -- the directory is there with its generation
   pub there : (W : World) → AreAnswered W made new_made → is_there W.files at.inode at.generation ≡ true
   -- where all on the old list are directories, all on the new one are
-  pub folders : (W : World) (start : Findings) → IsWalked W picks at.inode slot start old seen → AreAnswered W made new_made
+  pub folders : (W : World) (start : Findings) → IsWalked W picks at.inode slot start old seen
+      → AreAnswered W made new_made
       → AreFolders W.files old.tree → AreFolders W.files new.tree
   -- where the directory was reached, and all on the old list, all on the new one were
   pub met : (first : List Made) → Asks first made → HasReached first made at → AreReached first made old.tree
       → AreReached first new_made new.tree
 
 -- directory `at`
-pub record FolderNoted (picks : List ℕ → Bool) (at : InodeHandle) (made new_made : List Made) (old new : Findings) : Type 0 where
+pub record FolderNoted (picks : List ℕ → Bool) (at : InodeHandle) (made new_made : List Made)
+    (old new : Findings) : Type 0 where
   -- its losses and the directories that it names were added
-  pub noted : (W : World) → AreAnswered W made new_made → AddsFindings (losses_below W picks at.inode 72) (folders_below W.files at.inode 72) old new
+  pub noted : (W : World) → AreAnswered W made new_made
+      → AddsFindings (losses_below W picks at.inode 72) (folders_below W.files at.inode 72) old new
   -- it is there with its generation
   pub there : (W : World) → AreAnswered W made new_made → is_there W.files at.inode at.generation ≡ true
   -- where all on the old list are directories, all on the new one are

@@ -14,11 +14,13 @@ use Rattle.nofs_salvage.specs.Report.InHand.{handles_in}
 
 -- a line of directory d that is neither dead nor doubled leads to what it says
 abbrev pub IsTold : Files → ℕ → List NameLine → NameLine → Type 0
-IsTold F d earlier line = line.dead ≡ false → is_doubled earlier line.name ≡ false → LeadsTo F d line.name (is_folder line.kind)
+IsTold F d earlier line =
+    line.dead ≡ false → is_doubled earlier line.name ≡ false → LeadsTo F d line.name (is_folder line.kind)
 
 -- each of these lines does, behind earlier ones
 abbrev pub AreTold : Files → ℕ → List NameLine → List NameLine → Type 0
-AreTold F d earlier lines = (before after : List NameLine) (line : NameLine) → lines ≡ before ++ line ∷ after → IsTold F d (earlier ++ before) line
+AreTold F d earlier lines = (before after : List NameLine) (line : NameLine)
+    → lines ≡ before ++ line ∷ after → IsTold F d (earlier ++ before) line
 
 -- the names of a list are names
 abbrev pub AreNames : NextSlot → Type 0

@@ -1,5 +1,6 @@
 -- The report of a world: what is lost in it, by the names that a rule picks.
-use Rattle.std.specs.Prelude.{ℕ, zero, suc, ◌^◌, min, Bool, not, ◌&&◌, List, [], ◌∷◌, ◌++◌, Option, Some, None, if◌then◌else◌, slice_get, bytes_eq, ◌==◌}
+use Rattle.std.specs.Prelude.{ℕ, zero, suc, ◌^◌, min, Bool, not, ◌&&◌, List, [], ◌∷◌, ◌++◌, Option, Some, None}
+use Rattle.std.specs.Prelude.{if◌then◌else◌, slice_get, bytes_eq, ◌==◌}
 use Rattle.std.specs.List.{list_any}
 use Rattle.nofs_model.specs.Cells.{Entry}
 use Rattle.nofs_model.specs.Image.{Files, entry_at, is_folder}
@@ -54,7 +55,8 @@ is_doubled earlier name = list_any (λ line. not line.dead && bytes_eq name line
 
 -- a pair leads to a file, with its lost slots, or to a directory
 abbrev pub pair_losses : World → Bool → ℕ → NameLine → List Loss
-pair_losses W wanted d line = if not (is_folder line.kind) && wanted then file_losses W (inode_found W.files d line.name) else []
+pair_losses W wanted d line =
+    if not (is_folder line.kind) && wanted then file_losses W (inode_found W.files d line.name) else []
 
 abbrev pub pair_folders : Files → ℕ → NameLine → List ℕ
 pair_folders F d line = if is_folder line.kind then inode_found F d line.name ∷ [] else []
@@ -63,19 +65,23 @@ pair_folders F d line = if is_folder line.kind then inode_found F d line.name �
 abbrev pub line_losses : World → (List ℕ → Bool) → ℕ → List NameLine → NameLine → List Loss
 line_losses W picks d earlier line =
     if line.dead then if_so (picks line.name) (loss.Dead d line.name) else
-    (if is_doubled earlier line.name then if_so (picks line.name) (loss.Twice d line.name) else pair_losses W (picks line.name) d line)
+    (if is_doubled earlier line.name then if_so (picks line.name) (loss.Twice d line.name)
+    else pair_losses W (picks line.name) d line)
 
 abbrev pub line_folders : Files → ℕ → List NameLine → NameLine → List ℕ
-line_folders F d earlier line = if line.dead then [] else (if is_doubled earlier line.name then [] else pair_folders F d line)
+line_folders F d earlier line = if line.dead then []
+    else (if is_doubled earlier line.name then [] else pair_folders F d line)
 
 -- line by line
 unfoldable pub lines_losses : World → (List ℕ → Bool) → ℕ → List NameLine → List NameLine → List Loss
 lines_losses W picks d earlier [] = []
-lines_losses W picks d earlier (line ∷ lines) = line_losses W picks d earlier line ++ lines_losses W picks d (earlier ++ line ∷ []) lines
+lines_losses W picks d earlier (line ∷ lines) =
+    line_losses W picks d earlier line ++ lines_losses W picks d (earlier ++ line ∷ []) lines
 
 unfoldable pub lines_folders : Files → ℕ → List NameLine → List NameLine → List ℕ
 lines_folders F d earlier [] = []
-lines_folders F d earlier (line ∷ lines) = line_folders F d earlier line ++ lines_folders F d (earlier ++ line ∷ []) lines
+lines_folders F d earlier (line ∷ lines) =
+    line_folders F d earlier line ++ lines_folders F d (earlier ++ line ∷ []) lines
 
 -- The first n slots of directory d
 
@@ -87,7 +93,8 @@ lines_below F d (suc n) = lines_below F d n ++ lines_in_slot F d n
 -- a slot is lost, or has lines
 abbrev pub slot_losses : World → (List ℕ → Bool) → ℕ → ℕ → List Loss
 slot_losses W picks d k =
-    if is_lost (value_of W.files d k) then loss.Slot d k ∷ [] else lines_losses W picks d (lines_below W.files d k) (lines_in_slot W.files d k)
+    if is_lost (value_of W.files d k)
+    then loss.Slot d k ∷ [] else lines_losses W picks d (lines_below W.files d k) (lines_in_slot W.files d k)
 
 -- their losses
 unfoldable pub losses_below : World → (List ℕ → Bool) → ℕ → ℕ → List Loss

@@ -40,7 +40,8 @@ first_data_slot F d k = least_from (λ l. not (is_hole (value_of F d l))) k (72 
 
 -- what is listed from slot k on
 abbrev pub IsListedFrom : Files → ℕ → ℕ → NextSlot → Type 0
-IsListedFrom F d k (listed.Names l names) = (first_data_slot F d k ≡ Some l) × (is_lost (value_of F d l) ≡ false) × (names ≡ lines_in_slot F d l)
+IsListedFrom F d k (listed.Names l names) = (first_data_slot F d k ≡ Some l) × (is_lost (value_of F d l) ≡ false)
+    × (names ≡ lines_in_slot F d l)
 IsListedFrom F d k (listed.LostNames l) = (first_data_slot F d k ≡ Some l) × (is_lost (value_of F d l) ≡ true)
 IsListedFrom F d k listed.NoMore = first_data_slot F d k ≡ None
 

@@ -34,8 +34,9 @@ impl NameRule for Prefix {
     ghost picks = { λ rule name. begins_with rule.bytes name };
 }
 
-/// A closure with the rule that it decides. That it may be called on all bytes, and answers true exactly on the names that the
-/// rule picks, is asked where a filter is made and where one is used: a fact about a closure can't be kept in a type.
+/// A closure with the rule that it decides. That it may be called on all bytes, and answers true exactly on the names
+/// that the rule picks, is asked where a filter is made and where one is used: a fact about a closure can't be kept in
+/// a type.
 #[derive(Drop)]
 pub struct NameFilter<P, R> {
     pub keep: P,
@@ -55,7 +56,8 @@ impl<P: Fn(&[u8]) -> bool, R: NameRule> NameFilter<P, R> {
     /// Whether the rule picks a name. It takes no memory.
     pub fn picks(&self, name: &[u8]) -> bool
         requires may { P.IsAlwaysCallable self.now.keep }
-        requires decides { (name : List ℕ) (yes : Bool) → FnReturnsAt P.Fn self.now.keep name yes → yes ≡ R.picks self.now.rule name }
+        requires decides { (name : List ℕ) (yes : Bool) → FnReturnsAt P.Fn self.now.keep name yes
+            → yes ≡ R.picks self.now.rule name }
         ensures { result ≡ R.picks self.now.rule name.now }
     {
         (self.keep)(name)

@@ -26,7 +26,8 @@ impl SeenNames {
     /// Meets a name. Whether it is fresh.
     pub fn meet(&mut self, alloc: Global, name: &[u8]) -> Result<bool, AllocError>
         ensures fresh { IfOk result (λ fresh. fresh ≡ not (is_seen self.old name.now)) }
-        ensures met { OnOk result ((other : List ℕ) → is_seen self.new other ≡ (bytes_eq other name.now || is_seen self.old other)) }
+        ensures met { OnOk result
+            ((other : List ℕ) → is_seen self.new other ≡ (bytes_eq other name.now || is_seen self.old other)) }
     {
         let key = Vec::from_slice(alloc, name)?;
         let fresh = self.names.insert(key)?;

@@ -34,7 +34,8 @@ impl Tree {
 
     /// Puts a directory at the end, where its inode isn't there yet.
     pub fn add(&mut self, directory: InodeHandle) -> Result<(), AllocError>
-        ensures inodes { OnOk result (map inode_of self.new.list.items ≡ with_one (map inode_of self.old.list.items) directory.inode) }
+        ensures inodes { OnOk result
+            (map inode_of self.new.list.items ≡ with_one (map inode_of self.old.list.items) directory.inode) }
         ensures handles { OnOk result (self.new.list.items ≡ with_handle self.old.list.items directory) }
     {
         if self.numbers.contains(&directory.inode) {

@@ -47,13 +47,17 @@ fn note_next<S: Steps, P: Fn(&[u8]) -> bool, R: NameRule>(
     findings: &mut Findings,
 ) -> Result<u64, SalvageFault>
     requires may { P.IsAlwaysCallable filter.now.keep }
-    requires decides { (name : List ℕ) (yes : Bool) → FnReturnsAt P.Fn filter.now.keep name yes → yes ≡ R.picks filter.now.rule name }
+    requires decides { (name : List ℕ) (yes : Bool) → FnReturnsAt P.Fn filter.now.keep name yes
+        → yes ≡ R.picks filter.now.rule name }
     requires slot { slot < 72 }
     ensures reads { MakesReads (S.made steps.old) (S.made steps.new) (refusal_by result) }
-    ensures slots { IfOk result (λ next. SlotsNoted (R.picks filter.now.rule) at slot next (S.made steps.old) (S.made steps.new)
+    ensures slots { IfOk result
+        (λ next. SlotsNoted (R.picks filter.now.rule) at slot next (S.made steps.old) (S.made steps.new)
         findings.old findings.new seen.old seen.new) }
-    ensures right { (W : World) (start : Found) → IsWalked W (R.picks filter.now.rule) at.inode slot start findings.old seen.old
-        → AreAnswered W (S.made steps.old) (S.made steps.new) → MayAsk W.files true at → AreFair W.files (S.made steps.old) (S.made steps.new) }
+    ensures right { (W : World) (start : Found)
+        → IsWalked W (R.picks filter.now.rule) at.inode slot start findings.old seen.old
+        → AreAnswered W (S.made steps.old) (S.made steps.new) → MayAsk W.files true at
+        → AreFair W.files (S.made steps.old) (S.made steps.new) }
     ensures asks { AsksOn (S.made steps.old) (S.made steps.new) at }
     ensures goes { S.goes steps.old steps.new }
 {
@@ -83,9 +87,11 @@ pub(crate) fn note_folder<S: Steps, P: Fn(&[u8]) -> bool, R: NameRule>(
     findings: &mut Findings,
 ) -> Result<(), SalvageFault>
     requires may { P.IsAlwaysCallable filter.now.keep }
-    requires decides { (name : List ℕ) (yes : Bool) → FnReturnsAt P.Fn filter.now.keep name yes → yes ≡ R.picks filter.now.rule name }
+    requires decides { (name : List ℕ) (yes : Bool) → FnReturnsAt P.Fn filter.now.keep name yes
+        → yes ≡ R.picks filter.now.rule name }
     ensures reads { MakesReads (S.made steps.old) (S.made steps.new) (refusal_by result) }
-    ensures folder { OnOk result (FolderNoted (R.picks filter.now.rule) at (S.made steps.old) (S.made steps.new) findings.old findings.new) }
+    ensures folder { OnOk result
+        (FolderNoted (R.picks filter.now.rule) at (S.made steps.old) (S.made steps.new) findings.old findings.new) }
     ensures right { (W : World) → AreAnswered W (S.made steps.old) (S.made steps.new) → MayAsk W.files true at
         → AreFair W.files (S.made steps.old) (S.made steps.new) }
     ensures asks { AsksOn (S.made steps.old) (S.made steps.new) at }

@@ -27,7 +27,8 @@ use nofs_history::{NameLine, NameList, Steps};
 use nofs_inode::inode::FileKind;
 use std::alloc::Global;
 
-// What a pair leads to is noted: a directory joins the list, and of a file, where it is wanted, the lost slots are noted.
+// What a pair leads to is noted: a directory joins the list, and of a file, where it is wanted, the lost slots are
+// noted.
 fn note_pair<S: Steps>(
     alloc: Global,
     steps: &mut S,
@@ -38,13 +39,18 @@ fn note_pair<S: Steps>(
 ) -> Result<(), SalvageFault>
     ensures reads { MakesReads (S.made steps.old) (S.made steps.new) (refusal_by result) }
     ensures noted { OnOk result ((W : World) → AreAnswered W (S.made steps.old) (S.made steps.new)
-        → AddsFindings (pair_losses W wanted at.inode line.now) (pair_folders W.files at.inode line.now) findings.old findings.new) }
+        → AddsFindings (pair_losses W wanted at.inode line.now)
+        (pair_folders W.files at.inode line.now) findings.old findings.new) }
     ensures right { (W : World) → AreAnswered W (S.made steps.old) (S.made steps.new) → MayAsk W.files true at
-        → LeadsTo W.files at.inode line.now.name (is_folder line.now.kind) → AreFair W.files (S.made steps.old) (S.made steps.new) }
+        → LeadsTo W.files at.inode line.now.name (is_folder line.now.kind)
+        → AreFair W.files (S.made steps.old) (S.made steps.new) }
     ensures folders { OnOk result ((W : World) → AreAnswered W (S.made steps.old) (S.made steps.new)
-        → LeadsTo W.files at.inode line.now.name (is_folder line.now.kind) → AreFolders W.files findings.old.tree → AreFolders W.files findings.new.tree) }
-    ensures asks { (first : List Made) → Asks first (S.made steps.old) → HasGiven first (S.made steps.old) at line.now.name → Asks first (S.made steps.new) }
-    ensures met { OnOk result ((first : List Made) → Asks first (S.made steps.old) → AreReached first (S.made steps.old) findings.old.tree
+        → LeadsTo W.files at.inode line.now.name (is_folder line.now.kind) → AreFolders W.files findings.old.tree
+        → AreFolders W.files findings.new.tree) }
+    ensures asks { (first : List Made) → Asks first (S.made steps.old)
+        → HasGiven first (S.made steps.old) at line.now.name → Asks first (S.made steps.new) }
+    ensures met { OnOk result
+        ((first : List Made) → Asks first (S.made steps.old) → AreReached first (S.made steps.old) findings.old.tree
         → AreReached first (S.made steps.new) findings.new.tree) }
     ensures goes { S.goes steps.old steps.new }
 {
@@ -76,17 +82,25 @@ fn note_line<S: Steps>(
     findings: &mut Findings,
 ) -> Result<(), SalvageFault>
     ensures reads { MakesReads (S.made steps.old) (S.made steps.new) (refusal_by result) }
-    ensures names { OnOk result ((earlier : List Line) → AreSeen seen.old earlier → AreSeen seen.new (earlier ++ line.now ∷ [])) }
-    ensures noted { OnOk result ((W : World) (picks : List ℕ → Bool) (earlier : List Line) → wanted ≡ picks line.now.name → AreSeen seen.old earlier
+    ensures names { OnOk result
+        ((earlier : List Line) → AreSeen seen.old earlier → AreSeen seen.new (earlier ++ line.now ∷ [])) }
+    ensures noted { OnOk result ((W : World) (picks : List ℕ → Bool) (earlier : List Line)
+        → wanted ≡ picks line.now.name → AreSeen seen.old earlier
         → AreAnswered W (S.made steps.old) (S.made steps.new)
-        → AddsFindings (line_losses W picks at.inode earlier line.now) (line_folders W.files at.inode earlier line.now) findings.old findings.new) }
-    ensures right { (W : World) (earlier : List Line) → AreSeen seen.old earlier → AreAnswered W (S.made steps.old) (S.made steps.new) → MayAsk W.files true at
+        → AddsFindings (line_losses W picks at.inode earlier line.now)
+        (line_folders W.files at.inode earlier line.now) findings.old findings.new) }
+    ensures right { (W : World) (earlier : List Line) → AreSeen seen.old earlier
+        → AreAnswered W (S.made steps.old) (S.made steps.new) → MayAsk W.files true at
         → IsTold W.files at.inode earlier line.now → AreFair W.files (S.made steps.old) (S.made steps.new) }
-    ensures folders { OnOk result ((W : World) (earlier : List Line) → AreSeen seen.old earlier → AreAnswered W (S.made steps.old) (S.made steps.new)
-        → IsTold W.files at.inode earlier line.now → AreFolders W.files findings.old.tree → AreFolders W.files findings.new.tree) }
-    ensures asks { (first : List Made) → Asks first (S.made steps.old) → (line.now.dead ≡ false → HasGiven first (S.made steps.old) at line.now.name)
+    ensures folders { OnOk result ((W : World) (earlier : List Line) → AreSeen seen.old earlier
+        → AreAnswered W (S.made steps.old) (S.made steps.new)
+        → IsTold W.files at.inode earlier line.now → AreFolders W.files findings.old.tree
+        → AreFolders W.files findings.new.tree) }
+    ensures asks { (first : List Made) → Asks first (S.made steps.old)
+        → (line.now.dead ≡ false → HasGiven first (S.made steps.old) at line.now.name)
         → Asks first (S.made steps.new) }
-    ensures met { OnOk result ((first : List Made) → Asks first (S.made steps.old) → AreReached first (S.made steps.old) findings.old.tree
+    ensures met { OnOk result
+        ((first : List Made) → Asks first (S.made steps.old) → AreReached first (S.made steps.old) findings.old.tree
         → AreReached first (S.made steps.new) findings.new.tree) }
     ensures goes { S.goes steps.old steps.new }
 {
@@ -126,13 +140,16 @@ pub(crate) fn note_lines<S: Steps, P: Fn(&[u8]) -> bool, R: NameRule>(
     findings: &mut Findings,
 ) -> Result<(), SalvageFault>
     requires may { P.IsAlwaysCallable filter.now.keep }
-    requires decides { (name : List ℕ) (yes : Bool) → FnReturnsAt P.Fn filter.now.keep name yes → yes ≡ R.picks filter.now.rule name }
+    requires decides { (name : List ℕ) (yes : Bool) → FnReturnsAt P.Fn filter.now.keep name yes
+        → yes ≡ R.picks filter.now.rule name }
     ensures reads { MakesReads (S.made steps.old) (S.made steps.new) (refusal_by result) }
     ensures lines { OnOk result (LinesNoted (R.picks filter.now.rule) at lines.now (S.made steps.old) (S.made steps.new)
         findings.old findings.new seen.old seen.new) }
-    ensures right { (W : World) (earlier : List Line) → AreSeen seen.old earlier → AreAnswered W (S.made steps.old) (S.made steps.new) → MayAsk W.files true at
+    ensures right { (W : World) (earlier : List Line) → AreSeen seen.old earlier
+        → AreAnswered W (S.made steps.old) (S.made steps.new) → MayAsk W.files true at
         → AreTold W.files at.inode earlier lines.now → AreFair W.files (S.made steps.old) (S.made steps.new) }
-    ensures asks { (first : List Made) → Asks first (S.made steps.old) → AreGiven first (S.made steps.old) at lines.now → Asks first (S.made steps.new) }
+    ensures asks { (first : List Made) → Asks first (S.made steps.old) → AreGiven first (S.made steps.old) at lines.now
+        → Asks first (S.made steps.new) }
     ensures goes { S.goes steps.old steps.new }
 {
     for line in lines.as_slice() {

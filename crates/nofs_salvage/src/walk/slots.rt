@@ -37,9 +37,11 @@ fn note_slot<S: Steps>(
         → IsNoted W at.inode slot more report.old report.new) }
     ensures right { (W : World) → AreAnswered W (S.made steps.old) (S.made steps.new) → MayAsk W.files false at
         → AreFair W.files (S.made steps.old) (S.made steps.new) }
-    ensures asks { (first : List Made) (size : ℕ) → slot < slots_of_size size → Asks first (S.made steps.old) → HasReached first (S.made steps.old) at
+    ensures asks { (first : List Made) (size : ℕ) → slot < slots_of_size size → Asks first (S.made steps.old)
+        → HasReached first (S.made steps.old) at
         → HasTold first (S.made steps.old) at size → Asks first (S.made steps.new) }
-    ensures told { IfOk result (λ more. (first : List Made) (size : ℕ) → more ≡ true → HasTold first (S.made steps.old) at size
+    ensures told { IfOk result
+        (λ more. (first : List Made) (size : ℕ) → more ≡ true → HasTold first (S.made steps.old) at size
         → HasTold first (S.made steps.new) at size) }
     ensures goes { S.goes steps.old steps.new }
 {
@@ -87,8 +89,10 @@ pub(crate) fn note_file<S: Steps>(
     report: &mut Report,
 ) -> Result<(), SalvageFault>
     ensures reads { MakesReads (S.made steps.old) (S.made steps.new) (refusal_by result) }
-    ensures noted { OnOk result ((W : World) → AreAnswered W (S.made steps.old) (S.made steps.new) → report.new ≡ report.old ++ file_losses W at.inode) }
-    ensures there { OnOk result ((W : World) → AreAnswered W (S.made steps.old) (S.made steps.new) → is_there W.files at.inode at.generation ≡ true) }
+    ensures noted { OnOk result ((W : World) → AreAnswered W (S.made steps.old) (S.made steps.new)
+        → report.new ≡ report.old ++ file_losses W at.inode) }
+    ensures there { OnOk result ((W : World) → AreAnswered W (S.made steps.old) (S.made steps.new)
+        → is_there W.files at.inode at.generation ≡ true) }
     ensures right { (W : World) → AreAnswered W (S.made steps.old) (S.made steps.new) → MayAsk W.files false at
         → AreFair W.files (S.made steps.old) (S.made steps.new) }
     ensures asks { AsksOn (S.made steps.old) (S.made steps.new) at }

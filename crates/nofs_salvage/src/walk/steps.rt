@@ -1,7 +1,7 @@
 //! The steps of a walk, one by one.
 //!
-//! Promise: each only reads. A refusal is the fault that it ends with, but for a slot beyond what a file can have. Where the
-//! machine answers, what is told holds in its files.
+//! Promise: each only reads. A refusal is the fault that it ends with, but for a slot beyond what a file can have.
+//! Where the machine answers, what is told holds in its files.
 ghost use Rattle.std.specs.Prelude.{◌≡◌, ◌<◌, ℕ, IfOk, Bool, List, None, true, false};
 ghost use Rattle.nofs_history.specs.Machine.{size_of as size_of_file, slots_in as slots_of_size};
 ghost use Rattle.nofs_history.specs.Steps.{Made};
@@ -54,13 +54,17 @@ fn found_in(reply: Reply) -> Result<InodeHandle, SalvageFault>
 fn look<S: Steps>(steps: &mut S, at: InodeHandle, name: Name) -> Result<InodeHandle, SalvageFault>
     ensures reads { MakesReads (S.made steps.old) (S.made steps.new) (refusal_by result) }
     ensures goes { S.goes steps.old steps.new }
-    ensures right { (W : World) (folder : Bool) → AreAnswered W (S.made steps.old) (S.made steps.new) → MayAsk W.files true at
+    ensures right { (W : World) (folder : Bool) → AreAnswered W (S.made steps.old) (S.made steps.new)
+        → MayAsk W.files true at
         → LeadsTo W.files at.inode name folder → AreFair W.files (S.made steps.old) (S.made steps.new) }
-    ensures asks { (first : List Made) → Asks first (S.made steps.old) → HasGiven first (S.made steps.old) at name → Asks first (S.made steps.new) }
-    ensures found { IfOk result (λ found. (W : World) → AreAnswered W (S.made steps.old) (S.made steps.new) → inode_found W.files at.inode name ≡ found.inode) }
+    ensures asks { (first : List Made) → Asks first (S.made steps.old) → HasGiven first (S.made steps.old) at name
+        → Asks first (S.made steps.new) }
+    ensures found { IfOk result (λ found. (W : World) → AreAnswered W (S.made steps.old) (S.made steps.new)
+        → inode_found W.files at.inode name ≡ found.inode) }
     ensures there { IfOk result (λ found. (W : World) → AreAnswered W (S.made steps.old) (S.made steps.new)
         → is_there W.files found.inode found.generation ≡ true) }
-    ensures met { IfOk result (λ found. (first : List Made) → Asks first (S.made steps.old) → HasReached first (S.made steps.new) found) }
+    ensures met { IfOk result
+        (λ found. (first : List Made) → Asks first (S.made steps.old) → HasReached first (S.made steps.new) found) }
 {
     let step = Step::Look {
         directory: at.inode,
@@ -79,14 +83,17 @@ pub(crate) fn find<S: Steps>(
 ) -> Result<InodeHandle, SalvageFault>
     ensures reads { MakesReads (S.made steps.old) (S.made steps.new) (refusal_by result) }
     ensures goes { S.goes steps.old steps.new }
-    ensures right { (W : World) (folder : Bool) → AreAnswered W (S.made steps.old) (S.made steps.new) → MayAsk W.files true at
+    ensures right { (W : World) (folder : Bool) → AreAnswered W (S.made steps.old) (S.made steps.new)
+        → MayAsk W.files true at
         → LeadsTo W.files at.inode name.now folder → AreFair W.files (S.made steps.old) (S.made steps.new) }
-    ensures asks { (first : List Made) → Asks first (S.made steps.old) → HasGiven first (S.made steps.old) at name.now → Asks first (S.made steps.new) }
+    ensures asks { (first : List Made) → Asks first (S.made steps.old) → HasGiven first (S.made steps.old) at name.now
+        → Asks first (S.made steps.new) }
     ensures found { IfOk result (λ found. (W : World) → AreAnswered W (S.made steps.old) (S.made steps.new)
         → inode_found W.files at.inode name.now ≡ found.inode) }
     ensures there { IfOk result (λ found. (W : World) → AreAnswered W (S.made steps.old) (S.made steps.new)
         → is_there W.files found.inode found.generation ≡ true) }
-    ensures met { IfOk result (λ found. (first : List Made) → Asks first (S.made steps.old) → HasReached first (S.made steps.new) found) }
+    ensures met { IfOk result
+        (λ found. (first : List Made) → Asks first (S.made steps.old) → HasReached first (S.made steps.new) found) }
 {
     let name = name.copy(alloc)?;
     look(steps, at, name)
@@ -107,12 +114,16 @@ fn size_in(reply: Reply) -> Result<u64, SalvageFault>
 pub(crate) fn size_of<S: Steps>(steps: &mut S, at: InodeHandle) -> Result<u64, SalvageFault>
     ensures reads { MakesReads (S.made steps.old) (S.made steps.new) (refusal_by result) }
     ensures goes { S.goes steps.old steps.new }
-    ensures right { (W : World) (folder : Bool) → AreAnswered W (S.made steps.old) (S.made steps.new) → MayAsk W.files folder at
+    ensures right { (W : World) (folder : Bool) → AreAnswered W (S.made steps.old) (S.made steps.new)
+        → MayAsk W.files folder at
         → AreFair W.files (S.made steps.old) (S.made steps.new) }
     ensures asks { AsksOn (S.made steps.old) (S.made steps.new) at }
-    ensures size { IfOk result (λ size. (W : World) → AreAnswered W (S.made steps.old) (S.made steps.new) → size_of_file W.files at.inode ≡ size) }
-    ensures there { IfOk result (λ size. (W : World) → AreAnswered W (S.made steps.old) (S.made steps.new) → is_there W.files at.inode at.generation ≡ true) }
-    ensures told { IfOk result (λ size. (first : List Made) → Asks first (S.made steps.old) → HasTold first (S.made steps.new) at size) }
+    ensures size { IfOk result (λ size. (W : World) → AreAnswered W (S.made steps.old) (S.made steps.new)
+        → size_of_file W.files at.inode ≡ size) }
+    ensures there { IfOk result (λ size. (W : World) → AreAnswered W (S.made steps.old) (S.made steps.new)
+        → is_there W.files at.inode at.generation ≡ true) }
+    ensures told { IfOk result
+        (λ size. (first : List Made) → Asks first (S.made steps.old) → HasTold first (S.made steps.new) at size) }
 {
     let step = Step::Stat {
         inode: at.inode,
@@ -146,9 +157,12 @@ pub(crate) fn list<S: Steps>(
         → AreFair W.files (S.made steps.old) (S.made steps.new) }
     ensures asks { AsksOn (S.made steps.old) (S.made steps.new) at }
     ensures part { IfOk result IsFolderPart }
-    ensures listed { IfOk result (λ listed. (W : World) → AreAnswered W (S.made steps.old) (S.made steps.new) → IsListedFrom W.files at.inode slot listed) }
-    ensures there { IfOk result (λ listed. (W : World) → AreAnswered W (S.made steps.old) (S.made steps.new) → is_there W.files at.inode at.generation ≡ true) }
-    ensures gives { IfOk result (λ listed. (first : List Made) → Asks first (S.made steps.old) → ListGives first (S.made steps.new) at listed) }
+    ensures listed { IfOk result (λ listed. (W : World) → AreAnswered W (S.made steps.old) (S.made steps.new)
+        → IsListedFrom W.files at.inode slot listed) }
+    ensures there { IfOk result (λ listed. (W : World) → AreAnswered W (S.made steps.old) (S.made steps.new)
+        → is_there W.files at.inode at.generation ≡ true) }
+    ensures gives { IfOk result
+        (λ listed. (first : List Made) → Asks first (S.made steps.old) → ListGives first (S.made steps.new) at listed) }
 {
     let step = Step::List {
         directory: at.inode,
@@ -189,12 +203,15 @@ pub(crate) fn get<S: Steps>(
 ) -> Result<SlotState, SalvageFault>
     ensures reads { MakesReads (S.made steps.old) (S.made steps.new) (refusal_by result) }
     ensures goes { S.goes steps.old steps.new }
-    ensures asks { (first : List Made) (size : ℕ) → slot < slots_of_size size → Asks first (S.made steps.old) → HasReached first (S.made steps.old) at
+    ensures asks { (first : List Made) (size : ℕ) → slot < slots_of_size size → Asks first (S.made steps.old)
+        → HasReached first (S.made steps.old) at
         → HasTold first (S.made steps.old) at size → Asks first (S.made steps.new) }
     ensures right { (W : World) → AreAnswered W (S.made steps.old) (S.made steps.new) → MayAsk W.files false at
         → AreFair W.files (S.made steps.old) (S.made steps.new) }
-    ensures got { IfOk result (λ got. (W : World) → AreAnswered W (S.made steps.old) (S.made steps.new) → IsGot W at.inode slot got) }
-    ensures told { IfOk result (λ got. (first : List Made) (size : ℕ) → has_slot got ≡ true → HasTold first (S.made steps.old) at size
+    ensures got { IfOk result
+        (λ got. (W : World) → AreAnswered W (S.made steps.old) (S.made steps.new) → IsGot W at.inode slot got) }
+    ensures told { IfOk result
+        (λ got. (first : List Made) (size : ℕ) → has_slot got ≡ true → HasTold first (S.made steps.old) at size
         → HasTold first (S.made steps.new) at size) }
 {
     let step = Step::Get {

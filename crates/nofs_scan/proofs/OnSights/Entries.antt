@@ -1,5 +1,6 @@
 -- Whom an entry names, by its first bytes.
-use Rattle.std.proofs.Common.{◌≡◌, ℕ, Bool, true, false, eqb, ◌&&◌, List, Option, Some, None, is_some, refl, sym, ◌∙◌, arith, eqb-true}
+use Rattle.std.proofs.Common.{◌≡◌, ℕ, Bool, true, false, eqb, ◌&&◌, List, Option, Some, None, is_some, refl, sym, ◌∙◌}
+use Rattle.std.proofs.Common.{arith, eqb-true}
 use Rattle.std.proofs.lemmas.Bool.Decides.{nat_tests}
 use Rattle.nofs_disk.specs.Number.{number_at}
 use Rattle.nofs_model.specs.Cells.{entry_of, Entry}
@@ -8,7 +9,8 @@ use Rattle.nofs_model.proofs.OnFiles.Entries.{names-fields}
 use Rattle.nofs_model.proofs.OnSlots.Find.{and-both}
 use Rattle.nofs_scan.specs.Sights.Verdicts.{named_inode}
 
-pub named-some : (o : Option Entry) (i g : ℕ) → names o i g ≡ true → Some (record { inode = i; generation = g }) ≡ named_inode o
+pub named-some : (o : Option Entry) (i g : ℕ)
+    → names o i g ≡ true → Some (record { inode = i; generation = g }) ≡ named_inode o
 named-some None i g e = cc
 named-some (Some x) i g e =
     let both = and-both (eqb x.inode i) (eqb x.generation g) e in
@@ -23,7 +25,8 @@ none-named : (o : Option Entry) → is_some o ≡ false → None ≡ named_inode
 none-named None e = refl
 none-named (Some x) e = cc
 
-pub named-none : (bytes : List ℕ) (i g : ℕ) → i ≡ number_at 4 0 bytes → g ≡ number_at 8 8 bytes → names (entry_of bytes) i g ≡ false
+pub named-none : (bytes : List ℕ) (i g : ℕ) → i ≡ number_at 4 0 bytes → g ≡ number_at 8 8 bytes
+    → names (entry_of bytes) i g ≡ false
     → None ≡ named_inode (entry_of bytes)
 named-none bytes i g ei eg e = go (is_some (entry_of bytes)) refl
   where

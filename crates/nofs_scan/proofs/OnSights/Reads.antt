@@ -14,38 +14,56 @@ use Rattle.nofs_scan.specs.Sights.Reads.{ReadsAnswer, Sees}
 same-on : {T : Type 0} (old mid : DiskState) (f : Image → T) → StaysButFaults old mid → f mid.now ≡ f old.now
 same-on old mid f s = ap f s.cells.now
 
-pub failed-on : (old mid new : DiskState) → StaysButFaults old mid → Rose mid.faults new.faults → Rose old.faults new.faults
+pub failed-on : (old mid new : DiskState) → StaysButFaults old mid → Rose mid.faults new.faults
+    → Rose old.faults new.faults
 failed-on old mid new s r = Rose-within old.faults mid.faults new.faults new.faults s.disk.faults r (le_refl new.faults)
 
-pub reads-sees : {T : Type 0} (old new : DiskState) (known : List (Option Bool)) (f : Image → T) (result : Result T Failed) → ReadsAnswer old new f result
+pub reads-sees : {T : Type 0} (old new : DiskState) (known : List (Option Bool)) (f : Image → T)
+    (result : Result T Failed) → ReadsAnswer old new f result
     → Sees old new known known f result
-reads-sees old new known f (Ok a) r = record { stays = r.stays; learns = learns-none old known; found = λ tells agreed. r.found tells; cause = r.cause }
-reads-sees old new known f (Err e) r = record { stays = r.stays; learns = learns-none old known; found = tt; cause = r.cause }
+reads-sees old new known f (Ok a) r =
+    record { stays = r.stays; learns = learns-none old known; found = λ tells agreed. r.found tells; cause = r.cause }
+reads-sees old new known f (Err e) r =
+    record { stays = r.stays; learns = learns-none old known; found = tt; cause = r.cause }
 
 -- whether an inode is agreed, as the check of its chain learns it
-pub agreed-sees : (old new : DiskState) (known more : List (Option Bool)) (i : ℕ) (a : Bool) → StaysButFaults old new → LearnsAgreement old known more
-    → (IsTrue old.tells → AreTrue old.now known → a ≡ agreed (files_in old.now) i) → Sees old new known more (λ X. agreed (files_in X) i) (Ok a)
-agreed-sees old new known more i a stays learns found = record { stays = stays; learns = learns; found = found; cause = tt }
+pub agreed-sees : (old new : DiskState) (known more : List (Option Bool)) (i : ℕ) (a : Bool) → StaysButFaults old new
+    → LearnsAgreement old known more
+    → (IsTrue old.tells → AreTrue old.now known → a ≡ agreed (files_in old.now) i)
+    → Sees old new known more (λ X. agreed (files_in X) i) (Ok a)
+agreed-sees old new known more i a stays learns found =
+    record { stays = stays; learns = learns; found = found; cause = tt }
 
-pub agreed-fails : (old new : DiskState) (known more : List (Option Bool)) (i : ℕ) (e : Failed) → StaysButFaults old new → LearnsAgreement old known more
+pub agreed-fails : (old new : DiskState) (known more : List (Option Bool)) (i : ℕ) (e : Failed) → StaysButFaults old new
+    → LearnsAgreement old known more
     → Rose old.faults new.faults → Sees old new known more (λ X. agreed (files_in X) i) (Err e)
-agreed-fails old new known more i e stays learns rose = record { stays = stays; learns = learns; found = tt; cause = rose }
+agreed-fails old new known more i e stays learns rose =
+    record { stays = stays; learns = learns; found = tt; cause = rose }
 
 -- the first read failed
-pub reads-none : {A C : Type 0} (old mid : DiskState) (f : Image → A) (whole : Image → C) (e : Failed) → ReadsAnswer old mid f (Err e)
+pub reads-none : {A C : Type 0} (old mid : DiskState) (f : Image → A) (whole : Image → C) (e : Failed)
+    → ReadsAnswer old mid f (Err e)
     → ReadsAnswer old mid whole (Err e)
 reads-none old mid f whole e r = record { stays = r.stays; found = tt; cause = r.cause }
 
-pub sees-none : {A C : Type 0} (old mid : DiskState) (known more : List (Option Bool)) (f : Image → A) (whole : Image → C) (e : Failed)
+pub sees-none : {A C : Type 0} (old mid : DiskState) (known more : List (Option Bool)) (f : Image → A)
+    (whole : Image → C) (e : Failed)
     → Sees old mid known more f (Err e) → Sees old mid known more whole (Err e)
 sees-none old mid known more f whole e r = record { stays = r.stays; learns = r.learns; found = tt; cause = r.cause }
 
-module _ {A B C : Type 0} (old mid new : DiskState) (f : Image → A) (g : A → Image → B) (h : A → B → C) (whole : Image → C) (a : A) where
+module _ {A B C : Type 0} (old mid new : DiskState) (f : Image → A) (g : A → Image → B) (h : A → B → C)
+    (whole : Image → C) (a : A) where
   -- the second one did
-  pub reads-half : (e : Failed) → ReadsAnswer old mid f (Ok a) → ReadsAnswer mid new (g a) (Err e) → ReadsAnswer old new whole (Err e)
-  reads-half e r q = record { stays = StaysButFaults-trans old mid new r.stays q.stays; found = tt; cause = failed-on old mid new r.stays q.cause }
+  pub reads-half : (e : Failed) → ReadsAnswer old mid f (Ok a) → ReadsAnswer mid new (g a) (Err e)
+      → ReadsAnswer old new whole (Err e)
+  reads-half e r q = record {
+    stays = StaysButFaults-trans old mid new r.stays q.stays;
+    found = tt;
+    cause = failed-on old mid new r.stays q.cause;
+  }
 
-  pub sees-half : (known more most : List (Option Bool)) (e : Failed) → Sees old mid known more f (Ok a) → Sees mid new more most (g a) (Err e)
+  pub sees-half : (known more most : List (Option Bool)) (e : Failed) → Sees old mid known more f (Ok a)
+      → Sees mid new more most (g a) (Err e)
       → Sees old new known most whole (Err e)
   sees-half known more most e r q = record {
     stays = StaysButFaults-trans old mid new r.stays q.stays;
@@ -55,7 +73,8 @@ module _ {A B C : Type 0} (old mid new : DiskState) (f : Image → A) (g : A →
   }
 
   -- both found what they read
-  pub reads-both : (b : B) → ReadsAnswer old mid f (Ok a) → ReadsAnswer mid new (g a) (Ok b) → ((X : Image) → h (f X) (g (f X) X) ≡ whole X)
+  pub reads-both : (b : B) → ReadsAnswer old mid f (Ok a) → ReadsAnswer mid new (g a) (Ok b)
+      → ((X : Image) → h (f X) (g (f X) X) ≡ whole X)
       → ReadsAnswer old new whole (Ok (h a b))
   reads-both b r q is = record {
     stays = StaysButFaults-trans old mid new r.stays q.stays;
@@ -66,7 +85,8 @@ module _ {A B C : Type 0} (old mid new : DiskState) (f : Image → A) (g : A →
     cause = tt;
   }
 
-  pub sees-both : (known more most : List (Option Bool)) (b : B) → Sees old mid known more f (Ok a) → Sees mid new more most (g a) (Ok b)
+  pub sees-both : (known more most : List (Option Bool)) (b : B) → Sees old mid known more f (Ok a)
+      → Sees mid new more most (g a) (Ok b)
       → ((X : Image) → h (f X) (g (f X) X) ≡ whole X)
       → Sees old new known most whole (Ok (h a b))
   sees-both known more most b r q is = record {
@@ -74,7 +94,8 @@ module _ {A B C : Type 0} (old mid new : DiskState) (f : Image → A) (g : A →
     learns = learns-more old mid known more most r.stays r.learns q.learns;
     found = λ tells agreed.
         let first = r.found tells agreed in
-        let now : AreTrue mid.now more = subst (λ (X : Image). AreTrue X more) (sym r.stays.cells.now) (r.learns.still tells agreed) in
+        let now : AreTrue mid.now more =
+        subst (λ (X : Image). AreTrue X more) (sym r.stays.cells.now) (r.learns.still tells agreed) in
         let second : b ≡ g a old.now = q.found (told-on old mid r.stays tells) now ∙ same-on old mid (g a) r.stays in
         (λ j. h (first j) ((second ∙ ap (λ (x : A). g x old.now) first) j)) ∙ is old.now;
     cause = tt;

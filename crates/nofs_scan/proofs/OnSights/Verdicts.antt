@@ -1,14 +1,19 @@
 -- The verdict of what an image has is that of its scan.
-use Rattle.std.proofs.Common.{◌≡◌, ℕ, ◌+◌, ◌/◌, ◌<◌, Bool, true, false, cond, eqb, ltb, leb, ◌&&◌, ◌||◌, not, List, [], ◌∷◌, length, get_or, Option, Some}
+use Rattle.std.proofs.Common.{◌≡◌, ℕ, ◌+◌, ◌/◌, ◌<◌, Bool, true, false, cond, eqb, ltb, leb, ◌&&◌, ◌||◌, not, List, []}
+use Rattle.std.proofs.Common.{◌∷◌, length, get_or, Option, Some}
 use Rattle.std.proofs.Common.{None, is_some, refl, sym, ap, ◌∙◌, arith, eqb-true}
 use Rattle.std.specs.List.{list_any}
 use Rattle.std.proofs.lemmas.Bool.{false≢true}
 use Rattle.std.proofs.lemmas.Bool.Decides.{nat_tests}
-use Rattle.nofs_model.specs.Cells.{BackLink, Entry, FileKind, Pointer, Tag, is_live, is_null, no_link, pointer_at, tag_of}
+use Rattle.nofs_model.specs.Cells.{BackLink, Entry, FileKind, Pointer, Tag, is_live, is_null, no_link, pointer_at}
+use Rattle.nofs_model.specs.Cells.{tag_of}
 use Rattle.nofs_inode.specs.declared.inode.FileKind.TheVariants.{Directory, File}
-use Rattle.nofs_model.specs.Image.{Image, cell_at, super_at, inode, is_data_block, is_fixed_block, is_used_block, is_used_inode, Path, InRecord}
-use Rattle.nofs_model.specs.Image.{Under, path_of, IsSlot, is_slot, record_pointer, is_tag, agrees, judged as judged_slot, find, files_in, file_from}
-use Rattle.nofs_model.specs.Image.{entry_at, is_a, names, pairs, is_pair, is_special, agreed, Home, home_at, owner, owner_by, owner_found}
+use Rattle.nofs_model.specs.Image.{Image, cell_at, super_at, inode, is_data_block, is_fixed_block, is_used_block}
+use Rattle.nofs_model.specs.Image.{is_used_inode, Path, InRecord}
+use Rattle.nofs_model.specs.Image.{Under, path_of, IsSlot, is_slot, record_pointer, is_tag, agrees}
+use Rattle.nofs_model.specs.Image.{judged as judged_slot, find, files_in, file_from}
+use Rattle.nofs_model.specs.Image.{entry_at, is_a, names, pairs, is_pair, is_special, agreed, Home, home_at, owner}
+use Rattle.nofs_model.specs.Image.{owner_by, owner_found}
 use Rattle.nofs_model.specs.declared.image.path.PathAnswer.{PathAnswer}
 use Rattle.nofs_model.specs.declared.image.path.PathAnswer.TheVariants as answer
 use Rattle.nofs_model.proofs.OnFiles.Parents.{any-links, linked-is}
@@ -47,20 +52,25 @@ of-directory false true false up = refl
 of-directory false false n up = refl
 
 -- a back link that leads up is a pair with an agreed directory
-up-is : (X : Image) (i : ℕ) (l : BackLink) → leads_up i (inode X i) l (link_sight X l) ≡ (is_pair (files_in X) i l && agreed (files_in X) l.directory)
-up-is X i l = go (inode X i).kind (named-if (is_a Directory l.generation (files_in X l.directory)) (entry_at (files_in X) l.directory l.entry) i
+up-is : (X : Image) (i : ℕ) (l : BackLink)
+    → leads_up i (inode X i) l (link_sight X l) ≡ (is_pair (files_in X) i l && agreed (files_in X) l.directory)
+up-is X i l = go (inode X i).kind
+    (named-if (is_a Directory l.generation (files_in X l.directory)) (entry_at (files_in X) l.directory l.entry) i
     (inode X i).generation)
   where
     go : (k : Option FileKind) → names_it (entry_linked (files_in X) l) i (inode X i).generation ≡
-        (is_a Directory l.generation (files_in X l.directory) && names (entry_at (files_in X) l.directory l.entry) i (inode X i).generation)
+        (is_a Directory l.generation (files_in X l.directory)
+        && names (entry_at (files_in X) l.directory l.entry) i (inode X i).generation)
         → (may_have k l.generation (inode X i).generation &&
         (names_it (entry_linked (files_in X) l) i (inode X i).generation && agreed (files_in X) l.directory)) ≡
         (pairs (file_from X i k) (files_in X l.directory) i l && agreed (files_in X) l.directory)
     go None entry = refl
     go (Some File) entry = ap (λ (b : Bool). b && agreed (files_in X) l.directory) entry
-        ∙ of-file (is_a Directory l.generation (files_in X l.directory)) (names (entry_at (files_in X) l.directory l.entry) i (inode X i).generation)
+        ∙ of-file (is_a Directory l.generation (files_in X l.directory))
+        (names (entry_at (files_in X) l.directory l.entry) i (inode X i).generation)
         (agreed (files_in X) l.directory)
-    go (Some Directory) entry = ap (λ (b : Bool). ltb l.generation (inode X i).generation && (b && agreed (files_in X) l.directory)) entry
+    go (Some Directory) entry =
+        ap (λ (b : Bool). ltb l.generation (inode X i).generation && (b && agreed (files_in X) l.directory)) entry
         ∙ of-directory (ltb l.generation (inode X i).generation) (is_a Directory l.generation (files_in X l.directory))
         (names (entry_at (files_in X) l.directory l.entry) i (inode X i).generation) (agreed (files_in X) l.directory)
 
@@ -69,11 +79,13 @@ or-false true = refl
 or-false false = refl
 
 -- some of four is the same as one of them
-four-any : (f : BackLink → LinkSight) (P : BackLink → Bool) (R : BackLink → LinkSight → Bool) → ((l : BackLink) → R l (f l) ≡ P l) → (ls : List BackLink)
+four-any : (f : BackLink → LinkSight) (P : BackLink → Bool) (R : BackLink → LinkSight → Bool)
+    → ((l : BackLink) → R l (f l) ≡ P l) → (ls : List BackLink)
     → length ls ≡ 4
     → (R (get_or ls 0 no_link) (f (get_or ls 0 no_link)) ||
     (R (get_or ls 1 no_link) (f (get_or ls 1 no_link)) ||
-    (R (get_or ls 2 no_link) (f (get_or ls 2 no_link)) || R (get_or ls 3 no_link) (f (get_or ls 3 no_link))))) ≡ list_any P ls
+    (R (get_or ls 2 no_link) (f (get_or ls 2 no_link)) || R (get_or ls 3 no_link) (f (get_or ls 3 no_link)))))
+    ≡ list_any P ls
 four-any f P R is (a ∷ b ∷ c ∷ d ∷ []) e = λ j. is a j || (is b j || (is c j || (is d ∙ or-false (P d)) j))
 four-any f P R is [] e = absurd (omega (arith, e))
 four-any f P R is (a ∷ []) e = absurd (omega (arith, e))
@@ -90,7 +102,8 @@ abbrev is_linked : Image → ℕ → Bool
 is_linked X i = list_any (λ l. is_pair (files_in X) i l && agreed (files_in X) l.directory) (inode X i).links
 
 inode-found : (X : Image) (i : ℕ) → judged_inode (inode_sight X i) ≡ (is_special i || is_linked X i)
-inode-found X i = ap (λ (b : Bool). is_special i || b) (four-any (link_sight X) (λ l. is_pair (files_in X) i l && agreed (files_in X) l.directory)
+inode-found X i = ap (λ (b : Bool). is_special i || b)
+    (four-any (link_sight X) (λ l. is_pair (files_in X) i l && agreed (files_in X) l.directory)
     (leads_up i (inode X i)) (up-is X i) (inode X i).links (four-links X i))
 
 inode-judged : (X : Image) (i : ℕ) → judged_inode (inode_sight X i) ≡ is_used_inode X i
@@ -111,7 +124,8 @@ after X i a n above = elim above [
   | answer.Lost ↦ answer.Lost
 ]
 
-module _ (X : Image) (i : ℕ) (a : Path) (y : Pointer) (n : ℕ) (q : PathAnswer → Bool) (hole : q answer.Hole ≡ false) (lost : q answer.Lost ≡ false) where
+module _ (X : Image) (i : ℕ) (a : Path) (y : Pointer) (n : ℕ) (q : PathAnswer → Bool) (hole : q answer.Hole ≡ false)
+    (lost : q answer.Lost ≡ false) where
   abbrev wanted : Tag
   wanted = tag_wanted (inode X i) i a y.stamp
 
@@ -125,7 +139,8 @@ module _ (X : Image) (i : ℕ) (a : Path) (y : Pointer) (n : ℕ) (q : PathAnswe
 
   by-case : (d none live : Bool) → ((not none && (live && is_tag (cond d full no_above).tag wanted))
       && q (judged_slot X i (Under a n) (cond d full no_above).pointer))
-      ≡ q (after X i a n (cond none answer.Hole (cond (live && (d && is_tag (tag_of (cell_at X y.block).tag) wanted)) (answer.Holds y) answer.Lost)))
+      ≡ q (after X i a n (cond none answer.Hole
+      (cond (live && (d && is_tag (tag_of (cell_at X y.block).tag) wanted)) (answer.Holds y) answer.Lost)))
   by-case d true live = sym hole
   by-case true false true = with-tag (is_tag (tag_of (cell_at X y.block).tag) wanted)
   by-case true false false = sym lost
@@ -133,30 +148,39 @@ module _ (X : Image) (i : ℕ) (a : Path) (y : Pointer) (n : ℕ) (q : PathAnswe
   by-case false false false = sym lost
 
   -- a block above a slot holds where its tag is that of its own slot
-  under : (holds_with (inode X i) i a y (above_in X y.block n).tag && q (judged_slot X i (Under a n) (above_in X y.block n).pointer)) ≡ q
+  under : (holds_with (inode X i) i a y
+      (above_in X y.block n).tag && q (judged_slot X i (Under a n) (above_in X y.block n).pointer)) ≡ q
       (after X i a n (judged_slot X i a y))
   under = by-case (is_data_block X y.block) (is_null y) (is_live (inode X i))
 
-module _ (X : Image) (p : ℕ) (t : Tag) (data_block : is_data_block X p ≡ true) (own : tag_of (cell_at X p).tag ≡ Some t) where
+module _ (X : Image) (p : ℕ) (t : Tag) (data_block : is_data_block X p ≡ true)
+    (own : tag_of (cell_at X p).tag ≡ Some t) where
   -- the slot's own block has the tag that was read of it
-  last : (path : Path) (x : Pointer) → ((eqb x.block p) && holds_with (inode X t.inode) t.inode path x (Some t)) ≡ names_block (judged_slot X t.inode path x) p
+  last : (path : Path) (x : Pointer) → ((eqb x.block p) && holds_with (inode X t.inode) t.inode path x (Some t))
+      ≡ names_block (judged_slot X t.inode path x) p
   last path x = go (eqb x.block p) refl (is_null x) (agrees X t.inode path x) refl
     where
-      live-tag : x.block ≡ p → (is_live (inode X t.inode) && is_tag (Some t) (tag_wanted (inode X t.inode) t.inode path x.stamp)) ≡ agrees X t.inode path x
+      live-tag : x.block ≡ p → (is_live (inode X t.inode)
+          && is_tag (Some t) (tag_wanted (inode X t.inode) t.inode path x.stamp)) ≡ agrees X t.inode path x
       live-tag at = sym (ap (λ (b : ℕ). is_live (inode X t.inode)
-          && (is_data_block X b && is_tag (tag_of (cell_at X b).tag) (tag_wanted (inode X t.inode) t.inode path x.stamp))) at
-          ∙ ap (λ (d : Bool). is_live (inode X t.inode) && (d && is_tag (tag_of (cell_at X p).tag) (tag_wanted (inode X t.inode) t.inode path x.stamp)))
+          && (is_data_block X b
+          && is_tag (tag_of (cell_at X b).tag) (tag_wanted (inode X t.inode) t.inode path x.stamp))) at
+          ∙ ap (λ (d : Bool). is_live (inode X t.inode)
+          && (d && is_tag (tag_of (cell_at X p).tag) (tag_wanted (inode X t.inode) t.inode path x.stamp)))
           data_block
-          ∙ ap (λ (o : Option Tag). is_live (inode X t.inode) && is_tag o (tag_wanted (inode X t.inode) t.inode path x.stamp)) own)
+          ∙ ap (λ (o : Option Tag). is_live (inode X t.inode)
+          && is_tag o (tag_wanted (inode X t.inode) t.inode path x.stamp)) own)
 
       here : eqb x.block p ≡ true → (b : Bool) → agrees X t.inode path x ≡ b
-          → (is_live (inode X t.inode) && is_tag (Some t) (tag_wanted (inode X t.inode) t.inode path x.stamp)) ≡ names_block
+          → (is_live (inode X t.inode)
+          && is_tag (Some t) (tag_wanted (inode X t.inode) t.inode path x.stamp)) ≡ names_block
           (cond b (answer.Holds x) answer.Lost) p
       here e true f = live-tag (eqb-true x.block p e) ∙ f ∙ sym e
       here e false f = live-tag (eqb-true x.block p e) ∙ f
 
       go : (b : Bool) → eqb x.block p ≡ b → (null ag : Bool) → agrees X t.inode path x ≡ ag
-          → (b && (not null && (is_live (inode X t.inode) && is_tag (Some t) (tag_wanted (inode X t.inode) t.inode path x.stamp)))) ≡ names_block
+          → (b && (not null && (is_live (inode X t.inode)
+          && is_tag (Some t) (tag_wanted (inode X t.inode) t.inode path x.stamp)))) ≡ names_block
           (cond null answer.Hole (cond ag (answer.Holds x) answer.Lost)) p
       go true e true ag h = refl
       go true e false ag h = here e ag h
@@ -165,7 +189,12 @@ module _ (X : Image) (p : ℕ) (t : Tag) (data_block : is_data_block X p ≡ tru
       go false e false false h = refl
 
   abbrev of-slot : Path → TagSight
-  of-slot path = record { tag = t; in_table = inode X t.inode; way = way_in X (inode X t.inode) path; agreed = agreed (files_in X) t.inode }
+  of-slot path = record {
+    tag = t;
+    in_table = inode X t.inode;
+    way = way_in X (inode X t.inode) path;
+    agreed = agreed (files_in X) t.inode;
+  }
 
   -- the slot that the tag names holds the block just where what was read says so
   slot-held : (path : Path) → IsSlot path → holds_down p (of-slot path) path ≡ names_block (find X t.inode path) p
@@ -173,7 +202,8 @@ module _ (X : Image) (p : ℕ) (t : Tag) (data_block : is_data_block X p ≡ tru
   slot-held (Under (InRecord a) n) is =
       let y : Pointer = record_pointer (inode X t.inode) a in
       let up : Above = above_in X y.block n in
-      ap (λ (b : Bool). holds_with (inode X t.inode) t.inode (InRecord a) y up.tag && b) (last (Under (InRecord a) n) up.pointer)
+      ap (λ (b : Bool). holds_with (inode X t.inode) t.inode (InRecord a) y up.tag && b)
+      (last (Under (InRecord a) n) up.pointer)
       ∙ under X t.inode (InRecord a) y n (λ f. names_block f p) refl refl
   slot-held (Under (Under (InRecord a) m) n) is =
       let y : Pointer = record_pointer (inode X t.inode) a in
@@ -186,7 +216,8 @@ module _ (X : Image) (p : ℕ) (t : Tag) (data_block : is_data_block X p ≡ tru
       ∙ under X t.inode (InRecord a) y m (λ f. names_block (after X t.inode (Under (InRecord a) m) n f) p) refl refl
   slot-held (Under (Under (Under a k) m) n) is = absurd (false≢true is.0)
 
-owner-some : (X : Image) (p : ℕ) (t : Tag) (f : PathAnswer) → (names_block f p && agreed (files_in X) t.inode) ≡ is_some (owner_found X p t f)
+owner-some : (X : Image) (p : ℕ) (t : Tag) (f : PathAnswer)
+    → (names_block f p && agreed (files_in X) t.inode) ≡ is_some (owner_found X p t f)
 owner-some X p t answer.Hole = refl
 owner-some X p t (answer.Holds x) = go (eqb x.block p && agreed (files_in X) t.inode)
   where
@@ -203,7 +234,8 @@ tag-judged X p in_data (Some t) own = go (is_slot t.slot) refl
     go : (b : Bool) → is_slot t.slot ≡ b → judged_tag p (cond b (Some (tag_sight X t)) None) ≡ is_some
         (cond b (owner_found X p t (find X t.inode (path_of t.slot))) None)
     go true e = ap (λ (b : Bool). b && (holds_down p (tag_sight X t) (path_of t.slot) && agreed (files_in X) t.inode)) e
-        ∙ (ap (λ (b : Bool). b && agreed (files_in X) t.inode) (slot-held X p t in_data own (path_of t.slot) (path_of-number t.slot e).0)
+        ∙ (ap (λ (b : Bool). b && agreed (files_in X) t.inode)
+        (slot-held X p t in_data own (path_of t.slot) (path_of-number t.slot e).0)
         ∙ owner-some X p t (find X t.inode (path_of t.slot)))
     go false e = refl
 
@@ -214,15 +246,19 @@ owner-is : (X : Image) (p : ℕ) → owner X p ≡ owner_by X p (tag_of (cell_at
 unfolding owner
 owner-is X p = refl
 
-block-judged : (X : Image) (p : ℕ) → p < (super_at X).blocks → sight_verdict (sight_in element.Block X p) ≡ is_used_block X p
+block-judged : (X : Image) (p : ℕ)
+    → p < (super_at X).blocks → sight_verdict (sight_in element.Block X p) ≡ is_used_block X p
 block-judged X p low = go (is_fixed_block X p) refl
   where
-    go : (b : Bool) → is_fixed_block X p ≡ b → sight_verdict (cond b (sight.Fixed p) (sight.Block (block_sight X p))) ≡ (b || is_some (owner X p))
+    go : (b : Bool) → is_fixed_block X p ≡ b
+        → sight_verdict (cond b (sight.Fixed p) (sight.Block (block_sight X p))) ≡ (b || is_some (owner X p))
     go true e = refl
-    go false e = tag-judged X p (data-block ((super_at X).inodes / 4) p (super_at X).blocks e low) (tag_of (cell_at X p).tag) refl
+    go false e = tag-judged X p (data-block ((super_at X).inodes / 4) p (super_at X).blocks e low)
+        (tag_of (cell_at X p).tag) refl
         ∙ sym (ap is_some (owner-is X p))
 
 -- of an element of the disk
-pub judged-is : (X : Image) (kind : ElementKind) (item : ℕ) → HasElement kind (super_at X) item → sight_verdict (sight_in kind X item) ≡ is_used kind X item
+pub judged-is : (X : Image) (kind : ElementKind) (item : ℕ) → HasElement kind (super_at X) item
+    → sight_verdict (sight_in kind X item) ≡ is_used kind X item
 judged-is X element.Inode i range = inode-judged X i
 judged-is X element.Block p range = block-judged X p range.1

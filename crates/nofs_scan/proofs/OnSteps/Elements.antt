@@ -1,5 +1,6 @@
 -- An element that a step may see: what each way to its verdict leaves of the mount.
-use Rattle.std.proofs.Common.{◌≡◌, ℕ, ◌<◌, ◌≤◌, Bool, true, false, eqb, ltb, leb, ◌||◌, List, Option, Some, None, IsTrue, Result, Ok, Err, refl, sym, ap, ◌∙◌}
+use Rattle.std.proofs.Common.{◌≡◌, ℕ, ◌<◌, ◌≤◌, Bool, true, false, eqb, ltb, leb, ◌||◌, List, Option, Some, None}
+use Rattle.std.proofs.Common.{IsTrue, Result, Ok, Err, refl, sym, ap, ◌∙◌}
 use Rattle.std.proofs.Common.{subst, arith}
 use Rattle.std.proofs.lemmas.Bool.Decides.{nat_tests}
 use Rattle.nofs_disk.specs.Disk.{DiskState, IsDisk, StaysButFaults}
@@ -38,32 +39,40 @@ in-table n i e = (low n i e, high n i e)
     high n i e = grind (arith, nat_tests)
 
 -- an element of these books: its verdict, what the books learn of it, and the scan's verdict
-pub record IsElement (old : DiskState) (k : Books) (s : Step) (stood : Option Bool) (learned : Bool → Books) (answer : Image → Bool) (Fits : Bool → Type 0)
+pub record IsElement (old : DiskState) (k : Books) (s : Step) (stood : Option Bool) (learned : Bool → Books)
+    (answer : Image → Bool) (Fits : Bool → Type 0)
     : Type 1 where
   pub at : (used : Bool) → (learned used).at ≡ k.at
   pub history : (used : Bool) → (learned used).history ≡ k.history
   pub stopped : (used : Bool) → (learned used).stopped ≡ k.stopped
   pub no_row : (H : List Entry1) (p : Past) → IsOpen old k H p → first_of (rows p.world p.world s) ≡ None
   pub safe : (new : DiskState) (used : Bool) → StaysButFaults old new → Fits used → IsSafe new (learned used)
-  pub stands : (used : Bool) → stood ≡ Some used → (H : List Entry1) (p : Past) → IsOpen old k H p → used ≡ answer old.now
-  pub by_stood : (new : DiskState) (used : Bool) → StaysButFaults old new → stood ≡ Some used → IsTrue old.tells → (caller : ℕ) (H : List Entry1) (p : Past)
+  pub stands : (used : Bool) → stood ≡ Some used → (H : List Entry1) (p : Past) → IsOpen old k H p
+      → used ≡ answer old.now
+  pub by_stood : (new : DiskState) (used : Bool) → StaysButFaults old new → stood ≡ Some used → IsTrue old.tells
+      → (caller : ℕ) (H : List Entry1) (p : Past)
       → IsOpen old k H p → Follows old new k H p (entry caller old new s no_claims (reply.Seen used))
-  pub by_learned : (new : DiskState) (used : Bool) → StaysButFaults old new → IsTrue old.tells → (caller : ℕ) (H : List Entry1) (p : Past) → IsOpen old k H p
+  pub by_learned : (new : DiskState) (used : Bool) → StaysButFaults old new → IsTrue old.tells
+      → (caller : ℕ) (H : List Entry1) (p : Past) → IsOpen old k H p
       → used ≡ answer old.now
       → Follows old new (learned used) H p (entry caller old new s no_claims (reply.Seen used))
 
 module _ (old : DiskState) (k : Books) (is : IsDisk old) (safe : IsSafe old k) (going : k.stopped ≡ false) where
   pub block-element : (b : ℕ) → b < k.at.blocks
-      → IsElement old k (step.SeeBlock b) (verdict_of_block k b) (learned_block k b) (λ X. is_used_block X b) (InData k b)
+      → IsElement old k (step.SeeBlock b) (verdict_of_block k b) (learned_block k b)
+      (λ X. is_used_block X b) (InData k b)
   block-element b low = record {
     at = λ used. refl;
     history = λ used. refl;
     stopped = λ used. refl;
     no_row = λ H p o. block-row p.world p.world b k.at.blocks o.says.blocks low;
     safe = λ new used stays fits. safe-block new k b used (safe-on old new k stays safe) fits;
-    stands = λ used stood H p o. block-stands old old k b used is safe (StaysButFaults-refl old) going low H p o stood ∙ machine-block old k H p o b low;
-    by_stood = λ new used stays stood tells caller H p o. block-stood old new k b used is safe stays going low caller H p tells o stood;
-    by_learned = λ new used stays tells caller H p o right. block-learned old new k b used is safe stays going low caller H p tells o
+    stands = λ used stood H p o. block-stands old old k b used is safe (StaysButFaults-refl old) going low H p o stood
+        ∙ machine-block old k H p o b low;
+    by_stood = λ new used stays stood tells caller H p o.
+        block-stood old new k b used is safe stays going low caller H p tells o stood;
+    by_learned = λ new used stays tells caller H p o right.
+        block-learned old new k b used is safe stays going low caller H p tells o
         (right ∙ sym (machine-block old k H p o b low));
   }
 
@@ -75,29 +84,38 @@ module _ (old : DiskState) (k : Books) (is : IsDisk old) (safe : IsSafe old k) (
     stopped = λ used. refl;
     no_row = λ H p o. inode-row p.world p.world i k.at.inodes o.says.inodes low high;
     safe = λ new used stays fits. safe-inode new k i used (safe-on old new k stays safe);
-    stands = λ used stood H p o. inode-stands old old k i used is safe (StaysButFaults-refl old) going low high H p o stood ∙ machine-inode old k H p o i;
-    by_stood = λ new used stays stood tells caller H p o. inode-stood old new k i used is safe stays going low high caller H p tells o stood;
-    by_learned = λ new used stays tells caller H p o right. inode-learned old new k i used is safe stays going low high caller H p tells o
+    stands = λ used stood H p o. inode-stands old old k i used is safe
+        (StaysButFaults-refl old) going low high H p o stood ∙ machine-inode old k H p o i;
+    by_stood = λ new used stays stood tells caller H p o.
+        inode-stood old new k i used is safe stays going low high caller H p tells o stood;
+    by_learned = λ new used stays tells caller H p o right.
+        inode-learned old new k i used is safe stays going low high caller H p tells o
         (right ∙ sym (machine-inode old k H p o i));
   }
 
   -- no such element
-  pub block-beyond : (b : ℕ) → k.at.blocks ≤ b → Goes old k old k (step.SeeBlock b) no_claims (reply.Refused refusal.BadRange)
-  block-beyond b high = goes-row old old k (step.SeeBlock b) is safe (StaysButFaults-refl old) refusal.BadRange refl tt going
+  pub block-beyond : (b : ℕ)
+      → k.at.blocks ≤ b → Goes old k old k (step.SeeBlock b) no_claims (reply.Refused refusal.BadRange)
+  block-beyond b high =
+      goes-row old old k (step.SeeBlock b) is safe (StaysButFaults-refl old) refusal.BadRange refl tt going
       (λ tells H p o. rw (le-is p.world.blocks b (let e = o.says.blocks in omega (arith, e, high))) refl)
     where
       le-is : (m n : ℕ) → m ≤ n → leb m n ≡ true
       le-is m n h = grind (arith, nat_tests)
 
-  pub inode-beyond : (i : ℕ) → (eqb i 0 || ltb k.at.inodes i) ≡ true → Goes old k old k (step.SeeInode i) no_claims (reply.Refused refusal.BadRange)
-  inode-beyond i outside = goes-row old old k (step.SeeInode i) is safe (StaysButFaults-refl old) refusal.BadRange refl tt going
+  pub inode-beyond : (i : ℕ) → (eqb i 0 || ltb k.at.inodes i) ≡ true
+      → Goes old k old k (step.SeeInode i) no_claims (reply.Refused refusal.BadRange)
+  inode-beyond i outside =
+      goes-row old old k (step.SeeInode i) is safe (StaysButFaults-refl old) refusal.BadRange refl tt going
       (λ tells H p o. rw (subst (λ (n : ℕ). (eqb i 0 || ltb n i) ≡ true) (sym o.says.inodes) outside) refl)
 
 -- what an element that is seen leaves
-goes-seen : (old new : DiskState) (k l : Books) (s : Step) (used : Bool) → StaysButFaults old new → k.stopped ≡ false → l.stopped ≡ false → IsSafe new l
+goes-seen : (old new : DiskState) (k l : Books) (s : Step) (used : Bool) → StaysButFaults old new
+    → k.stopped ≡ false → l.stopped ≡ false → IsSafe new l
     → l.at ≡ k.at → l.history ≡ k.history
     → (IsTrue old.tells → (caller : ℕ) (H : List Entry1) (p : Past) → IsOpen old k H p
-    → Follows old new l H p (entry caller old new s no_claims (reply.Seen used))) → Goes old k new l s no_claims (reply.Seen used)
+    → Follows old new l H p (entry caller old new s no_claims (reply.Seen used)))
+    → Goes old k new l s no_claims (reply.Seen used)
 goes-seen old new k l s used stays going still safe at history follows = record {
   disk = stays.disk;
   past = stays.past;
@@ -112,40 +130,52 @@ goes-seen old new k l s used stays going still safe at history follows = record 
   from_stopped = λ tells caller H p o. absurd (let t = o.stopped in cc (t, going));
 }
 
-module _ (old : DiskState) (k : Books) (s : Step) (stood : Option Bool) (learned : Bool → Books) (answer : Image → Bool) (Fits : Bool → Type 0)
-    (is : IsDisk old) (safe : IsSafe old k) (going : k.stopped ≡ false) (element : IsElement old k s stood learned answer Fits) where
-  pub element-seen : (new : DiskState) (l : Books) (result : Result Bool Failed) (used : Bool) → Verifies old k new l stood learned answer Fits result
+module _ (old : DiskState) (k : Books) (s : Step) (stood : Option Bool) (learned : Bool → Books) (answer : Image → Bool)
+    (Fits : Bool → Type 0)
+    (is : IsDisk old) (safe : IsSafe old k) (going : k.stopped ≡ false)
+    (element : IsElement old k s stood learned answer Fits) where
+  pub element-seen : (new : DiskState) (l : Books) (result : Result Bool Failed) (used : Bool)
+      → Verifies old k new l stood learned answer Fits result
       → result ≡ Ok used → Goes old k new l s no_claims (reply.Seen used)
   element-seen new l result used (Stood u is-stood stays same e) is-ok =
       let su : u ≡ used = let z = sym e ∙ is-ok in cc z in
       subst (λ (m : Books). Goes old k new m s no_claims (reply.Seen used)) (sym same)
-      (goes-seen old new k k s used stays going going (safe-on old new k stays safe) refl refl (element.by_stood new used stays (is-stood ∙ ap Some su)))
+      (goes-seen old new k k s used stays going going (safe-on old new k stays safe) refl refl
+      (element.by_stood new used stays (is-stood ∙ ap Some su)))
   element-seen new l result used (Learned u none judged fits same e) is-ok =
       let su : u ≡ used = let z = sym e ∙ is-ok in cc z in
-      let j : Judges old new k.agreement answer (Ok used) = subst (λ (q : Bool). Judges old new k.agreement answer (Ok q)) su judged in
+      let j : Judges old new k.agreement answer (Ok used) =
+      subst (λ (q : Bool). Judges old new k.agreement answer (Ok q)) su judged in
       subst (λ (m : Books). Goes old k new m s no_claims (reply.Seen used)) (sym (same ∙ ap learned su))
-      (goes-seen old new k (learned used) s used j.stays going (element.stopped used ∙ going) (element.safe new used j.stays (subst Fits su fits))
+      (goes-seen old new k (learned used) s used j.stays going (element.stopped used ∙ going)
+      (element.safe new used j.stays (subst Fits su fits))
       (element.at used) (element.history used)
-      (λ tells caller H p o. element.by_learned new used j.stays tells caller H p o (j.found tells (are-agreed old k H p safe o))))
+      (λ tells caller H p o. element.by_learned new used j.stays tells caller H p o
+      (j.found tells (are-agreed old k H p safe o))))
   element-seen new l result used (Unread x judged same e) is-ok = absurd (let z = sym e ∙ is-ok in cc z)
 
-  pub element-unread : (new : DiskState) (l : Books) (result : Result Bool Failed) (x : Failed) → Verifies old k new l stood learned answer Fits result
+  pub element-unread : (new : DiskState) (l : Books) (result : Result Bool Failed) (x : Failed)
+      → Verifies old k new l stood learned answer Fits result
       → result ≡ Err x → Goes old k new l s no_claims (reply.Refused refusal.ReadFault)
   element-unread new l result x (Stood u is-stood stays same e) is-err = absurd (let z = sym e ∙ is-err in cc z)
   element-unread new l result x (Learned u none judged fits same e) is-err = absurd (let z = sym e ∙ is-err in cc z)
   element-unread new l result x (Unread y judged same e) is-err =
       subst (λ (m : Books). Goes old k new m s no_claims (reply.Refused refusal.ReadFault)) (sym same)
-      (goes-read old new k s is safe judged.stays going judged.cause (λ tells H p o why row. absurd (let none = element.no_row H p o in cc (none, row))))
+      (goes-read old new k s is safe judged.stays going judged.cause
+      (λ tells H p o why row. absurd (let none = element.no_row H p o in cc (none, row))))
 
 -- what a verified element leaves, as it was read or not
-pub record IsSeenStep (old : DiskState) (k : Books) (new : DiskState) (l : Books) (s : Step) (result : Result Bool Failed) : Type 0 where
+pub record IsSeenStep (old : DiskState) (k : Books) (new : DiskState) (l : Books) (s : Step)
+    (result : Result Bool Failed) : Type 0 where
   pub read : (used : Bool) → result ≡ Ok used → Goes old k new l s no_claims (reply.Seen used)
   pub unread : (x : Failed) → result ≡ Err x → Goes old k new l s no_claims (reply.Refused refusal.ReadFault)
 
-module _ (old : DiskState) (k : Books) (is : IsDisk old) (safe : IsSafe old k) (going : k.stopped ≡ false) (new : DiskState) (l : Books)
+module _ (old : DiskState) (k : Books) (is : IsDisk old) (safe : IsSafe old k) (going : k.stopped ≡ false)
+    (new : DiskState) (l : Books)
     (result : Result Bool Failed) where
   verified : (s : Step) (stood : Option Bool) (learned : Bool → Books) (answer : Image → Bool) (Fits : Bool → Type 0)
-      → IsElement old k s stood learned answer Fits → Verifies old k new l stood learned answer Fits result → IsSeenStep old k new l s result
+      → IsElement old k s stood learned answer Fits → Verifies old k new l stood learned answer Fits result
+      → IsSeenStep old k new l s result
   verified s stood learned answer Fits element v = record {
     read = λ used e. element-seen old k s stood learned answer Fits is safe going element new l result used v e;
     unread = λ x e. element-unread old k s stood learned answer Fits is safe going element new l result x v e;
@@ -154,11 +184,13 @@ module _ (old : DiskState) (k : Books) (is : IsDisk old) (safe : IsSafe old k) (
   pub block-verified : (b : ℕ) → b < k.at.blocks
       → Verifies old k new l (verdict_of_block k b) (learned_block k b) (λ X. is_used_block X b) (InData k b) result
       → IsSeenStep old k new l (step.SeeBlock b) result
-  block-verified b low = verified (step.SeeBlock b) (verdict_of_block k b) (learned_block k b) (λ X. is_used_block X b) (InData k b)
+  block-verified b low =
+      verified (step.SeeBlock b) (verdict_of_block k b) (learned_block k b) (λ X. is_used_block X b) (InData k b)
       (block-element old k is safe going b low)
 
   pub inode-verified : (i : ℕ) → (eqb i 0 || ltb k.at.inodes i) ≡ false
-      → Verifies old k new l (verdict_of_inode k i) (learned_inode k i) (λ X. is_used_inode X i) (λ used. Unit {0}) result
+      → Verifies old k new l (verdict_of_inode k i) (learned_inode k i) (λ X. is_used_inode X i)
+      (λ used. Unit {0}) result
       → IsSeenStep old k new l (step.SeeInode i) result
   inode-verified i e = let range = in-table k.at.inodes i e in
       verified (step.SeeInode i) (verdict_of_inode k i) (learned_inode k i) (λ X. is_used_inode X i) (λ used. Unit {0})

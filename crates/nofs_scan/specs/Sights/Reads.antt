@@ -12,7 +12,10 @@ pub record ReadsAnswer {T : Type 0} (old new : DiskState) (answer : Image → T)
   pub cause : OnErr result (Rose old.faults new.faults)
 
 -- so it is where what was known of inodes is true, and more is known of them then
-pub record Sees {T : Type 0} (old new : DiskState) (known more : List (Option Bool)) (answer : Image → T) (result : Result T Failed) : Type 0 where
+pub record Sees {
+    T : Type 0
+    } (old new : DiskState) (known more : List (Option Bool)) (answer : Image → T)
+    (result : Result T Failed) : Type 0 where
   pub stays : StaysButFaults old new
   pub learns : LearnsAgreement old known more
   pub found : IfOk result (λ a. IsTrue old.tells → AreTrue old.now known → a ≡ answer old.now)

@@ -1,8 +1,11 @@
 -- What is read of an element of an image, and the verdict that follows from it alone.
-use Rattle.std.specs.Prelude.{ℕ, Bool, true, false, ◌&&◌, ◌||◌, not, List, [], ◌∷◌, get_or, Option, Some, None, if◌then◌else◌, ◌==◌, nat_lt}
-use Rattle.nofs_model.specs.Cells.{Tag, Pointer, BackLink, FileKind, Record, Entry, tag_of, pointer_at, null, is_null, is_live, no_link}
+use Rattle.std.specs.Prelude.{ℕ, Bool, true, false, ◌&&◌, ◌||◌, not, List, [], ◌∷◌, get_or, Option, Some, None}
+use Rattle.std.specs.Prelude.{if◌then◌else◌, ◌==◌, nat_lt}
+use Rattle.nofs_model.specs.Cells.{Tag, Pointer, BackLink, FileKind, Record, Entry, tag_of, pointer_at, null, is_null}
+use Rattle.nofs_model.specs.Cells.{is_live, no_link}
 use Rattle.nofs_inode.specs.declared.inode.FileKind.TheVariants as file
-use Rattle.nofs_model.specs.Image.{Image, cell_at, inode, is_data_block, is_fixed_block, Path, InRecord, Under, path_of, slot_of, is_slot}
+use Rattle.nofs_model.specs.Image.{Image, cell_at, inode, is_data_block, is_fixed_block, Path, InRecord, Under, path_of}
+use Rattle.nofs_model.specs.Image.{slot_of, is_slot}
 use Rattle.nofs_model.specs.Image.{record_pointer, kind_in, is_tag, Files, files_in, entry_at, is_a, is_special, agreed}
 use Rattle.nofs_history.specs.declared.machine.steps.ElementKind.{ElementKind}
 use Rattle.nofs_history.specs.declared.machine.steps.ElementKind.TheVariants as element
@@ -26,14 +29,16 @@ named_inode (Some e) = Some (record { inode = e.inode; generation = e.generation
 
 -- the entry that a back link names, in a directory of its generation
 abbrev pub entry_linked : Files → BackLink → Option EntryTarget
-entry_linked F l = if is_a file.Directory l.generation (F l.directory) then named_inode (entry_at F l.directory l.entry) else None
+entry_linked F l = if is_a file.Directory l.generation (F l.directory)
+    then named_inode (entry_at F l.directory l.entry) else None
 
 abbrev pub link_sight : Image → BackLink → LinkSight
 link_sight X l = record { entry = entry_linked (files_in X) l; agreed = agreed (files_in X) l.directory }
 
 -- the sights of four back links
 abbrev pub link_sights : Image → List BackLink → List LinkSight
-link_sights X ls = link_sight X (get_or ls 0 no_link) ∷ link_sight X (get_or ls 1 no_link) ∷ link_sight X (get_or ls 2 no_link) ∷ link_sight X
+link_sights X ls = link_sight X (get_or ls 0 no_link) ∷ link_sight X (get_or ls 1 no_link)
+    ∷ link_sight X (get_or ls 2 no_link) ∷ link_sight X
     (get_or ls 3 no_link) ∷ []
 
 abbrev pub inode_sight : Image → ℕ → InodeSight
@@ -44,7 +49,8 @@ no_above = record { tag = None; pointer = null }
 
 -- the tag of a block and the pointer at a place in it, where it is a block of the data area
 abbrev pub above_in : Image → ℕ → ℕ → Above
-above_in X b n = if is_data_block X b then record { tag = tag_of (cell_at X b).tag; pointer = pointer_at (cell_at X b).payload n } else no_above
+above_in X b n = if is_data_block X b
+    then record { tag = tag_of (cell_at X b).tag; pointer = pointer_at (cell_at X b).payload n } else no_above
 
 -- a block above a slot alone
 abbrev pub under_record : Image → ℕ → ℕ → BlocksAbove
@@ -120,7 +126,8 @@ judged_inode s = is_special s.inode || (leads_up_at s 0 || (leads_up_at s 1 || (
 
 -- the tag of the block in a slot of an inode with this record
 abbrev pub tag_wanted : Record → ℕ → Path → ℕ → Tag
-tag_wanted r i path stamp = record { kind = kind_in r path; inode = i; generation = r.generation; slot = slot_of path; stamp = stamp }
+tag_wanted r i path stamp =
+    record { kind = kind_in r path; inode = i; generation = r.generation; slot = slot_of path; stamp = stamp }
 
 -- a slot with this pointer holds, if its block has this tag
 abbrev pub holds_with : Record → ℕ → Path → Pointer → Option Tag → Bool
@@ -133,7 +140,8 @@ holds_it p s path x = (x.block == p) && holds_with s.in_table s.tag.inode path x
 -- the tag's slot holds this block, and each slot above it holds
 abbrev pub holds_down : ℕ → TagSight → Path → Bool
 holds_down p s (InRecord n) = holds_it p s (InRecord n) (record_pointer s.in_table n)
-holds_down p s (Under (InRecord a) n) = holds_with s.in_table s.tag.inode (InRecord a) (record_pointer s.in_table a) s.way.upper.tag
+holds_down p s (Under (InRecord a) n) =
+    holds_with s.in_table s.tag.inode (InRecord a) (record_pointer s.in_table a) s.way.upper.tag
     && holds_it p s (Under (InRecord a) n) s.way.upper.pointer
 holds_down p s (Under (Under (InRecord a) m) n) =
     holds_with s.in_table s.tag.inode (InRecord a) (record_pointer s.in_table a) s.way.upper.tag

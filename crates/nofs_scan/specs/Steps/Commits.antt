@@ -33,7 +33,8 @@ pub record MayCommit (d : DiskState) (k before : Books) (vs : List Verdict) (pla
   pub numbers : before.at ≡ k.at
 
 -- A verdict that was right in an earlier state is committed now. The disk `d` stays: a commit makes no call
-pub record Commits (early : DiskState) (before : Books) (d : DiskState) (k l : Books) (kind : ElementKind) (item : ℕ) (used result : Bool) : Type 0 where
+pub record Commits (early : DiskState) (before : Books) (d : DiskState) (k l : Books) (kind : ElementKind) (item : ℕ)
+    (used result : Bool) : Type 0 where
   -- over any disk: a verdict that stood stays, and is the answer
   pub settles : OffersVerdict k l (verdict_of kind k item) (learned kind k item) used result
   pub cause : Causes d d k l (reply.Seen result)
@@ -41,7 +42,9 @@ pub record Commits (early : DiskState) (before : Books) (d : DiskState) (k l : B
   pub at : l.at ≡ k.at
   pub history : l.history ≡ k.history
   -- the answer is the scan's now
-  pub right : IsTrue d.tells → (H : List Entry1) (p : Past) → IsOpen d k H p → WasOpen early before k H p → result ≡ is_used kind d.now item
+  pub right : IsTrue d.tells → (H : List Entry1) (p : Past) → IsOpen d k H p → WasOpen early before k H p
+      → result ≡ is_used kind d.now item
   -- and the commit is a See step
-  pub from_open : IsTrue d.tells → (caller : ℕ) (H : List Entry1) (p : Past) → IsOpen d k H p → WasOpen early before k H p
+  pub from_open : IsTrue d.tells → (caller : ℕ) (H : List Entry1) (p : Past) → IsOpen d k H p
+      → WasOpen early before k H p
       → Follows d d l H p (entry caller d d (see_step kind item) no_claims (reply.Seen result))

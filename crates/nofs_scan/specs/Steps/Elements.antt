@@ -55,7 +55,8 @@ abbrev pub MayLearn : ElementKind → Books → ℕ → Bool → Type 0
 MayLearn kind k item used = used ≡ false → least_free kind k.at ≤ item
 
 -- a verdict is the scan's, where the disk tells and what is known of inodes is true
-pub record IsScanVerdict (d : DiskState) (at : SuperBlock) (known : List (Option Bool)) (kind : ElementKind) (v : Verdict) : Type 0 where
+pub record IsScanVerdict (d : DiskState) (at : SuperBlock) (known : List (Option Bool)) (kind : ElementKind)
+    (v : Verdict) : Type 0 where
   pub range : HasElement kind at v.item
   pub may : v.used ≡ false → least_free kind at ≤ v.item
   pub scan : IsTrue d.tells → AreTrue d.now known → v.used ≡ is_used kind d.now v.item

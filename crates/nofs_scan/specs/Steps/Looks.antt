@@ -15,7 +15,8 @@ use Rattle.nofs_scan.specs.Sights.Verdicts.{item_of, sight_in, verdict_by}
 use Rattle.nofs_scan.specs.declared.sights.sights.Sight.{Sight}
 
 -- one element: what was read of it is what the disk has, where it tells, and its verdict is right
-pub record LooksAt (old : DiskState) (at : SuperBlock) (known more : List (Option Bool)) (new : DiskState) (kind : ElementKind) (item : ℕ)
+pub record LooksAt (old : DiskState) (at : SuperBlock) (known more : List (Option Bool)) (new : DiskState)
+    (kind : ElementKind) (item : ℕ)
     (result : Result Sight Failed) : Type 0 where
   pub sees : Sees old new known more (λ X. sight_in kind X item) result
   pub number : IfOk result (λ s. item_of s ≡ item)
@@ -47,7 +48,8 @@ LooksFail old new refusal.OutOfMemory = Unit {0}
 LooksFail old new _ = ⊥
 
 -- these elements
-pub record LooksAll (old : DiskState) (at : SuperBlock) (known more : List (Option Bool)) (new : DiskState) (kind : ElementKind) (asked : List ℕ)
+pub record LooksAll (old : DiskState) (at : SuperBlock) (known more : List (Option Bool)) (new : DiskState)
+    (kind : ElementKind) (asked : List ℕ)
     (result : Result (List Sight) Refusal) : Type 0 where
   pub stays : StaysButFaults old new
   pub learns : LearnsAgreement old known more

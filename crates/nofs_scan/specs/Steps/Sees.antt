@@ -15,6 +15,7 @@ seen_answer (Ok used) = reply.Seen used
 seen_answer (Err why) = reply.Refused why
 
 -- the step went so, and took no memory
-pub record Examines (old : DiskState) (k : Books) (new : DiskState) (l : Books) (s : Step) (result : Result Bool Refusal) : Type 0 where
+pub record Examines (old : DiskState) (k : Books) (new : DiskState) (l : Books) (s : Step)
+    (result : Result Bool Refusal) : Type 0 where
   pub goes : Goes old k new l s no_claims (seen_answer result)
   pub memory : is_out_of_memory (seen_answer result) ≡ false

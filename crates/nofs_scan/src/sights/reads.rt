@@ -1,7 +1,7 @@
 //! What an element has on the disk, read block by block.
 //!
-//! Promise: each sight is that of the disk's image, whatever the bytes are. A read changes no disk, takes no memory, and fails only
-//! where the disk's count of faults rose. What it finds of inodes on the ways up is known from then on.
+//! Promise: each sight is that of the disk's image, whatever the bytes are. A read changes no disk, takes no memory,
+//! and fails only where the disk's count of faults rose. What it finds of inodes on the ways up is known from then on.
 ghost use Rattle.std.specs.Prelude.{◌≡◌, ◌<◌, ◌^◌, IsTrue, length};
 ghost use Rattle.nofs_inode.specs.declared.inode.FileKind.TheVariants as kind;
 ghost use Rattle.nofs_dirent.specs.Entries.{entry_in};
@@ -29,8 +29,8 @@ use nofs_model::{Place, names_inode, place_of, record_pointer};
 use nofs_ptrs::read_pointer;
 use nofs_super::SuperBlock;
 
-/// Reads what the disk has of an element: an inode's record and what each of its back links leads to; or a block's tag and what
-/// stands in the slot that the tag names. Of a block of the superblock or the inode table nothing is read.
+/// Reads what the disk has of an element: an inode's record and what each of its back links leads to; or a block's tag
+/// and what stands in the slot that the tag names. Of a block of the superblock or the inode table nothing is read.
 ///
 /// # Errors
 ///
@@ -90,7 +90,8 @@ fn read_links<D: Disk>(
 ) -> Result<[LinkSight; 4], Failed>
     requires numbers { IsAt (D.state disk.old) at.now }
     requires known { length known.old ≡ at.now.inodes }
-    ensures { Sees (D.state disk.old) (D.state disk.new) known.old known.new (λ X. sights.link_sights X links.now) result }
+    ensures { Sees (D.state disk.old) (D.state disk.new) known.old known.new
+        (λ X. sights.link_sights X links.now) result }
 {
     let low = read_two(disk, at, known, &links[0], &links[1])?;
     let high = read_two(disk, at, known, &links[2], &links[3])?;
@@ -106,7 +107,8 @@ fn read_two<D: Disk>(
 ) -> Result<(LinkSight, LinkSight), Failed>
     requires numbers { IsAt (D.state disk.old) at.now }
     requires known { length known.old ≡ at.now.inodes }
-    ensures { Sees (D.state disk.old) (D.state disk.new) known.old known.new (λ X. (sights.link_sight X one.now, sights.link_sight X two.now)) result }
+    ensures { Sees (D.state disk.old) (D.state disk.new) known.old known.new
+        (λ X. (sights.link_sight X one.now, sights.link_sight X two.now)) result }
 {
     let first = read_link(disk, at, known, one)?;
     let second = read_link(disk, at, known, two)?;
@@ -122,7 +124,8 @@ fn read_link<D: Disk>(
 ) -> Result<LinkSight, Failed>
     requires numbers { IsAt (D.state disk.old) at.now }
     requires known { length known.old ≡ at.now.inodes }
-    ensures { Sees (D.state disk.old) (D.state disk.new) known.old known.new (λ X. sights.link_sight X link.now) result }
+    ensures { Sees (D.state disk.old) (D.state disk.new) known.old known.new
+        (λ X. sights.link_sight X link.now) result }
 {
     let entry = read_link_entry(disk, at, link)?;
     let agreed = learn_chain(disk, at, known, link.directory)?;
@@ -136,7 +139,8 @@ fn read_link_entry<D: Disk>(
     link: &BackLink,
 ) -> Result<Option<EntryTarget>, Failed>
     requires { IsAt (D.state disk.old) at.now }
-    ensures { ReadsAnswer (D.state disk.old) (D.state disk.new) (λ X. sights.entry_linked (files.files_in X) link.now) result }
+    ensures { ReadsAnswer (D.state disk.old) (D.state disk.new)
+        (λ X. sights.entry_linked (files.files_in X) link.now) result }
 {
     let mut last = LastRead::NONE;
     let directory = read_inode(disk, at, link.directory, &mut last)?;
@@ -256,7 +260,8 @@ fn read_slot_way<D: Disk>(
 ) -> Result<(Record, BlocksAbove), Failed>
     requires numbers { IsAt (D.state disk.old) at.now }
     requires place { IsPlace place }
-    ensures { ReadsAnswer (D.state disk.old) (D.state disk.new) (λ X. (image.inode X inode, sights.way_in X (image.inode X inode) (place_path place))) result }
+    ensures { ReadsAnswer (D.state disk.old) (D.state disk.new)
+        (λ X. (image.inode X inode, sights.way_in X (image.inode X inode) (place_path place))) result }
 {
     let it = read_record(disk, at, inode)?;
     let way = read_way(disk, at, place, &it)?;
@@ -272,7 +277,8 @@ fn read_way<D: Disk>(
 ) -> Result<BlocksAbove, Failed>
     requires place { IsPlace place }
     requires numbers { IsAt (D.state disk.old) at.now }
-    ensures { ReadsAnswer (D.state disk.old) (D.state disk.new) (λ X. sights.way_in X it.now (place_path place)) result }
+    ensures { ReadsAnswer (D.state disk.old) (D.state disk.new)
+        (λ X. sights.way_in X it.now (place_path place)) result }
 {
     match place {
         Place::InRecord(_) => Ok(BlocksAbove::NONE),

@@ -157,7 +157,8 @@ fn holds_upper(sight: &TagSight, at: u64) -> bool
 // Whether this child of the top holds.
 fn holds_lower(sight: &TagSight, child: u64) -> bool
     requires { child < 64 }
-    ensures { result ≡ sights.holds_with sight.now.in_table sight.now.tag.inode (slots.child child) sight.now.way.upper.pointer sight.now.way.lower.tag }
+    ensures { result ≡ sights.holds_with sight.now.in_table sight.now.tag.inode
+        (slots.child child) sight.now.way.upper.pointer sight.now.way.lower.tag }
 {
     let place = Place::UnderRecord {
         at: 9,

@@ -18,9 +18,11 @@ pub fn commit<D: Disk + Drop>(
     at: u32,
     used: bool,
 ) -> bool
-    requires { MayCommit (D.state core.old.disk) core.old.books evidence.now.core.value.books evidence.now.verdicts at used }
+    requires { MayCommit (D.state core.old.disk) core.old.books evidence.now.core.value.books
+        evidence.now.verdicts at used }
     ensures disk { core.new.disk ≡ core.old.disk }
-    ensures commits { Commits (D.state evidence.now.core.value.disk) evidence.now.core.value.books (D.state core.old.disk)
+    ensures commits { Commits (D.state evidence.now.core.value.disk) evidence.now.core.value.books
+        (D.state core.old.disk)
         core.old.books core.new.books evidence.now.kind (verdict_at evidence.now.verdicts at).item used result }
 {
     let item = evidence.verdicts.item(at);
@@ -36,7 +38,8 @@ fn settle(books: &mut Books, kind: ElementKind, item: u64, used: bool) -> bool
     requires blocks { length books.old.unknown_blocks ≡ books.old.at.blocks }
     requires free_blocks { length books.old.free_blocks ≡ books.old.at.blocks }
     requires small { books.old.at.inodes < 2 ^ 32 }
-    ensures { OffersVerdict books.old books.new (verdict_of kind books.old item) (learned kind books.old item) used result }
+    ensures { OffersVerdict books.old books.new (verdict_of kind books.old item)
+        (learned kind books.old item) used result }
 {
     match kind {
         ElementKind::Inode => books.settle_inode(item as u32, used),

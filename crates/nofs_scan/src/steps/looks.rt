@@ -18,8 +18,8 @@ use nofs_super::SuperBlock;
 use std::alloc::Global;
 use std::snapshot::Snapshot;
 
-/// Looks at 1 to 64 elements. It makes no entry, and no verdict changes: they are committed later, one by one. What it finds of
-/// inodes on the ways up, which are agreed and which are not, the books know from then on.
+/// Looks at 1 to 64 elements. It makes no entry, and no verdict changes: they are committed later, one by one. What it
+/// finds of inodes on the ways up, which are agreed and which are not, the books know from then on.
 ///
 /// # Errors
 ///

@@ -15,7 +15,8 @@ use nofs_state::Core;
 /// `Stopped`; `BadRange` where there is no such block; `ReadFault` where a read failed.
 pub fn see_block<D: Disk + Drop>(core: &mut Core<D>, block: u64) -> Result<bool, Refusal>
     requires { IsSafe (D.state core.old.disk) core.old.books }
-    ensures { Examines (D.state core.old.disk) core.old.books (D.state core.new.disk) core.new.books (step.SeeBlock block) result }
+    ensures { Examines (D.state core.old.disk) core.old.books (D.state core.new.disk) core.new.books
+        (step.SeeBlock block) result }
 {
     if core.books.stopped {
         return Err(Refusal::Stopped);
@@ -36,7 +37,8 @@ pub fn see_block<D: Disk + Drop>(core: &mut Core<D>, block: u64) -> Result<bool,
 /// `Stopped`; `BadRange` where there is no such inode; `ReadFault` where a read failed.
 pub fn see_inode<D: Disk + Drop>(core: &mut Core<D>, inode: u32) -> Result<bool, Refusal>
     requires { IsSafe (D.state core.old.disk) core.old.books }
-    ensures { Examines (D.state core.old.disk) core.old.books (D.state core.new.disk) core.new.books (step.SeeInode inode) result }
+    ensures { Examines (D.state core.old.disk) core.old.books (D.state core.new.disk) core.new.books
+        (step.SeeInode inode) result }
 {
     if core.books.stopped {
         return Err(Refusal::Stopped);

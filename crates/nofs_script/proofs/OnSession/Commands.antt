@@ -1,5 +1,6 @@
 -- What is read is a session: its commands are well formed, and its scripts are 1 to 8.
-use Rattle.std.proofs.Common.{◌≡◌, ℕ, zero, suc, ◌+◌, ◌<◌, ◌==◌, nat_lt, Bool, true, false, if◌then◌else◌, List, [], ◌∷◌, ◌++◌, length}
+use Rattle.std.proofs.Common.{◌≡◌, ℕ, zero, suc, ◌+◌, ◌<◌, ◌==◌, nat_lt, Bool, true, false, if◌then◌else◌, List, []}
+use Rattle.std.proofs.Common.{◌∷◌, ◌++◌, length}
 use Rattle.std.proofs.Common.{length-append, Option, None, Some, Result, Ok, Err, IfOk, arith, codes, refl, subst}
 use Rattle.std.specs.List.{AllByRecursion}
 use Rattle.std.specs.Str.{bytes_eq}
@@ -14,9 +15,11 @@ use Rattle.nofs_client.specs.Task.Commands.{HasName, IsWellFormed, has_last_name
 use Rattle.nofs_script.specs.declared.commands.Verb.{Verb}
 use Rattle.nofs_script.specs.declared.commands.Verb.TheVariants as verb
 use Rattle.nofs_script.specs.declared.faults.ScriptKind.{ScriptKind}
-use Rattle.nofs_script.specs.declared.faults.ScriptKind.TheVariants.{BadPath, BadHex, TooManyUsers, TooMuchAsked, TooManyCommands}
+use Rattle.nofs_script.specs.declared.faults.ScriptKind.TheVariants.{BadPath, BadHex, TooManyUsers, TooMuchAsked}
+use Rattle.nofs_script.specs.declared.faults.ScriptKind.TheVariants.{TooManyCommands}
 use Rattle.nofs_script.specs.declared.session.Reading.{Reading}
-use Rattle.nofs_script.specs.Grammar.{◌>>=◌, path_word, new_path_word, number_word, hex_word, hex_digits, one_word, two_words, three_words}
+use Rattle.nofs_script.specs.Grammar.{◌>>=◌, path_word, new_path_word, number_word, hex_word, hex_digits, one_word}
+use Rattle.nofs_script.specs.Grammar.{two_words, three_words}
 use Rattle.nofs_script.specs.Grammar.{command_of, verb_in}
 use Rattle.nofs_script.specs.Session.{with_command, asked_by, user_of, read_verb, read_words, read_line}
 use Rattle.nofs_script.specs.Session.{line_to_break, at_line, read_from, empty_reading}
@@ -24,7 +27,8 @@ use Rattle.nofs_script.specs.Session.{is_skipped, IsSession}
 use Rattle.nofs_script.specs.Words.{words_of, text_lines}
 
 -- what holds of a reading holds of the next one
-bind : {A B E : Type 0} (P : A → Type 0) (Q : B → Type 0) (r : Result A E) (f : A → Result B E) → IfOk r P → ((x : A) → P x → IfOk (f x) Q) → IfOk (r >>= f) Q
+bind : {A B E : Type 0} (P : A → Type 0) (Q : B → Type 0) (r : Result A E) (f : A → Result B E) → IfOk r P
+    → ((x : A) → P x → IfOk (f x) Q) → IfOk (r >>= f) Q
 bind P Q (Ok x) f p next = next x p
 bind P Q (Err e) f p next = tt
 
@@ -40,10 +44,12 @@ named (Names (name ∷ names)) e = omega arith
 
 new_path : (word : List ℕ) → IfOk (new_path_word word) HasName
 unfolding new_path_word
-new_path word = bind (λ _. Unit {0}) HasName (path_word word) _ (any (path_word word)) (λ path _. go path (has_last_name path) refl) where
-  go : (path : Path) (b : Bool) → has_last_name path ≡ b → IfOk {E = ScriptKind} (if b then Ok path else Err BadPath) HasName
-  go path true e = named path e
-  go path false e = tt
+new_path word = bind (λ _. Unit {0}) HasName (path_word word) _ (any (path_word word))
+    (λ path _. go path (has_last_name path) refl) where
+      go : (path : Path) (b : Bool)
+          → has_last_name path ≡ b → IfOk {E = ScriptKind} (if b then Ok path else Err BadPath) HasName
+      go path true e = named path e
+      go path false e = tt
 
 -- what is not zero is above it
 positive : (n : ℕ) → (n ≡ 0 → ⊥) → 0 < n
@@ -60,7 +66,8 @@ some_bytes word some = go (decode_of word) refl where
 some_hex : (word : List ℕ) → IfOk (hex_word word) (λ bytes. 0 < length bytes)
 unfolding hex_word
 some_hex word = go (length word == 0) refl where
-  go : (b : Bool) → (length word == 0) ≡ b → IfOk (if b then Err BadHex else hex_digits (decode_of word)) (λ bytes. 0 < length bytes)
+  go : (b : Bool) → (length word == 0) ≡ b
+      → IfOk (if b then Err BadHex else hex_digits (decode_of word)) (λ bytes. 0 < length bytes)
   go true e = tt
   go false e = some_bytes word (positive (length word) (eqb-false (length word) 0 e))
 
@@ -70,7 +77,8 @@ module _ {A : Type 0} (r : Result A ScriptKind) (f : A → Result Command Script
   free formed = bind (λ _. Unit {0}) IsWellFormed r f (any r) (λ x _. formed x)
 
 -- a command on a path that has a name
-on_new : (word : List ℕ) (f : Path → Result Command ScriptKind) → ((path : Path) → HasName path → IfOk (f path) IsWellFormed)
+on_new : (word : List ℕ) (f : Path → Result Command ScriptKind)
+    → ((path : Path) → HasName path → IfOk (f path) IsWellFormed)
     → IfOk (new_path_word word >>= f) IsWellFormed
 on_new word f formed = bind HasName IsWellFormed (new_path_word word) f (new_path word) formed
 
@@ -96,7 +104,8 @@ three : (v : Verb) (a b c : List ℕ) → IfOk (three_words v a b c) IsWellForme
 unfolding three_words
 three verb.Put a b c = free (path_word a) _ (λ path. free (number_word b) _ (λ offset.
     bind (λ bytes. 0 < length bytes) IsWellFormed (hex_word c) _ (some_hex c) (λ bytes some. some)))
-three verb.Get a b c = free (path_word a) _ (λ path. free (number_word b) _ (λ offset. free (number_word c) _ (λ len. tt)))
+three verb.Get a b c =
+    free (path_word a) _ (λ path. free (number_word b) _ (λ offset. free (number_word c) _ (λ len. tt)))
 three _ a b c = tt
 
 formed : (v : Verb) (args : List (List ℕ)) → IfOk (command_of v args) IsWellFormed
@@ -120,15 +129,18 @@ record Reads (r : Reading) : Type 0 where
 with_one : (r : Reading) (c : Command) → Reads r → IsWellFormed c → IfOk (with_command r c) Reads
 with_one r c reads well = go (nat_lt 67108864 (r.asked + asked_by c)) (nat_lt r.count 65536) where
   go : (a b : Bool) → IfOk {E = ScriptKind} (if a then Err TooMuchAsked else if b then Ok
-      (record { done = r.done; current = r.current ++ c ∷ []; count = r.count + 1; asked = r.asked + asked_by c }) else Err TooManyCommands) Reads
+      (record { done = r.done; current = r.current ++ c ∷ []; count = r.count + 1; asked = r.asked + asked_by c })
+      else Err TooManyCommands) Reads
   go true b = tt
-  go false true = record { done = reads.done; current = more IsWellFormed r.current c reads.current well; few = reads.few }
+  go false true =
+      record { done = reads.done; current = more IsWellFormed r.current c reads.current well; few = reads.few }
   go false false = tt
 
 next_script : (r : Reading) (args : List (List ℕ)) → Reads r → IfOk (user_of r args) Reads
 next_script r [] reads = go (nat_lt (length r.done + 1) MOST_USERS) refl where
   go : (b : Bool) → nat_lt (length r.done + 1) MOST_USERS ≡ b → IfOk {E = ScriptKind}
-      (if b then Ok (record { done = r.done ++ r.current ∷ []; current = []; count = r.count; asked = r.asked }) else Err TooManyUsers) Reads
+      (if b then Ok (record { done = r.done ++ r.current ∷ []; current = []; count = r.count; asked = r.asked })
+      else Err TooManyUsers) Reads
   go true e = record {
     done = more (AllByRecursion IsWellFormed) r.done r.current reads.done reads.current;
     current = tt;
@@ -139,7 +151,8 @@ next_script r (a ∷ args) reads = tt
 
 one_verb : (r : Reading) (v : Option Verb) (args : List (List ℕ)) → Reads r → IfOk (read_verb r v args) Reads
 one_verb r None args reads = tt
-one_verb r (Some v) args reads = bind IsWellFormed Reads (command_of v args) _ (formed v args) (λ c well. with_one r c reads well)
+one_verb r (Some v) args reads =
+    bind IsWellFormed Reads (command_of v args) _ (formed v args) (λ c well. with_one r c reads well)
 
 some_words : (r : Reading) (words : List (List ℕ)) → Reads r → IfOk (read_words r words) Reads
 some_words r [] reads = reads
@@ -167,7 +180,8 @@ all_lines n r (line ∷ rest) reads =
     (placed n (read_line r (line_to_break line rest)) (one_line r (line_to_break line rest) reads))
     (λ next reads_on. all_lines (n + 1) next rest reads_on)
 
-pub is_session : (text : List ℕ) (r : Reading) → read_from 1 empty_reading (text_lines text) ≡ Ok r → IsSession (r.done ++ r.current ∷ [])
+pub is_session : (text : List ℕ) (r : Reading) → read_from 1 empty_reading (text_lines text) ≡ Ok r
+    → IsSession (r.done ++ r.current ∷ [])
 is_session text r read =
     let first : Reads empty_reading = record { done = tt; current = tt; few = omega arith } in
     let reads : Reads r = subst (λ x. IfOk x Reads) read (all_lines 1 empty_reading (text_lines text) first) in

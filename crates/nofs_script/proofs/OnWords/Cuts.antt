@@ -1,5 +1,6 @@
 -- A text cut at the first byte of a kind.
-use Rattle.std.proofs.Common.{◌≡◌, ◌≢◌, ℕ, suc, ◌+◌, ◌==◌, false, List, [], ◌∷◌, ◌++◌, All, Some, take, drop, drop-cons, add-one, refl, sym, ap, ◌∙◌}
+use Rattle.std.proofs.Common.{◌≡◌, ◌≢◌, ℕ, suc, ◌+◌, ◌==◌, false, List, [], ◌∷◌, ◌++◌, All, Some, take, drop, drop-cons}
+use Rattle.std.proofs.Common.{add-one, refl, sym, ap, ◌∙◌}
 use Rattle.std.proofs.Common.{take-append-drop, eq-eqb, ne_eqb, slice_get}
 use Rattle.std.specs.List.{slice_split}
 use Rattle.std.proofs.lemmas.Option.{slice_get_within, get_or_from_slice_get}
@@ -28,6 +29,8 @@ first_part byte text end here none =
     let cut : drop end text ≡ byte ∷ after end text =
     drop-cons text end 0 within ∙ ap (λ b. b ∷ drop (suc end) text) (get_or_from_slice_get text end byte 0 here)
     ∙ ap (λ n. byte ∷ drop n text) (sym (add-one end)) in
-    let whole : take end text ++ (byte ∷ after end text) ≡ text = ap (λ l. take end text ++ l) (sym cut) ∙ take-append-drop end text in
+    let whole : take end text ++ (byte ∷ after end text) ≡ text = ap (λ l. take end text ++ l) (sym cut)
+    ∙ take-append-drop end text in
     ap (slice_split (λ other. other == byte)) (sym whole)
-    ∙ slice_split_at (λ other. other == byte) (take end text) byte (after end text) (not_this byte (take end text) none) (eq-eqb byte byte refl)
+    ∙ slice_split_at (λ other. other == byte) (take end text) byte (after end text) (not_this byte (take end text) none)
+    (eq-eqb byte byte refl)

@@ -1,5 +1,6 @@
 -- The words of a line, as a loop takes them off.
-use Rattle.std.proofs.Common.{◌≡◌, ℕ, ◌≤◌, ◌==◌, List, [], ◌∷◌, ◌++◌, Some, length, take, filter, sym, ap, ap₂, ◌∙◌, append_assoc, take_all, take_at, slice_get}
+use Rattle.std.proofs.Common.{◌≡◌, ℕ, ◌≤◌, ◌==◌, List, [], ◌∷◌, ◌++◌, Some, length, take, filter, sym, ap, ap₂, ◌∙◌}
+use Rattle.std.proofs.Common.{append_assoc, take_all, take_at, slice_get}
 use Rattle.std.proofs.lemmas.List.Elements.{filter-append}
 use Rattle.std.specs.List.{slice_split}
 use Rattle.nofs_script.specs.Words.{is_word, words_of}

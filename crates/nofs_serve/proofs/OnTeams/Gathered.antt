@@ -1,5 +1,6 @@
 -- Users that are taken apart one after another, the first one first.
-use Rattle.std.proofs.Common.{◌≡◌, ◌≢◌, ◌⊎◌, inl, inr, ℕ, ◌+◌, ◌<◌, ◌≤◌, Bool, true, false, ◌||◌, List, [], ◌∷◌, ◌++◌, length, map, drop, get_or, All, refl}
+use Rattle.std.proofs.Common.{◌≡◌, ◌≢◌, ◌⊎◌, inl, inr, ℕ, ◌+◌, ◌<◌, ◌≤◌, Bool, true, false, ◌||◌, List, [], ◌∷◌, ◌++◌}
+use Rattle.std.proofs.Common.{length, map, drop, get_or, All, refl}
 use Rattle.std.proofs.Common.{sym, ap, ◌∙◌, subst, arith, length-append}
 use Rattle.std.specs.List.{AllByRecursion}
 use Rattle.std.proofs.lemmas.List.Elements.{recursion_from_All, All-from_recursion}
@@ -46,52 +47,76 @@ module _ {W : Type 0} where
     stand-nil c all is = record { in_turn = is }
 
     -- one more at the end is the first user's
-    pub stand-more : (c d : ℕ) (script : List Command) (scripts : List (List Command)) (all front : List W) (w : W) → all ≡ front ++ w ∷ [] → d ≡ c + 1
+    pub stand-more : (c d : ℕ) (script : List Command) (scripts : List (List Command)) (all front : List W) (w : W)
+        → all ≡ front ++ w ∷ [] → d ≡ c + 1
         → P c script w → Stand P d scripts front → Stand P c (script ∷ scripts) all
-    stand-more c d script scripts all front w is next p s = record { in_turn = (front, w, is, p, subst (λ k. StandInTurn P k scripts front) next s.in_turn) }
+    stand-more c d script scripts all front w is next p s =
+        record { in_turn = (front, w, is, p, subst (λ k. StandInTurn P k scripts front) next s.in_turn) }
 
     -- the last worker is the first user's
-    pub stand-pop : (c : ℕ) (scripts : List (List Command)) (all front : List W) (w : W) → all ≡ front ++ w ∷ [] → Stand P c scripts all
-        → (script : List Command) × (rest : List (List Command)) × (scripts ≡ script ∷ rest) × P c script w × Stand P (c + 1) rest front
-    stand-pop c [] all front w is s = absurd (let n = ap length (sym is ∙ s.in_turn) in omega (arith, n, length-append front (w ∷ [])))
+    pub stand-pop : (c : ℕ) (scripts : List (List Command)) (all front : List W) (w : W)
+        → all ≡ front ++ w ∷ [] → Stand P c scripts all
+        → (script : List Command) × (rest : List (List Command)) × (scripts ≡ script ∷ rest) × P c script w
+        × Stand P (c + 1) rest front
+    stand-pop c [] all front w is s =
+        absurd (let n = ap length (sym is ∙ s.in_turn) in omega (arith, n, length-append front (w ∷ [])))
     stand-pop c (script ∷ rest) all front w is s =
         let t = s.in_turn in
-        let same = same-last front t.0 w t.1 (sym is ∙ t.2) in
-        (script, rest, refl, subst (P c script) (sym same.1) t.3, record { in_turn = subst (StandInTurn P (c + 1) rest) (sym same.0) t.4 })
+        let same = same-last front t.0 w t.1 (sym is ∙ t.2) in (
+          script,
+          rest,
+          refl,
+          subst (P c script) (sym same.1) t.3,
+          record { in_turn = subst (StandInTurn P (c + 1) rest) (sym same.0) t.4 },
+        )
 
-    pub stand-none : (c : ℕ) (scripts : List (List Command)) (all : List W) → all ≡ [] → Stand P c scripts all → scripts ≡ []
+    pub stand-none : (c : ℕ) (scripts : List (List Command)) (all : List W)
+        → all ≡ [] → Stand P c scripts all → scripts ≡ []
     stand-none c [] all is s = refl
-    stand-none c (script ∷ rest) all is s = absurd (let t = s.in_turn in let n = ap length (sym is ∙ t.2) in omega (arith, n, length-append t.0 (t.1 ∷ [])))
+    stand-none c (script ∷ rest) all is s =
+        absurd (let t = s.in_turn in let n = ap length (sym is ∙ t.2) in omega (arith, n, length-append t.0 (t.1 ∷ [])))
 
-    pub stand-at : (c d : ℕ) (scripts : List (List Command)) (all : List W) → c ≡ d → Stand P c scripts all → Stand P d scripts all
+    pub stand-at : (c d : ℕ) (scripts : List (List Command)) (all : List W) → c ≡ d → Stand P c scripts all
+        → Stand P d scripts all
     stand-at c d scripts all is s = subst (λ k. Stand P k scripts all) is s
 
-    pub stand-of : (c : ℕ) (scripts others : List (List Command)) (all : List W) → scripts ≡ others → Stand P c scripts all → Stand P c others all
+    pub stand-of : (c : ℕ) (scripts others : List (List Command)) (all : List W)
+        → scripts ≡ others → Stand P c scripts all → Stand P c others all
     stand-of c scripts others all is s = subst (λ l. Stand P c l all) is s
 
 module _ (by : ℕ → List Made) where
-  pub begun-snoc : (c d : ℕ) (done : List (List Command)) (s : List Command) (said : List Line) → d ≡ c + length done → UsersBegun c done by
+  pub begun-snoc : (c d : ℕ) (done : List (List Command)) (s : List Command) (said : List Line) → d ≡ c + length done
+      → UsersBegun c done by
       → IsPartlyDriven s (by d) said → UsersBegun c (done ++ s ∷ []) by
-  begun-snoc c d [] s said is b p = let e : d ≡ c = omega (arith, is) in ((said, subst (λ k. IsPartlyDriven s (by k) said) e p), tt)
+  begun-snoc c d [] s said is b p = let e : d ≡ c = omega (arith, is) in
+      ((said, subst (λ k. IsPartlyDriven s (by k) said) e p), tt)
   begun-snoc c d (x ∷ done) s said is b p = (b.0, begun-snoc (c + 1) d done s said (omega (arith, is)) b.1 p)
 
-  pub served-snoc : (c d : ℕ) (done : List (List Command)) (lines : List (List Line)) (s : List Command) (said : List Line) → d ≡ c + length done
+  pub served-snoc : (c d : ℕ) (done : List (List Command)) (lines : List (List Line)) (s : List Command)
+      (said : List Line) → d ≡ c + length done
       → UsersServed c done lines by → IsDriven s (by d) said → UsersServed c (done ++ s ∷ []) (lines ++ said ∷ []) by
   served-snoc c d [] lines s said is b p =
       let e : d ≡ c = omega (arith, is) in
       (said, [], ap (λ l. l ++ said ∷ []) b, subst (λ k. IsDriven s (by k) said) e p, refl)
-  served-snoc c d (x ∷ done) lines s said is b p =
-      (b.0, b.1 ++ said ∷ [], ap (λ l. l ++ said ∷ []) b.2, b.3, served-snoc (c + 1) d done b.1 s said (omega (arith, is)) b.4 p)
+  served-snoc c d (x ∷ done) lines s said is b p = (
+    b.0,
+    b.1 ++ said ∷ [],
+    ap (λ l. l ++ said ∷ []) b.2,
+    b.3,
+    served-snoc (c + 1) d done b.1 s said (omega (arith, is)) b.4 p,
+  )
 
 module _ (by now : ℕ → List Made) where
-  pub begun-same : (c : ℕ) (done : List (List Command)) → ((d : ℕ) → c ≤ d → d < c + length done → now d ≡ by d) → UsersBegun c done by → UsersBegun c done now
+  pub begun-same : (c : ℕ) (done : List (List Command)) → ((d : ℕ) → c ≤ d → d < c + length done → now d ≡ by d)
+      → UsersBegun c done by → UsersBegun c done now
   begun-same c [] same b = tt
   begun-same c (s ∷ done) same b = (
     (b.0.0, subst (λ (m : List Made). IsPartlyDriven s m b.0.0) (sym (same c (omega arith) (omega arith))) b.0.1),
     begun-same (c + 1) done (λ d low high. same d (omega (arith, low)) (omega (arith, high))) b.1,
   )
 
-  pub served-same : (c : ℕ) (done : List (List Command)) (lines : List (List Line)) → ((d : ℕ) → c ≤ d → d < c + length done → now d ≡ by d)
+  pub served-same : (c : ℕ) (done : List (List Command)) (lines : List (List Line))
+      → ((d : ℕ) → c ≤ d → d < c + length done → now d ≡ by d)
       → UsersServed c done lines by → UsersServed c done lines now
   served-same c [] lines same b = b
   served-same c (s ∷ done) lines same b = (
@@ -116,7 +141,8 @@ module _ {F : Type 0} where
   users-none was v = record { begun = tt; served = λ e. refl; was_short = λ e. e; others = λ c none. refl }
 
   -- one more
-  pub users-more : (done : List (List Command)) (was short out : Bool) (lines : List (List Line)) (said : List Line) (s : List Command) (c : ℕ)
+  pub users-more : (done : List (List Command)) (was short out : Bool) (lines : List (List Line)) (said : List Line)
+      (s : List Command) (c : ℕ)
       (v u w x : View Entry1 F)
       → UsersGathered done was short lines v u → JoinsOwn c u w x → c ≡ 1 + length done → made_by c v ≡ []
       → IsPartlyDriven s (own_steps w.mine) said → (out ≡ false → IsDriven s (own_steps w.mine) said)
@@ -125,13 +151,16 @@ module _ {F : Type 0} where
       let none_yet : made_by c u ≡ [] = g.others c (inr (omega (arith, is))) ∙ none in
       let own : made_by c x ≡ own_steps w.mine = joins-own c u w x j none_yet in
       let same : (d : ℕ) → d ≢ c → made_by d x ≡ made_by d u = λ d apart. joins-other c d u w x j apart in
-      let before : (d : ℕ) → 1 ≤ d → d < 1 + length done → made_by d x ≡ made_by d u = λ d low high. same d (λ e. absurd (omega (arith, is, high, e))) in
+      let before : (d : ℕ) → 1 ≤ d → d < 1 + length done → made_by d x ≡ made_by d u =
+      λ d low high. same d (λ e. absurd (omega (arith, is, high, e))) in
       record {
-        begun = begun-snoc (λ d. made_by d x) 1 c done s said is (begun-same (λ d. made_by d u) (λ d. made_by d x) 1 done before g.begun)
+        begun = begun-snoc (λ d. made_by d x) 1 c done s said is
+            (begun-same (λ d. made_by d u) (λ d. made_by d x) 1 done before g.begun)
             (subst (λ (m : List Made). IsPartlyDriven s m said) (sym own) some);
         served = λ e.
             (let p = neither short out e in
-            served-snoc (λ d. made_by d x) 1 c done lines s said is (served-same (λ d. made_by d u) (λ d. made_by d x) 1 done lines before (g.served p.0))
+            served-snoc (λ d. made_by d x) 1 c done lines s said is
+            (served-same (λ d. made_by d u) (λ d. made_by d x) 1 done lines before (g.served p.0))
             (subst (λ (m : List Made). IsDriven s m said) (sym own) (all p.1)));
         was_short = λ e. (let p = neither short out e in g.was_short p.0);
         others = λ d nobody. same d (beyond d nobody) ∙ g.others d (older d nobody);
@@ -146,24 +175,32 @@ module _ {F : Type 0} where
       older d (inr e) = inr (omega (arith, e, length-append done (s ∷ [])))
 
   -- one user is taken apart: w is what its pass knows, and `own` what its worker's pass knew
-  pub gather-step : (done : List (List Command)) (was short out gone next : Bool) (lines lines2 : List (List Line)) (said told : List Line)
+  pub gather-step : (done : List (List Command)) (was short out gone next : Bool) (lines lines2 : List (List Line))
+      (said told : List Line)
       (s : List Command) (c k count : ℕ) (v b u w own x : View Entry1 F)
-      → v.stands ≡ 1 → Gathers v u (count + length done) → UsersGathered done was short lines b u → JoinsOwn k u w x → k ≡ c → c ≡ 1 + length done
+      → v.stands ≡ 1 → Gathers v u (count + length done) → UsersGathered done was short lines b u → JoinsOwn k u w x
+      → k ≡ c → c ≡ 1 + length done
       → made_by c b ≡ []
       → w ≡ own → said ≡ told → out ≡ gone → next ≡ (short || out) → lines2 ≡ lines ++ said ∷ []
-      → SameSeat v own → IsPartlyDriven s (own_steps own.mine) told → (gone ≡ false → IsDriven s (own_steps own.mine) told)
+      → SameSeat v own → IsPartlyDriven s (own_steps own.mine) told
+      → (gone ≡ false → IsDriven s (own_steps own.mine) told)
       → Gathers v x (count + length (done ++ s ∷ [])) × UsersGathered (done ++ s ∷ []) was next lines2 b x
-  gather-step done was short out gone next lines lines2 said told s c k count v b u w own x one g ug j caller is none same_view same_lines same_out next_is
+  gather-step done was short out gone next lines lines2 said told s c k count v b u w own x one g ug j caller is none
+      same_view same_lines same_out next_is
       lines_are same some all =
       let j' : JoinsOwn c u w x = subst (λ n. JoinsOwn n u w x) caller j in
       let seat : SameSeat v w = subst (λ (z : View Entry1 F). SameSeat v z) (sym same_view) same in
       let some' : IsPartlyDriven s (own_steps w.mine) said =
-      subst (λ (q : View Entry1 F × List Line). IsPartlyDriven s (own_steps q.0.mine) q.1) (λ i. (sym same_view i, sym same_lines i)) some in
+      subst (λ (q : View Entry1 F × List Line). IsPartlyDriven s (own_steps q.0.mine) q.1)
+      (λ i. (sym same_view i, sym same_lines i)) some in
       let all' : out ≡ false → IsDriven s (own_steps w.mine) said =
-      λ e. subst (λ (q : View Entry1 F × List Line). IsDriven s (own_steps q.0.mine) q.1) (λ i. (sym same_view i, sym same_lines i))
+      λ e. subst (λ (q : View Entry1 F × List Line). IsDriven s (own_steps q.0.mine) q.1)
+      (λ i. (sym same_view i, sym same_lines i))
       (all (sym same_out ∙ e)) in
-      let long : count + length done + 1 ≡ count + length (done ++ s ∷ []) = omega (arith, length-append done (s ∷ [])) in (
+      let long : count + length done + 1 ≡ count + length (done ++ s ∷ []) =
+      omega (arith, length-append done (s ∷ [])) in (
         subst (λ n. Gathers v x n) long (gathers-more c (count + length done) v u w x one g j' seat),
-        subst (λ (q : Bool × List (List Line)). UsersGathered (done ++ s ∷ []) was q.0 q.1 b x) (λ i. (sym next_is i, sym lines_are i))
+        subst (λ (q : Bool × List (List Line)). UsersGathered (done ++ s ∷ []) was q.0 q.1 b x)
+            (λ i. (sym next_is i, sym lines_are i))
             (users-more done was short out lines said s c b u w x ug j' is none some' all'),
       )

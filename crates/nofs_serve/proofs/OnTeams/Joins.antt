@@ -1,5 +1,6 @@
 -- Passes that are joined: what each caller made.
-use Rattle.std.proofs.Common.{◌≡◌, ◌≢◌, ℕ, ◌+◌, Bool, true, false, cond, List, [], ◌∷◌, length, ltb, refl, sym, ap, ◌∙◌, subst, arith}
+use Rattle.std.proofs.Common.{◌≡◌, ◌≢◌, ℕ, ◌+◌, Bool, true, false, cond, List, [], ◌∷◌, length, ltb, refl, sym, ap, ◌∙◌}
+use Rattle.std.proofs.Common.{subst, arith}
 use mathlib.Core.List.{IsPrefix}
 use Rattle.nofs_turn.specs.declared.rule.view.View.{View}
 use Rattle.nofs_turn.specs.Lists.{chosen}
@@ -31,7 +32,8 @@ module _ {F : Type 0} where
   pub joins-own : (c : ℕ) (v w u : View Entry1 F) → JoinsOwn c v w u → made_by c v ≡ [] → made_by c u ≡ own_steps w.mine
   joins-own c v w u j none =
       ap (λ (z : View Entry1 F). made_by c z) j.now
-      ∙ ap own_steps (joined_own (is_by c) v.mine w.mine j.rising j.rising_own (none_chosen (chosen (is_by c) v.mine) none) ∙ chosen_by c w.mine j.own)
+      ∙ ap own_steps (joined_own (is_by c) v.mine w.mine j.rising j.rising_own
+      (none_chosen (chosen (is_by c) v.mine) none) ∙ chosen_by c w.mine j.own)
 
   pub joins-other : (c d : ℕ) (v w u : View Entry1 F) → JoinsOwn c v w u → d ≢ c → made_by d u ≡ made_by d v
   joins-other c d v w u j apart =
@@ -49,12 +51,14 @@ module _ {F : Type 0} where
   }
 
   -- one more
-  pub gathers-more : (c n : ℕ) (v u w x : View Entry1 F) → v.stands ≡ 1 → Gathers v u n → JoinsOwn c u w x → SameSeat v w → Gathers v x (n + 1)
+  pub gathers-more : (c n : ℕ) (v u w x : View Entry1 F) → v.stands ≡ 1 → Gathers v u n → JoinsOwn c u w x
+      → SameSeat v w → Gathers v x (n + 1)
   gathers-more c n v u w x one g j same = record {
     fixed = ap (λ (z : View Entry1 F). z.fixed) j.now ∙ g.fixed;
     start = ap (λ (z : View Entry1 F). z.start) j.now ∙ g.start;
     seats = ap (λ (z : View Entry1 F). z.seats) j.now ∙ g.seats;
-    stands = (let s = ap (λ (z : View Entry1 F). z.stands) j.now in let a = g.stands in let b = same.stands in omega (arith, s, a, b, one));
+    stands = (let s = ap (λ (z : View Entry1 F). z.stands) j.now in let a = g.stands in let b = same.stands in
+        omega (arith, s, a, b, one));
     seen = subst (λ l. IsPrefix v.seen l) (sym (ap (λ (z : View Entry1 F). z.seen) j.now))
         (longer-begins v.seen u.seen w.seen g.seen same.seen (ltb (length u.seen) (length w.seen)));
   }

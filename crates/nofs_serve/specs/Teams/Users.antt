@@ -11,9 +11,11 @@ module _ {W : Type 0} where
   -- the workers of the users from caller c on, the first user's last
   abbrev pub StandInTurn : (ℕ → List Command → W → Type 0) → ℕ → List (List Command) → List W → Type 0
   StandInTurn P c [] ws = ws ≡ []
-  StandInTurn P c (script ∷ scripts) ws = (front : List W) × (w : W) × (ws ≡ front ++ w ∷ []) × P c script w × StandInTurn P (c + 1) scripts front
+  StandInTurn P c (script ∷ scripts) ws = (front : List W) × (w : W) × (ws ≡ front ++ w ∷ []) × P c script w
+      × StandInTurn P (c + 1) scripts front
 
-  pub record Stand (P : ℕ → List Command → W → Type 0) (c : ℕ) (scripts : List (List Command)) (ws : List W) : Type 0 where
+  pub record Stand (P : ℕ → List Command → W → Type 0) (c : ℕ) (scripts : List (List Command))
+      (ws : List W) : Type 0 where
     pub in_turn : StandInTurn P c scripts ws
 
 module _ {S T : Type 0} where
@@ -24,7 +26,8 @@ module _ {S T : Type 0} where
     pub no_lines : w.lines ≡ []
 
   -- a user that has made the steps of its commands, and where memory was wanting those of the first of them
-  pub record HasRun (Back : ℕ → S → Type 0) (made : S → List Made) (c : ℕ) (script : List Command) (w : UserWorker S T) : Type 0 where
+  pub record HasRun (Back : ℕ → S → Type 0) (made : S → List Made) (c : ℕ) (script : List Command)
+      (w : UserWorker S T) : Type 0 where
     pub back : Back c (steps_in w)
     pub some : IsPartlyDriven script (made (steps_in w)) w.lines
     pub all : w.out_of_memory ≡ false → IsDriven script (made (steps_in w)) w.lines
@@ -32,10 +35,12 @@ module _ {S T : Type 0} where
 -- the first commands of each user from caller c on were run, by the steps that each caller made
 abbrev pub UsersBegun : ℕ → List (List Command) → (ℕ → List Made) → Type 0
 UsersBegun c [] by = Unit {0}
-UsersBegun c (script ∷ scripts) by = ((lines : List Line) × IsPartlyDriven script (by c) lines) × UsersBegun (c + 1) scripts by
+UsersBegun c (script ∷ scripts) by = ((lines : List Line) × IsPartlyDriven script (by c) lines)
+    × UsersBegun (c + 1) scripts by
 
 -- each user's commands were all run, to these lines
 abbrev pub UsersServed : ℕ → List (List Command) → List (List Line) → (ℕ → List Made) → Type 0
 UsersServed c [] lines by = lines ≡ []
 UsersServed c (script ∷ scripts) lines by =
-    (said : List Line) × (others : List (List Line)) × (lines ≡ said ∷ others) × IsDriven script (by c) said × UsersServed (c + 1) scripts others by
+    (said : List Line) × (others : List (List Line)) × (lines ≡ said ∷ others) × IsDriven script (by c) said
+    × UsersServed (c + 1) scripts others by

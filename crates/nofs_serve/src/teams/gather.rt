@@ -64,7 +64,8 @@ pub(crate) fn gather_users<R: Wait, V: Serves, T: Gate + Drop>(
         → Stand (HasRun (λ c way. (way.caller ≡ c) × SameSeat v (view_of way.pass))
         (λ way. own_steps (view_of way.pass).mine)) 1 scripts users.entry.items
         → Gathers v (view_of result.pass) (count + length scripts)
-        × UsersGathered scripts begun.out_of_memory result.out_of_memory result.lines.items (view_of begun.pass) (view_of result.pass) }
+        × UsersGathered scripts begun.out_of_memory result.out_of_memory result.lines.items (view_of begun.pass)
+        (view_of result.pass) }
 {
     let (mut users, mut whole) = (users, begun);
     while let Some(user) = users.pop() {

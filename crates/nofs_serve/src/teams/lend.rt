@@ -49,7 +49,8 @@ pub(crate) fn work_team<
     );
 }
 
-/// Lends both sweepers and the flusher to threads at once, while a visitor works on this one. Each has then done its work once.
+/// Lends both sweepers and the flusher to threads at once, while a visitor works on this one. Each has then done its
+/// work once.
 pub(crate) fn work_beside<
     R: Threads + Sync,
     I: Works + Send,
@@ -70,7 +71,8 @@ pub(crate) fn work_beside<
         &mut || work_three(rt, inodes, blocks, flusher),
         &mut ||
             requires { G.is_ready visitor.now }
-            ensures { G.visited visitor.entry.now visitor.exit.now (S.made steps.entry.now) (S.made steps.exit.now) × S.goes steps.entry.now steps.exit.now }
+            ensures { G.visited visitor.entry.now visitor.exit.now (S.made steps.entry.now) (S.made steps.exit.now)
+                × S.goes steps.entry.now steps.exit.now }
         { visitor.visit(steps) },
     );
 }

@@ -1,7 +1,7 @@
 //! A team over one mount: a worker for each user, the two sweepers, and the flusher.
 //!
-//! Promise: each worker has a caller of its own. Users are `FIRST_USER` and up, in their order; the sweeper of the inodes
-//! is `INODE_SWEEPER`, that of the blocks `BLOCK_SWEEPER`, and the flusher, which makes no step, `FLUSHER`.
+//! Promise: each worker has a caller of its own. Users are `FIRST_USER` and up, in their order; the sweeper of the
+//! inodes is `INODE_SWEEPER`, that of the blocks `BLOCK_SWEEPER`, and the flusher, which makes no step, `FLUSHER`.
 ghost use Rattle.std.specs.Prelude.{◌≡◌, ◌+◌, ◌<◌, ◌≤◌, ◌^◌, [], All, map, vec_len, vec_capacity};
 ghost use Rattle.nofs_turn.specs.declared.rule.view.View.{View};
 ghost use Rattle.nofs_turn.specs.Turn.{view_of, IsPassOf};
@@ -63,7 +63,8 @@ pub(crate) fn seat<'a, R, V: Serves>(
     ensures way { (result.turn.now ≡ shared.now.turn) × (result.caller ≡ caller) }
     ensures seen { (v : View Entry1 V.Fixed) → All (λ p. view_of p ≡ v) passes.old.items
         → (view_of result.pass ≡ v) × All (λ p. view_of p ≡ v) passes.new.items }
-    ensures rest { (vec_len passes.new + 1 ≡ vec_len passes.old) × All (λ p. IsPassOf shared.now.turn p × ((view_of p).mine ≡ [])) passes.new.items }
+    ensures rest { (vec_len passes.new + 1 ≡ vec_len passes.old)
+        × All (λ p. IsPassOf shared.now.turn p × ((view_of p).mine ≡ [])) passes.new.items }
 {
     let Some(pass) = passes.pop() else {
         unreachable!()
@@ -82,7 +83,8 @@ fn seat_users<'a, R: Wait, V: Serves, T: Gate + Drop>(
 ) -> Vec<UserWorker<SharedPass<'a, R, V>, T>>
     requires few { vec_len plans ≤ MOST_USERS }
     requires formed { All (λ p. AreWellFormed p.commands) plans.items }
-    requires passes { (vec_len plans ≤ vec_len passes.old) × All (λ p. IsPassOf shared.now.turn p × ((view_of p).mine ≡ [])) passes.old.items }
+    requires passes { (vec_len plans ≤ vec_len passes.old)
+        × All (λ p. IsPassOf shared.now.turn p × ((view_of p).mine ≡ [])) passes.old.items }
     requires room { (room.items ≡ []) × (vec_len plans ≤ vec_capacity room) }
     ensures len { vec_len result ≡ vec_len plans }
     ensures ways { All (λ w. w.client.steps.steps.turn.now ≡ shared.now.turn) result.items }
@@ -122,7 +124,8 @@ where
     requires few { vec_len plans ≤ MOST_USERS }
     requires formed { All (λ p. AreWellFormed p.commands) plans.items }
     requires small { sweeps.inodes < 2 ^ 32 }
-    requires passes { (vec_len plans + 3 ≡ vec_len passes) × All (λ p. IsPassOf shared.now.turn p × ((view_of p).mine ≡ [])) passes.items }
+    requires passes { (vec_len plans + 3 ≡ vec_len passes)
+        × All (λ p. IsPassOf shared.now.turn p × ((view_of p).mine ≡ [])) passes.items }
     requires users { (room.users.items ≡ []) × (vec_len plans ≤ vec_capacity room.users) }
     requires lines { (room.lines.items ≡ []) × (vec_len plans ≤ vec_capacity room.lines) }
     ensures of { IsPassOf shared.now.turn result.pass }

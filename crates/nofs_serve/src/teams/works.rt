@@ -61,7 +61,8 @@ impl<S: Batches, O: Course, T: Gate> Works for InodeSweeper<S, O, T> {
     ghost use Rattle.nofs_workers.specs.Sweep.{Sweeps};
 
     ghost worked = { λ old new. (new.inodes ≡ old.inodes)
-        × Sweeps (O.has_item old.inodes.order) Inode 0 (O.count_of old.inodes.order) new.out_of_memory (S.made old.steps) (S.made new.steps)
+        × Sweeps (O.has_item old.inodes.order) Inode 0 (O.count_of old.inodes.order) new.out_of_memory
+        (S.made old.steps) (S.made new.steps)
         × S.goes old.steps new.steps };
 
     fn work(&mut self) {
@@ -75,7 +76,8 @@ impl<S: Batches, O: Course, T: Gate> Works for BlockSweeper<S, O, T> {
     ghost use Rattle.nofs_workers.specs.Sweep.{Sweeps};
 
     ghost worked = { λ old new. (new.order ≡ old.order)
-        × Sweeps (O.has_item old.order) Block 0 (O.count_of old.order) new.out_of_memory (S.made old.steps) (S.made new.steps)
+        × Sweeps (O.has_item old.order) Block 0 (O.count_of old.order) new.out_of_memory (S.made old.steps)
+        (S.made new.steps)
         × S.goes old.steps new.steps };
 
     fn work(&mut self) {

@@ -1,5 +1,6 @@
 -- The memory for entries, and what of it is kept for the sweeps.
-use Rattle.std.proofs.Common.{◌≡◌, ℕ, ◌+◌, ◌-◌, ◌^◌, ◌<◌, ◌≤◌, ◌==◌, Bool, true, false, ◌&&◌, ◌||◌, List, length, Some, arith}
+use Rattle.std.proofs.Common.{◌≡◌, ℕ, ◌+◌, ◌-◌, ◌^◌, ◌<◌, ◌≤◌, ◌==◌, Bool, true, false, ◌&&◌, ◌||◌, List, length, Some}
+use Rattle.std.proofs.Common.{arith}
 use Rattle.nofs_disk.specs.Disk.{DiskState}
 use Rattle.nofs_history.specs.declared.machine.callers.TheConstants.{BLOCK_SWEEPER, INODE_SWEEPER}
 use Rattle.nofs_history.specs.Steps.{is_out_of_memory}
@@ -22,7 +23,8 @@ sweep-sees c s e = second ((c == INODE_SWEEPER) || (c == BLOCK_SWEEPER)) (is_see
     second false b h = cc
 
 -- one entry more, and one fewer that is kept
-pub few-left : (c : ℕ) (s : Step) (r : Reply) (H K : List Entry1) (left : ℕ) → AddsStep c s r H K → length H + left < 2 ^ 62 → length K + left ≤ 2 ^ 62
+pub few-left : (c : ℕ) (s : Step) (r : Reply) (H K : List Entry1) (left : ℕ) → AddsStep c s r H K
+    → length H + left < 2 ^ 62 → length K + left ≤ 2 ^ 62
 few-left c s r H K left a few = let one = adds-one c s r H K a in omega (arith, one, few)
 
 -- want of memory settles nothing
@@ -34,8 +36,10 @@ settles-memory _ d = tt
 pub adds-none : (c : ℕ) (s : Step) (H K : List Entry1) → K ≡ H → AddsStep c s (reply.Refused refusal.OutOfMemory) H K
 adds-none c s H K same = record { none = λ e. same; one = λ e. absurd (cc) }
 
-pub sweep-served : (c : ℕ) (s : Step) (r : Reply) (kept left : ℕ) → (is_of_sweep c s ≡ true → 0 < kept → Some left ≡ Some (kept - 1))
-    → (is_see s ≡ true → is_out_of_memory r ≡ false) → is_of_sweep c s ≡ true → 0 < kept → (is_out_of_memory r ≡ false) × (left ≡ kept - 1)
+pub sweep-served : (c : ℕ) (s : Step) (r : Reply) (kept left : ℕ)
+    → (is_of_sweep c s ≡ true → 0 < kept → Some left ≡ Some (kept - 1))
+    → (is_see s ≡ true → is_out_of_memory r ≡ false)
+    → is_of_sweep c s ≡ true → 0 < kept → (is_out_of_memory r ≡ false) × (left ≡ kept - 1)
 sweep-served c s r kept left takes sees e some = (sees (sweep-sees c s e), some-is left (kept - 1) (takes e some))
   where
     some-is : (a b : ℕ) → Some a ≡ Some b → a ≡ b

@@ -26,11 +26,13 @@ second-again X Y Z (inr up) (inr s) = let a = up.0.after in let b = s.upgraded.b
 
 -- a disk that holds one image
 one-image : (d : DiskState) → IsDisk d → IsTrue d.tells → IsSettled d → (Y : Image) → Picks d.may d.blocks Y → Y ≡ d.now
-one-image d is tells settled Y p = ext_get_or no_cell Y d.now (p.len ∙ sym (is.whole tells)) (λ b low. let l = p.len in let here : b < d.blocks =
+one-image d is tells settled Y p =
+    ext_get_or no_cell Y d.now (p.len ∙ sym (is.whole tells)) (λ b low. let l = p.len in let here : b < d.blocks =
     omega (arith, low, l) in settled b (cell_at Y b) here (p.each b here))
 
 -- an image of an upgrade
-of-upgrade : (old new : DiskState) → StaysOrUpgrades old new → (X : Image) → IsOfUpgrade old new X → IsFoundOrSecond old X
+of-upgrade : (old new : DiskState) → StaysOrUpgrades old new → (X : Image) → IsOfUpgrade old new X
+    → IsFoundOrSecond old X
 of-upgrade old new s X (inl p) = s.picks X p
 of-upgrade old new s X (inr (m, from, to, left)) = s.moments.each m X from to left
 
@@ -43,7 +45,8 @@ module _ {D : Type 0} (state : D → DiskState) (is : (d : D) → IsDisk (state 
   )
 
   pub kept-after : LawKeptAfter state
-  kept-after k old new after same cells Y p = after Y (subst₂ (λ (may : ℕ → List Cell) (n : ℕ). Picks may n Y) cells.may same.blocks p)
+  kept-after k old new after same cells Y p =
+      after Y (subst₂ (λ (may : ℕ → List Cell) (n : ℕ). Picks may n Y) cells.may same.blocks p)
 
   pub upgraded-after : LawUpgradedAfter state
   upgraded-after k old new d after s holds Y p =

@@ -2,7 +2,8 @@
 use Rattle.std.proofs.Math.Logic.{∥∥₁_elim, ∥∥₁_map, ∥∥₁_prop}
 use mathlib.Core.HLevel.{×_prop, Unit-prop, Π_prop, ¬_prop}
 use native.Mathlib.Bridge.{le_prop}
-use Rattle.std.proofs.Common.{◌≡◌, ◌≢◌, ℕ, suc, ◌+◌, ◌<◌, ◌≤◌, true, inl, inr, List, [], ◌∷◌, ◌++◌, append-nil, length, get_or, Contains, refl, sym, ap, ◌∙◌}
+use Rattle.std.proofs.Common.{◌≡◌, ◌≢◌, ℕ, suc, ◌+◌, ◌<◌, ◌≤◌, true, inl, inr, List, [], ◌∷◌, ◌++◌, append-nil, length}
+use Rattle.std.proofs.Common.{get_or, Contains, refl, sym, ap, ◌∙◌}
 use Rattle.std.proofs.Common.{subst, arith}
 use Rattle.std.proofs.lemmas.Bool.{cases_lt}
 use Rattle.nofs_disk.specs.Disk.{DiskState, IsDisk, Picks}
@@ -13,7 +14,8 @@ use Rattle.nofs_model.specs.declared.image.value.Value.TheVariants.{Bytes}
 use Rattle.nofs_history.specs.History.{agreed_files, values_given}
 use Rattle.nofs_history.specs.World.{World, world_of}
 use Rattle.nofs_history.specs.declared.machine.history.Entry1.{Entry1}
-use Rattle.nofs_crashlaw.specs.Lives.{GivenIn, IsLife, IsNew, Life, Lives, Raised, Rising, SameOrUpgraded, claimed_by, claimed_in}
+use Rattle.nofs_crashlaw.specs.Lives.{GivenIn, IsLife, IsNew, Life, Lives, Raised, Rising, SameOrUpgraded, claimed_by}
+use Rattle.nofs_crashlaw.specs.Lives.{claimed_in}
 use Rattle.nofs_crashlaw.proofs.OnLives.Begin.{law-given}
 use Rattle.nofs_crashlaw.proofs.OnLives.Numbers.{law-once}
 use Rattle.nofs_crashlaw.proofs.OnLives.OnlySuper.{same-inode}
@@ -26,15 +28,21 @@ use Rattle.nofs_shared.proofs.OnLaws.After.{upgrade-again, upgraded-of}
 use Rattle.nofs_shared.proofs.OnLaws.OneMount.{Says, base-raised, found-picks, is-allowed, is-life, of-raise, says}
 
 -- a blank image with its number raised is the base of a first life
-no-pointer : (X Y : Image) → inode Y ≡ inode X → IsBlank X → (i n : ℕ) → n < 10 → is_null (record_pointer (inode Y i) n) ≡ true
-no-pointer X Y e blank i n lt = subst (λ (f : ℕ → Record). is_null (record_pointer (f i) n) ≡ true) (sym e) (blank.empty i n lt)
+no-pointer : (X Y : Image) → inode Y ≡ inode X → IsBlank X
+    → (i n : ℕ) → n < 10 → is_null (record_pointer (inode Y i) n) ≡ true
+no-pointer X Y e blank i n lt =
+    subst (λ (f : ℕ → Record). is_null (record_pointer (f i) n) ≡ true) (sym e) (blank.empty i n lt)
 
 blank-upgraded : (X Y : Image) → SameOrUpgraded X Y → IsBlank X → IsBlank Y
 blank-upgraded X Y (inl e) blank = subst IsBlank (sym e) blank
-blank-upgraded X Y (inr up) blank = record { mount = up.mount ∙ blank.mount; empty = no-pointer X Y (λ j i. same-inode X Y up.only i j) blank }
+blank-upgraded X Y (inr up) blank =
+    record { mount = up.mount ∙ blank.mount; empty = no-pointer X Y (λ j i. same-inode X Y up.only i j) blank }
 
 blank-new : (X B : Image) → Raised X B → IsBlank X → IsNew B
-blank-new X B r blank = record { mount = r.mount ∙ ap (λ (n : ℕ). n + 1) blank.mount; empty = no-pointer X B (λ j i. same-inode X B r.only i j) blank }
+blank-new X B r blank = record {
+  mount = r.mount ∙ ap (λ (n : ℕ). n + 1) blank.mount;
+  empty = no-pointer X B (λ j i. same-inode X B r.only i j) blank;
+}
 
 -- a mount that a crash ended inside its raise: a life without entries
 abbrev early_life : Image → Life
@@ -60,14 +68,21 @@ module _ {D : Type 0} (state : D → DiskState) (is : (d : D) → IsDisk (state 
     next : (Y : Image) → SameOrUpgraded X Y → (l : Life) → Raised Y l.base → IsLife l → Lives (l ∷ lives)
 
   upgraded-comes : (ms : List (Mount state)) (X Y : Image) → SameOrUpgraded X Y → Comes ms X → Comes ms Y
-  upgraded-comes ms X Y between c = record { lives = c.lives; are = c.are; all = c.all; next = λ Z again. c.next Z (upgrade-again X Y Z between again) }
+  upgraded-comes ms X Y between c = record {
+    lives = c.lives;
+    are = c.are;
+    all = c.all;
+    next = λ Z again. c.next Z (upgrade-again X Y Z between again);
+  }
 
   -- what a crash of a mount may leave comes after it, where what it found came after those before it
   module _ (ms : List (Mount state)) (k : Mount state) where
-    late-comes : (s : Says state is k) (X : Image) (c : Leaves k X) → k.history.start ≤ c.moment → Comes ms (state k.found).now → Comes (k ∷ ms) X
+    late-comes : (s : Says state is k) (X : Image) (c : Leaves k X)
+        → k.history.start ≤ c.moment → Comes ms (state k.found).now → Comes (k ∷ ms) X
     late-comes s X c late b =
         let l : Life = life_in k s.contents.world in
-        let all : Lives (l ∷ b.lives) = b.next (state k.found).now (inl refl) l (base-raised state is k s) (is-life state is k s) in
+        let all : Lives (l ∷ b.lives) =
+        b.next (state k.found).now (inl refl) l (base-raised state is k s) (is-life state is k s) in
         record {
           lives = l ∷ b.lives;
           are = (b.lives, b.are, inl (s.contents.world, refl));
@@ -88,7 +103,8 @@ module _ {D : Type 0} (state : D → DiskState) (is : (d : D) → IsDisk (state 
         }
 
     without-comes : (X : Image) → k.history.entries ≡ [] → Comes ms X → Comes (k ∷ ms) X
-    without-comes X none c = record { lives = c.lives; are = (c.lives, c.are, inr (none, inl refl)); all = c.all; next = c.next }
+    without-comes X none c =
+        record { lives = c.lives; are = (c.lives, c.are, inr (none, inl refl)); all = c.all; next = c.next }
 
     early-comes : (X Y : Image) → k.history.entries ≡ [] → Raised Y X → Comes ms Y → Comes (k ∷ ms) X
     early-comes X Y none raised c =
@@ -130,7 +146,8 @@ module _ {D : Type 0} (state : D → DiskState) (is : (d : D) → IsDisk (state 
       left-comes X c = ∥∥₁_elim (says state is k) ∥∥₁_prop (λ s. said-comes s X c)
 
   -- what a mount finds comes after those before it
-  found-comes : (ms : List (Mount state)) (m : Mount state) → Mounts (m ∷ ms) → (Y : Image) → Picks (state m.found).may (state m.found).blocks Y
+  found-comes : (ms : List (Mount state)) (m : Mount state) → Mounts (m ∷ ms)
+      → (Y : Image) → Picks (state m.found).may (state m.found).blocks Y
       → ∥ Comes ms Y ∥₁
   found-comes [] m h Y p = ∣ record {
     lives = [];
@@ -141,38 +158,53 @@ module _ {D : Type 0} (state : D → DiskState) (is : (d : D) → IsDisk (state 
   } ∣₁
   found-comes (k ∷ ms) m h Y p =
       let f = h.0 Y p in
-      ∥∥₁_map (left-comes ms k (found-comes ms k h.1) f.0 f.1) (λ c. upgraded-comes (k ∷ ms) f.0 Y (upgraded-of f.0 Y f.2) c)
+      ∥∥₁_map (left-comes ms k (found-comes ms k h.1) f.0 f.1)
+      (λ c. upgraded-comes (k ∷ ms) f.0 Y (upgraded-of f.0 Y f.2) c)
 
   pub mount-lives : LawMountLives state
   mount-lives m ms h =
-      ∥∥₁_elim (says state is m) ∥∥₁_prop (λ s. ∥∥₁_map (found-comes ms m h (state m.found).now (found-picks state is m s)) (λ b.
-      (s.contents.world, b.lives, b.are, b.next (state m.found).now (inl refl) (life_in m s.contents.world) (base-raised state is m s) (is-life state is m s))))
+      ∥∥₁_elim (says state is m) ∥∥₁_prop
+      (λ s. ∥∥₁_map (found-comes ms m h (state m.found).now (found-picks state is m s)) (λ b. (
+        s.contents.world,
+        b.lives,
+        b.are,
+        b.next (state m.found).now (inl refl) (life_in m s.contents.world) (base-raised state is m s)
+            (is-life state is m s),
+      )))
 
   -- what the lives of mounts claimed and gave, the mounts did
   claimed-same : (ms : List (Mount state)) (ls : List Life) → AreLives ms ls → claimed_by ls ≡ claimed_over ms
   claimed-same [] ls e = ap claimed_by e
-  claimed-same (m ∷ ms) ls (rest, are, inl (W, e)) = ap claimed_by e ∙ ap (λ (l : List ℕ). l ++ claimed_in m.history.entries) (claimed-same ms rest are)
+  claimed-same (m ∷ ms) ls (rest, are, inl (W, e)) = ap claimed_by e
+      ∙ ap (λ (l : List ℕ). l ++ claimed_in m.history.entries) (claimed-same ms rest are)
   claimed-same (m ∷ ms) ls (rest, are, inr (none, inl e)) =
-      ap claimed_by e ∙ claimed-same ms rest are ∙ sym (append-nil (claimed_over ms)) ∙ ap (λ (H : List Entry1). claimed_over ms ++ claimed_in H) (sym none)
+      ap claimed_by e ∙ claimed-same ms rest are ∙ sym (append-nil (claimed_over ms))
+      ∙ ap (λ (H : List Entry1). claimed_over ms ++ claimed_in H) (sym none)
   claimed-same (m ∷ ms) ls (rest, are, inr (none, inr (l, empty, e))) =
       ap claimed_by e ∙ ap (λ (H : List Entry1). claimed_by rest ++ claimed_in H) (empty ∙ sym none)
       ∙ ap (λ (c : List ℕ). c ++ claimed_in m.history.entries) (claimed-same ms rest are)
 
-  once-of : (m : Mount state) (ms : List (Mount state)) (W : World) (ls : List Life) → AreLives ms ls → Lives (life_in m W ∷ ls)
+  once-of : (m : Mount state) (ms : List (Mount state)) (W : World) (ls : List Life) → AreLives ms ls
+      → Lives (life_in m W ∷ ls)
       → IsOnce (claimed_over (m ∷ ms))
-  once-of m ms W ls are all = subst IsOnce (ap (λ (l : List ℕ). l ++ claimed_in m.history.entries) (claimed-same ms ls are)) (law-once (life_in m W ∷ ls) all)
+  once-of m ms W ls are all = subst IsOnce (ap (λ (l : List ℕ). l ++ claimed_in m.history.entries)
+      (claimed-same ms ls are)) (law-once (life_in m W ∷ ls) all)
 
   pub mount-once : LawMountOnce state
   mount-once [] h = (tt, λ a b d ab lt. absurd (omega (arith, lt)))
-  mount-once (m ∷ ms) h = ∥∥₁_elim (mount-lives m ms h) (once-prop (claimed_over (m ∷ ms))) (λ b. once-of m ms b.0 b.1 b.2 b.3)
+  mount-once (m ∷ ms) h =
+      ∥∥₁_elim (mount-lives m ms h) (once-prop (claimed_over (m ∷ ms))) (λ b. once-of m ms b.0 b.1 b.2 b.3)
 
   nothing-in : (v : Value) → Contains [] v → ⊥
   nothing-in v (n, lt, same) = omega (arith, lt)
 
-  nothing-given : (B : Image) (H : List Entry1) (i g k : ℕ) (v : Value) → H ≡ [] → Contains (values_given (agreed_files B) H i g k) v → ⊥
-  nothing-given B H i g k v e c = nothing-in v (subst (λ (K : List Entry1). Contains (values_given (agreed_files B) K i g k) v) e c)
+  nothing-given : (B : Image) (H : List Entry1) (i g k : ℕ) (v : Value)
+      → H ≡ [] → Contains (values_given (agreed_files B) H i g k) v → ⊥
+  nothing-given B H i g k v e c =
+      nothing-in v (subst (λ (K : List Entry1). Contains (values_given (agreed_files B) K i g k) v) e c)
 
-  given-over : (ms : List (Mount state)) (ls : List Life) → AreLives ms ls → (i g k : ℕ) (content : List ℕ) → GivenIn ls i g k content
+  given-over : (ms : List (Mount state)) (ls : List Life) → AreLives ms ls
+      → (i g k : ℕ) (content : List ℕ) → GivenIn ls i g k content
       → GivenOver ms i g k content
   given-over [] ls e i g k content given = subst (λ (l : List Life). GivenIn l i g k content) e given
   given-over (m ∷ ms) ls (rest, are, inl (W, e)) i g k content given =
@@ -192,7 +224,8 @@ module _ {D : Type 0} (state : D → DiskState) (is : (d : D) → IsDisk (state 
   mounts-tail m [] h = tt
   mounts-tail m (k ∷ ms) h = h.1
 
-  mounts-from : (later : List (Mount state)) (m : Mount state) (earlier : List (Mount state)) → Mounts (later ++ m ∷ earlier) → Mounts (m ∷ earlier)
+  mounts-from : (later : List (Mount state)) (m : Mount state) (earlier : List (Mount state))
+      → Mounts (later ++ m ∷ earlier) → Mounts (m ∷ earlier)
   mounts-from [] m earlier h = h
   mounts-from (x ∷ later) m earlier h = mounts-from later m earlier (mounts-tail x (later ++ m ∷ earlier) h)
 

@@ -1,6 +1,7 @@
 -- One mount: its life, what a crash inside its raise leaves, and what the next one finds.
 use Rattle.std.proofs.Math.Logic.{∥∥₁_elim, ∥∥₁_map, ∥∥₁_prop}
-use Rattle.std.proofs.Common.{◌≡◌, ◌≢◌, ℕ, ◌<◌, ◌≤◌, Bool, true, false, eqb, eqb-true, eq-eqb, inl, inr, IsTrue, Contains, length, set, refl, sym, ap, ◌∙◌}
+use Rattle.std.proofs.Common.{◌≡◌, ◌≢◌, ℕ, ◌<◌, ◌≤◌, Bool, true, false, eqb, eqb-true, eq-eqb, inl, inr, IsTrue}
+use Rattle.std.proofs.Common.{Contains, length, set, refl, sym, ap, ◌∙◌}
 use Rattle.std.proofs.Common.{subst, arith}
 use Rattle.std.proofs.lemmas.List.{get_or-set_same, get_or-set_other, length-set}
 use Rattle.nofs_disk.specs.Disk.{DiskState, IsDisk, Picks, no_cell}
@@ -33,7 +34,8 @@ pub now-picks : (d : DiskState) → IsDisk d → IsTrue d.tells → Picks d.may 
 now-picks d is t = record { len = is.whole t; each = λ b low. is.has_now b t low }
 
 -- an image of the raise
-module _ (d : DiskState) (is : IsDisk d) (q : IsSoundDisk d) (X : Image) (found : IsFound (raised (super_at d.now)) d X) where
+module _ (d : DiskState) (is : IsDisk d) (q : IsSoundDisk d) (X : Image)
+    (found : IsFound (raised (super_at d.now)) d X) where
   picked : IsPick d d.now
   picked = now-picks d is q.tells
 
@@ -43,7 +45,8 @@ module _ (d : DiskState) (is : IsDisk d) (q : IsSoundDisk d) (X : Image) (found 
   others-in : (b : ℕ) → b < d.blocks → b ≢ 0 → Contains (d.may b) (cell_at X b)
   others-in b low ne = elim (found.1 b low) [ inl h ↦ h | inr c ↦ absurd (ne c.first) ]
 
-  each-of : (Y : Image) → Contains (d.may 0) (cell_at Y 0) → ((b : ℕ) → b ≢ 0 → cell_at Y b ≡ cell_at X b) → (b : ℕ) → b < d.blocks
+  each-of : (Y : Image) → Contains (d.may 0) (cell_at Y 0) → ((b : ℕ) → b ≢ 0 → cell_at Y b ≡ cell_at X b)
+      → (b : ℕ) → b < d.blocks
       → Contains (d.may b) (cell_at Y b)
   each-of Y here same b low = go (eqb b 0) refl
     where
@@ -83,7 +86,12 @@ module _ (d : DiskState) (is : IsDisk d) (q : IsSoundDisk d) (X : Image) (found 
       go (inr c) =
           let first : cell_at X 0 ≡ super_cell (raised (super_at Y)) =
           c.is ∙ ap (λ (s : SuperBlock). super_cell (raised s)) (sym (super-same d.now Y first-is)) in
-          inr (Y, picks, is-raised Y (q.sound Y picks) X first (sym size-is) (λ b ne. sym (others-are b ne)), has-cell Y (q.sound Y picks) X first)
+          inr (
+            Y,
+            picks,
+            is-raised Y (q.sound Y picks) X first (sym size-is) (λ b ne. sym (others-are b ne)),
+            has-cell Y (q.sound Y picks) X first,
+          )
 
 module _ {D : Type 0} (state : D → DiskState) (is : (d : D) → IsDisk (state d)) where
   -- what stands behind the two facts of a mount
@@ -96,7 +104,8 @@ module _ {D : Type 0} (state : D → DiskState) (is : (d : D) → IsDisk (state 
 
   module _ (m : Mount state) (s : Says m) where
     pub is-life : IsLife (life_in m s.contents.world)
-    is-life = subst (λ (B : Image). Run m.history.start (world_of B m.first) m.history.entries s.contents.world) s.contents.base_is s.contents.run
+    is-life = subst (λ (B : Image). Run m.history.start (world_of B m.first) m.history.entries s.contents.world)
+        s.contents.base_is s.contents.run
 
     pub found-picks : Picks (state m.found).may (state m.found).blocks (state m.found).now
     found-picks = now-picks (state m.found) (is m.found) s.sound.tells
@@ -105,11 +114,15 @@ module _ {D : Type 0} (state : D → DiskState) (is : (d : D) → IsDisk (state 
     pub base-raised : Raised (state m.found).now (base_of m)
     base-raised = raised-of (state m.found).now (s.sound.sound (state m.found).now found-picks) (base_of m) refl
 
-    pub is-allowed : (X : Image) (c : Leaves m X) → m.history.start ≤ c.moment → IsAllowed (base_of m) m.history.entries c.moment X
-    is-allowed X c late = subst (λ (B : Image). IsAllowed B m.history.entries c.moment X) s.contents.base_is (s.contents.allowed c.moment X late c.to c.left)
+    pub is-allowed : (X : Image) (c : Leaves m X)
+        → m.history.start ≤ c.moment → IsAllowed (base_of m) m.history.entries c.moment X
+    is-allowed X c late = subst (λ (B : Image). IsAllowed B m.history.entries c.moment X) s.contents.base_is
+        (s.contents.allowed c.moment X late c.to c.left)
 
-    pub of-raise : (at : ℕ) (X : Image) → (state m.found).moment ≤ at → at ≤ m.history.start → (state m.last).left at X → IsOfRaise (state m.found) X
-    of-raise at X from early left = in-raise (state m.found) (is m.found) s.sound X (s.contents.before at X from early left)
+    pub of-raise : (at : ℕ) (X : Image) → (state m.found).moment ≤ at → at ≤ m.history.start → (state m.last).left at X
+        → IsOfRaise (state m.found) X
+    of-raise at X from early left =
+        in-raise (state m.found) (is m.found) s.sound X (s.contents.before at X from early left)
 
     stays-sound : (X Y : Image) → IsSound X → SameOrSecond X Y → IsSound Y
     stays-sound X Y sound (inl e) = subst IsSound (sym e) sound
@@ -128,7 +141,14 @@ module _ {D : Type 0} (state : D → DiskState) (is : (d : D) → IsDisk (state 
   pub next-mount : LawNextMount state
   next-mount k l X c late between W V =
       ∥∥₁_elim (says k) ∥∥₁_prop (λ s. ∥∥₁_map (says l) (λ t.
-      record { moment = c.moment; left = X; found = (state l.found).now; allowed = is-allowed k s X c late; between = between; raised = base-raised l t }))
+      record {
+        moment = c.moment;
+        left = X;
+        found = (state l.found).now;
+        allowed = is-allowed k s X c late;
+        between = between;
+        raised = base-raised l t;
+      }))
 
   pub mount-raise : LawInRaise state
   mount-raise k at X from early left = ∥∥₁_map (says k) (λ s. of-raise k s at X from early left)

@@ -43,7 +43,8 @@ pub causes-none : (old new : DiskState) (k l : Books) (r : Reply) → IsSafeStep
 causes-none old new k l r g = causes-kept old new k l r l.history g
 
 -- room was taken for the entry before
-pub causes-roomed : (old new : DiskState) (k l : Books) (r : Reply) (h : HistoryState) → StepCauses old new (record k { history = h }) l r
+pub causes-roomed : (old new : DiskState) (k l : Books) (r : Reply) (h : HistoryState)
+    → StepCauses old new (record k { history = h }) l r
     → StepCauses old new k l r
 causes-roomed old new k l r h g = record {
   disk = g.disk;
@@ -59,7 +60,8 @@ causes-roomed old new k l r h g = record {
 }
 
 -- there was no room for the entry
-pub causes-unroomed : (d : DiskState) (k : Books) (h : HistoryState) → StepCauses d d k (record k { history = h }) (reply.Refused refusal.OutOfMemory)
+pub causes-unroomed : (d : DiskState) (k : Books) (h : HistoryState)
+    → StepCauses d d k (record k { history = h }) (reply.Refused refusal.OutOfMemory)
 causes-unroomed d k h = record {
   disk = record { blocks = refl; tells = refl; holds_back = refl; faults = omega arith };
   past = record { was = λ m le. refl; no_more = λ m X le x. x; no_less = λ m X le x. x };
@@ -77,10 +79,12 @@ causes-unroomed d k h = record {
 
 -- two cells are one where that is known to have a proof
 one-known : (c d : Cell) → ∥ c ≡ d ∥₁ → c ≡ d
-one-known c d known = same_cell-true c d (∥∥₁_elim known (Bool-set _ _) (λ e. subst (λ (x : Cell). same_cell c x ≡ true) e (same_cell-refl c)))
+one-known c d known = same_cell-true c d
+    (∥∥₁_elim known (Bool-set _ _) (λ e. subst (λ (x : Cell). same_cell c x ≡ true) e (same_cell-refl c)))
 
 -- each block gets one cell where it is known that the device tells
-order-known : (old new : DiskState) (P Q : Type 0) (s : Step) (c : Claims) (r : Reply) → (Q → ∥ P ∥₁) → NoOrder old new P s c r → NoOrder old new Q s c r
+order-known : (old new : DiskState) (P Q : Type 0) (s : Step) (c : Claims) (r : Reply) → (Q → ∥ P ∥₁)
+    → NoOrder old new P s c r → NoOrder old new Q s c r
 order-known old new P Q s c r known (LeavesDisk none cells) = LeavesDisk none cells
 order-known old new P Q s c r known (FlushesAlone is quick f) = FlushesAlone is quick f
 order-known old new P Q s c r known (WritesAlone made w) = WritesAlone made (record {
@@ -94,8 +98,10 @@ order-known old new P Q s c r known (WritesAlone made w) = WritesAlone made (rec
 })
 
 -- an open mount over a disk that was found sound; room was taken for the entry before
-pub order-sound : (found old new : DiskState) (first : ℕ) (k : Books) (s : Step) (r : Reply) (h : HistoryState) → h.start ≡ k.history.start
-    → ∥ IsMount found old first k ∥₁ → StepOrder old new (MeetsOpen old (record k { history = h })) s r → StepOrder old new (MeetsSound found k) s r
+pub order-sound : (found old new : DiskState) (first : ℕ) (k : Books) (s : Step) (r : Reply) (h : HistoryState)
+    → h.start ≡ k.history.start
+    → ∥ IsMount found old first k ∥₁ → StepOrder old new (MeetsOpen old (record k { history = h })) s r
+    → StepOrder old new (MeetsSound found k) s r
 order-sound found old new first k s r h start stands o = record {
   claims = o.claims;
   order = order-known old new (MeetsOpen old (record k { history = h })) (MeetsSound found k) s o.claims r
@@ -108,7 +114,8 @@ order-sound found old new first k s r h start stands o = record {
         told : IsTrue old.tells
         told = subst (λ (b : Bool). IsTrue b) (sym m.disk.tells) q.0.tells
 
-        go : (p : Past) → IsOpen old k k.history.entries p ⊎ IsStopped old k k.history.entries p → MeetsOpen old (record k { history = h })
+        go : (p : Past) → IsOpen old k k.history.entries p ⊎ IsStopped old k k.history.entries p
+            → MeetsOpen old (record k { history = h })
         go p (inl o) = (k.history.entries, p, told, open-with old k h start k.history.entries p o)
         go p (inr o) = absurd (let t = o.stopped in let g = q.1 in cc (t, g))
 
@@ -117,7 +124,8 @@ pub order-unroomed : (d : DiskState) (P : Type 0) (s : Step) → StepOrder d d P
 order-unroomed d P s = record { claims = no_claims; order = LeavesDisk refl (KeepsCells-refl d) }
 
 -- a step that examines an element leaves the device
-pub see-leaves : (old new : DiskState) (P : Type 0) (s : Step) (r : Reply) → is_see s ≡ true → StepOrder old new P s r → KeepsCells old new
+pub see-leaves : (old new : DiskState) (P : Type 0) (s : Step) (r : Reply) → is_see s ≡ true → StepOrder old new P s r
+    → KeepsCells old new
 see-leaves old new P (step.SeeInode i) r e o = go o.order
   where
     go : NoOrder old new P (step.SeeInode i) o.claims r → KeepsCells old new

@@ -1,5 +1,6 @@
 -- What a step claims has no owner on the disk before it.
-use Rattle.std.proofs.Common.{◌≡◌, ℕ, Bool, true, false, ◌&&◌, ◌||◌, not, List, [], ◌∷◌, ◌++◌, length, length-append, Contains, Option, Some, None, is_some}
+use Rattle.std.proofs.Common.{◌≡◌, ℕ, Bool, true, false, ◌&&◌, ◌||◌, not, List, [], ◌∷◌, ◌++◌, length, length-append}
+use Rattle.std.proofs.Common.{Contains, Option, Some, None, is_some}
 use Rattle.std.proofs.Common.{IsTrue, ◌⊎◌, inl, inr, refl, sym, ap, ◌∙◌, subst, arith}
 use Rattle.std.proofs.lemmas.Bool.{cases_lt}
 use Rattle.nofs_disk.specs.Disk.{DiskState}
@@ -31,10 +32,12 @@ no-home W p free = go (W.known_blocks p) (is_fixed W p) (W.homes p) free
     go true false (Some h) e = cc
     go false b (Some h) e = cc
 
-open-unowned : (d : DiskState) (k : Books) (H : List Entry1) (p : Past) (b : ℕ) → IsOpen d k H p → is_free_block p.world b ≡ true → owner d.now b ≡ None
+open-unowned : (d : DiskState) (k : Books) (H : List Entry1) (p : Past) (b : ℕ) → IsOpen d k H p
+    → is_free_block p.world b ≡ true → owner d.now b ≡ None
 open-unowned d k H p b o free = elim (cases_lt b p.world.blocks) [
   | inl low ↦ sym (o.homes b low) ∙ no-home p.world b free
-  | inr past ↦ owner-beyond d.now b (let e = ap (λ (q : SuperBlock). q.blocks) o.at in let s = o.says.blocks in omega (arith, past, e, s))
+  | inr past ↦ owner-beyond d.now b
+      (let e = ap (λ (q : SuperBlock). q.blocks) o.at in let s = o.says.blocks in omega (arith, past, e, s))
 ]
 
 stopped-none : (W V : World) (e : Entry1) → W.stopped ≡ true → Next W e V → e.claims ≡ no_claims
@@ -53,9 +56,11 @@ last-is (h ∷ H) e f q = last-is H e f (cc q)
 
 -- where nothing was added
 pub unowned-none : (X : Image) (H K : List Entry1) → K ≡ H → Unowned X H K
-unowned-none X H K same e is x has = absurd (let a = ap length same in let b = ap length is in omega (arith, a, b, length-append H (e ∷ [])))
+unowned-none X H K same e is x has =
+    absurd (let a = ap length same in let b = ap length is in omega (arith, a, b, length-append H (e ∷ [])))
 
-pub unowned-more : (found old new : DiskState) (first : ℕ) (k l : Books) (s : Step) (c : Claims) (r : Reply) (caller : ℕ) → Goes old k new l s c r
+pub unowned-more : (found old new : DiskState) (first : ℕ) (k l : Books) (s : Step) (c : Claims) (r : Reply)
+    (caller : ℕ) → Goes old k new l s c r
     → IsMount found old first k → is_out_of_memory r ≡ false → IsSoundDisk found
     → (K : List Entry1) → K ≡ k.history.entries ++ entry caller old new s c r ∷ [] → Unowned old.now k.history.entries K
 unowned-more found old new first k l s c r caller g m mem q K all e is x has = go st.past st.now
@@ -67,17 +72,22 @@ unowned-more found old new first k l s c r caller g m mem q K all e is x has = g
     st = m.stands q
 
     here : Contains (claimed_blocks c) x
-    here = subst (λ (f : Entry1). Contains (claimed_blocks f.claims) x) (last-is k.history.entries e this (sym is ∙ all)) has
+    here = subst (λ (f : Entry1). Contains (claimed_blocks f.claims) x)
+        (last-is k.history.entries e this (sym is ∙ all)) has
 
-    go : (p : Past) → IsOpen old k k.history.entries p ⊎ IsStopped old k k.history.entries p → owner old.now x.block ≡ None
+    go : (p : Past) → IsOpen old k k.history.entries p ⊎ IsStopped old k k.history.entries p
+        → owner old.now x.block ≡ None
     go p (inl o) = by (is_write_fault r) refl
       where
         f : Follows old new l k.history.entries p this
         f = g.from_open (subst (λ (b : Bool). IsTrue b) (sym m.disk.tells) q.tells) caller k.history.entries p o
 
         by : (b : Bool) → is_write_fault r ≡ b → owner old.now x.block ≡ None
-        by true eb = let t = f.fault eb in open-unowned old k k.history.entries p x.block o ((next-free p.world t.0.world this t.1.next).blocks x here)
-        by false eb = let t = f.done mem eb in open-unowned old k k.history.entries p x.block o ((next-free p.world t.0.world this t.1.next).blocks x here)
+        by true eb = let t = f.fault eb in
+            open-unowned old k k.history.entries p x.block o ((next-free p.world t.0.world this t.1.next).blocks x here)
+        by false eb = let t = f.done mem eb in
+            open-unowned old k k.history.entries p x.block o ((next-free p.world t.0.world this t.1.next).blocks x here)
     go p (inr o) = absurd (none-claimed x (subst (λ (d : Claims). Contains (claimed_blocks d) x)
-        (stopped-none p.world p.world this o.world_stopped ((g.from_stopped (subst (λ (b : Bool). IsTrue b) (sym m.disk.tells) q.tells)
+        (stopped-none p.world p.world this o.world_stopped
+        ((g.from_stopped (subst (λ (b : Bool). IsTrue b) (sym m.disk.tells) q.tells)
         caller k.history.entries p o).next mem)) here))

@@ -1,5 +1,6 @@
 -- A mount stands after a verdict of an earlier state is committed.
-use Rattle.std.proofs.Common.{◌≡◌, ℕ, ◌^◌, ◌<◌, ◌≤◌, arith, Bool, true, false, [], ◌∷◌, ◌++◌, set, IsTrue, ◌⊎◌, inl, inr, refl, sym, ap, ◌∙◌, subst, le_refl}
+use Rattle.std.proofs.Common.{◌≡◌, ℕ, ◌^◌, ◌<◌, ◌≤◌, arith, Bool, true, false, [], ◌∷◌, ◌++◌, set, IsTrue, ◌⊎◌, inl}
+use Rattle.std.proofs.Common.{inr, refl, sym, ap, ◌∙◌, subst, le_refl}
 use mathlib.Core.List.{IsPrefix}
 use Rattle.nofs_disk.specs.Disk.{DiskState}
 use Rattle.nofs_disk.specs.Chains.{IsSameDisk-refl, KeepsCells-refl, KeepsPast-refl}
@@ -27,21 +28,26 @@ use Rattle.nofs_shared.specs.Acts.Sees.{is_see}
 use Rattle.nofs_shared.specs.Mount.Invariant.{IsMount, IsSoundDisk, MountStands}
 use Rattle.nofs_shared.proofs.OnMount.Steps.{Leads, mount-more}
 
-module _ (found early d : DiskState) (first : ℕ) (before k l : Books) (then : IsMount found early first before) (m : IsMount found d first k)
-    (open_then : before.stopped ≡ false) (going : k.stopped ≡ false) (begun : before.history.start ≡ k.history.start) (numbers : before.at ≡ k.at)
+module _ (found early d : DiskState) (first : ℕ) (before k l : Books) (then : IsMount found early first before)
+    (m : IsMount found d first k)
+    (open_then : before.stopped ≡ false) (going : k.stopped ≡ false) (begun : before.history.start ≡ k.history.start)
+    (numbers : before.at ≡ k.at)
     (begins : IsPrefix before.history.entries k.history.entries) where
   -- the base of both is the disk that was found, with the mount number raised
   base-then : (p q : Past) → q.base ≡ early.was before.history.start → p.base ≡ d.was k.history.start → p.base ≡ q.base
-  base-then p q eq ep = ep ∙ m.mounted.base ∙ ap (λ (at : SuperBlock). set found.now 0 (super_cell at)) (sym numbers) ∙ sym then.mounted.base ∙ sym eq
+  base-then p q eq ep = ep ∙ m.mounted.base ∙ ap (λ (at : SuperBlock). set found.now 0 (super_cell at)) (sym numbers)
+      ∙ sym then.mounted.base ∙ sym eq
 
-  pub was-open : IsSoundDisk found → (p : Past) → p.base ≡ d.was k.history.start → p.first ≡ first → WasOpen early before k k.history.entries p
+  pub was-open : IsSoundDisk found → (p : Past) → p.base ≡ d.was k.history.start
+      → p.first ≡ first → WasOpen early before k k.history.entries p
   was-open q p base serial = go st.past st.base st.serial st.now
     where
       st : MountStands found early first before
       st = then.stands q
 
       go : (o : Past) → o.base ≡ early.was before.history.start → o.first ≡ first
-          → IsOpen early before before.history.entries o ⊎ IsStopped early before before.history.entries o → WasOpen early before k k.history.entries p
+          → IsOpen early before before.history.entries o ⊎ IsStopped early before before.history.entries o
+          → WasOpen early before k k.history.entries p
       go o eb ef (inr s) = absurd (let e = s.stopped in cc (e, open_then))
       go o eb ef (inl s) = record {
         tells = subst (λ (b : Bool). IsTrue b) (sym then.disk.tells) q.tells;
@@ -54,7 +60,8 @@ module _ (found early d : DiskState) (first : ℕ) (before k l : Books) (then : 
         stood = s;
       }
 
-  module _ (kind : ElementKind) (item : ℕ) (used result : Bool) (cm : Commits early before d k l kind item used result) (caller : ℕ) where
+  module _ (kind : ElementKind) (item : ℕ) (used result : Bool) (cm : Commits early before d k l kind item used result)
+      (caller : ℕ) where
     abbrev e : Entry1
     e = entry caller d d (see_step kind item) no_claims (reply.Seen result)
 
@@ -80,7 +87,8 @@ module _ (found early d : DiskState) (first : ℕ) (before k l : Books) (then : 
             → IsOpen d k k.history.entries p ⊎ IsStopped d k k.history.entries p → Leads d l e k.history.entries p
         go q p eb ef (inr s) = absurd (let t = s.stopped in cc (t, going))
         go q p eb ef (inl o) =
-            let t = (cm.from_open (subst (λ (b : Bool). IsTrue b) (sym m.disk.tells) q.tells) caller k.history.entries p o (was-open q p eb ef)).done refl
+            let t = (cm.from_open (subst (λ (b : Bool). IsTrue b) (sym m.disk.tells) q.tells) caller k.history.entries p
+            o (was-open q p eb ef)).done refl
             refl in
             (t.0, t.1, inl t.2)
 
@@ -89,7 +97,14 @@ module _ (found early d : DiskState) (first : ℕ) (before k l : Books) (then : 
         → IsMount found d first (with_history l (record {
           start = l.history.start;
           entries =
-              l.history.entries ++ record { caller = caller; from = from; to = to; step = s; reply = reply.Seen result; claims = no_claims } ∷ [];
+              l.history.entries ++ record {
+                caller = caller;
+                from = from;
+                to = to;
+                step = s;
+                reply = reply.Seen result;
+                claims = no_claims;
+              } ∷ [];
           spare =
               spare;
         }))
@@ -97,27 +112,44 @@ module _ (found early d : DiskState) (first : ℕ) (before k l : Books) (then : 
         mount-commits (record {
           start = l.history.start;
           entries =
-              l.history.entries ++ record { caller = caller; from = from; to = to; step = s; reply = reply.Seen result; claims = no_claims } ∷ [];
+              l.history.entries ++ record {
+                caller = caller;
+                from = from;
+                to = to;
+                step = s;
+                reply = reply.Seen result;
+                claims = no_claims;
+              } ∷ [];
           spare =
               spare;
         }) refl
-        (λ j. l.history.entries ++ record { caller = caller; from = begin j; to = end j; step = same j; reply = reply.Seen result; claims = no_claims } ∷ [])
+        (λ j. l.history.entries ++ record {
+          caller = caller;
+          from = begin j;
+          to = end j;
+          step = same j;
+          reply = reply.Seen result;
+          claims = no_claims;
+        } ∷ [])
 
     -- the answer is the verdict that stands, and right
     pub mount-answers : (h : HistoryState) → IsCommit found d k (with_history l h) kind item used (reply.Seen result)
     mount-answers h = record {
       stopped = λ stopped memory. absurd (cc (stopped, going));
       seen = λ running memory. record { verdict = result; is = refl; settled = l; settles = cm.settles; books = refl };
-      right = λ q v e. let st = m.stands q in let same : result ≡ v = cc e in sym same ∙ right q st.past st.base st.serial st.now;
+      right = λ q v e. let st = m.stands q in let same : result ≡ v = cc e in
+          sym same ∙ right q st.past st.base st.serial st.now;
     }
       where
         right : IsSoundDisk found → (p : Past) → p.base ≡ d.was k.history.start → p.first ≡ first
             → IsOpen d k k.history.entries p ⊎ IsStopped d k k.history.entries p → result ≡ is_used kind d.now item
         right q p eb ef (inr s) = absurd (let t = s.stopped in cc (t, going))
-        right q p eb ef (inl o) = cm.right (subst (λ (b : Bool). IsTrue b) (sym m.disk.tells) q.tells) k.history.entries p o (was-open q p eb ef)
+        right q p eb ef (inl o) = cm.right (subst (λ (b : Bool). IsTrue b) (sym m.disk.tells) q.tells) k.history.entries
+            p o (was-open q p eb ef)
 
 -- a mount that is stopped commits nothing
-pub commit-stopped : (found d : DiskState) (k l : Books) (kind : ElementKind) (item : ℕ) (used : Bool) (r : Reply) → k.stopped ≡ true
+pub commit-stopped : (found d : DiskState) (k l : Books) (kind : ElementKind) (item : ℕ) (used : Bool) (r : Reply)
+    → k.stopped ≡ true
     → r ≡ reply.Refused refusal.Stopped → IsCommit found d k l kind item used r
 commit-stopped found d k l kind item used r is answer = record {
   stopped = λ stopped memory. answer;
@@ -139,15 +171,18 @@ learned-beside : (k : Books) (h g : HistoryState) (kind : ElementKind) (item : �
 learned-beside k h g element.Inode item used = refl
 learned-beside k h g element.Block item used = refl
 
-stood-beside : (k : Books) (h : HistoryState) (kind : ElementKind) (item : ℕ) → verdict_of kind (with_history k h) item ≡ verdict_of kind k item
+stood-beside : (k : Books) (h : HistoryState) (kind : ElementKind) (item : ℕ)
+    → verdict_of kind (with_history k h) item ≡ verdict_of kind k item
 stood-beside k h element.Inode item = refl
 stood-beside k h element.Block item = refl
 
-sees-beside : (k l : Books) (h : HistoryState) (kind : ElementKind) (item : ℕ) (used : Bool) (r : Reply) → SeesVerdict (with_history k h) l kind item used r
+sees-beside : (k l : Books) (h : HistoryState) (kind : ElementKind) (item : ℕ) (used : Bool) (r : Reply)
+    → SeesVerdict (with_history k h) l kind item used r
     → SeesVerdict k l kind item used r
 sees-beside k l h kind item used r s = go s.settles
   where
-    go : OffersVerdict (with_history k h) s.settled (verdict_of kind (with_history k h) item) (learned kind (with_history k h) item) used s.verdict
+    go : OffersVerdict (with_history k h) s.settled (verdict_of kind (with_history k h) item)
+        (learned kind (with_history k h) item) used s.verdict
         → SeesVerdict k l kind item used r
     go (StaysSo stood e) = record {
       verdict = s.verdict;
@@ -165,7 +200,8 @@ sees-beside k l h kind item used r s = go s.settles
     }
 
 -- room that was taken for the entry changes nothing of it
-pub commit-beside : (found d : DiskState) (k l : Books) (h : HistoryState) (kind : ElementKind) (item : ℕ) (used : Bool) (r : Reply)
+pub commit-beside : (found d : DiskState) (k l : Books) (h : HistoryState) (kind : ElementKind) (item : ℕ)
+    (used : Bool) (r : Reply)
     → IsCommit found d (with_history k h) l kind item used r → IsCommit found d k l kind item used r
 commit-beside found d k l h kind item used r c = record {
   stopped = c.stopped;
@@ -184,6 +220,7 @@ see-is element.Inode item = refl
 see-is element.Block item = refl
 
 -- the number of a verdict's element is small
-pub item-small : (kind : ElementKind) (at : SuperBlock) (item : ℕ) → HasElement kind at item → at.inodes < 2 ^ 32 → at.blocks ≤ 2 ^ 32 → item < 2 ^ 32
+pub item-small : (kind : ElementKind) (at : SuperBlock) (item : ℕ) → HasElement kind at item
+    → at.inodes < 2 ^ 32 → at.blocks ≤ 2 ^ 32 → item < 2 ^ 32
 item-small element.Inode at item r i b = let h = r.1 in omega (arith, h, i)
 item-small element.Block at item r i b = let h = r.1 in omega (arith, h, b)

@@ -1,12 +1,14 @@
 -- What the invariant of a mount gives at its end.
-use Rattle.std.proofs.Common.{◌≡◌, ◌≢◌, ℕ, ◌≤◌, Bool, true, false, ltb, List, [], ◌∷◌, ◌++◌, Contains, set, ◌⊎◌, inl, inr, refl, ap, ◌∙◌, subst, arith}
+use Rattle.std.proofs.Common.{◌≡◌, ◌≢◌, ℕ, ◌≤◌, Bool, true, false, ltb, List, [], ◌∷◌, ◌++◌, Contains, set, ◌⊎◌, inl}
+use Rattle.std.proofs.Common.{inr, refl, ap, ◌∙◌, subst, arith}
 use Rattle.nofs_disk.specs.Disk.{DiskState}
 use Rattle.nofs_disk.specs.Moments.{AtEach}
 use Rattle.nofs_super.specs.Format.{super_cell}
 use Rattle.nofs_model.specs.Cells.{Pointer, SuperBlock}
 use Rattle.nofs_model.specs.Image.{Image}
 use Rattle.nofs_history.specs.World.{World, world_of, is_free_inode, inodes_needed}
-use Rattle.nofs_history.specs.Claims.{claimed_blocks, no_claims, next_stamp, IsClaim, IsInodeClaim, ClaimedInode, NoInode}
+use Rattle.nofs_history.specs.Claims.{claimed_blocks, no_claims, next_stamp, IsClaim, IsInodeClaim, ClaimedInode}
+use Rattle.nofs_history.specs.Claims.{NoInode}
 use Rattle.nofs_history.specs.Next.{Next, Run, AfterFault, ByRow, Done, ByRead, ByWrite}
 use Rattle.nofs_history.specs.Allowed.{IsAllowed}
 use Rattle.nofs_history.specs.declared.machine.history.Claims.{Claims}
@@ -19,7 +21,8 @@ use Rattle.nofs_shared.specs.Mount.Invariant.{IsFound, IsMount}
 use Rattle.nofs_shared.proofs.OnMount.Histories.{only-calls}
 use Rattle.nofs_shared.specs.Mount.End.{EntryClaimsFree, Ends}
 
-inode-free : (W : World) (n : ℕ) (c : Claims) (b : Bool) → IsInodeClaim W n c b → c.inode ≢ 0 → is_free_inode W c.inode ≡ true
+inode-free : (W : World) (n : ℕ) (c : Claims) (b : Bool) → IsInodeClaim W n c b
+    → c.inode ≢ 0 → is_free_inode W c.inode ≡ true
 inode-free W n c true (ClaimedInode free low high stamp) some = free
 inode-free W n c false (NoInode none gen) some = absurd (some none)
 
@@ -45,7 +48,8 @@ next-free W V e (Done a b c d f g h i j) = claim-is-free W e.step e refl d
 next-free W V e (ByRead a b c d f g h) = none-free W e d
 next-free W V e (ByWrite a b c d f g h i) = claim-is-free W e.step e refl f
 
-pub run-claims : (before : List Entry1) (start : ℕ) (W V : World) (e : Entry1) (after : List Entry1) → Run start W (before ++ e ∷ after) V
+pub run-claims : (before : List Entry1) (start : ℕ) (W V : World) (e : Entry1) (after : List Entry1)
+    → Run start W (before ++ e ∷ after) V
     → (U : World) × Run start W before U × EntryClaimsFree U e
 run-claims [] start W V e after r = (W, refl, next-free W r.0 e r.4)
 run-claims (x ∷ before) start W V e after r =
@@ -72,9 +76,11 @@ mount-ends found d first k m = record {
         world = s.past.world;
         run = w;
         allowed = λ n X from to left. (images s.past s.now).each n X from to left;
-        before = subst (λ (q : SuperBlock). (n : ℕ) (X : Image) → found.moment ≤ n → n ≤ k.history.start → d.left n X → IsFound q found X)
+        before = subst (λ (q : SuperBlock). (n : ℕ) (X : Image) → found.moment ≤ n → n ≤ k.history.start → d.left n X
+            → IsFound q found X)
             s.raised m.mounted.before;
-        claims = λ before after e is. run-claims before k.history.start (world_of s.past.base first) s.past.world e after
+        claims = λ before after e is. run-claims before k.history.start
+            (world_of s.past.base first) s.past.world e after
             (subst (λ (H : List Entry1). Run k.history.start (world_of s.past.base first) H s.past.world) is w);
         sound = s.sound.images.each;
         next = s.sound.picks;

@@ -1,5 +1,6 @@
 -- What a format leaves is sound, and blank.
-use Rattle.std.proofs.Common.{◌≡◌, ◌≢◌, ℕ, zero, suc, ◌+◌, ◌-◌, ◌/◌, ◌%◌, ◌<◌, Bool, true, false, cond, eqb, leb, eqb-true, List, [], ◌∷◌, length, get_or}
+use Rattle.std.proofs.Common.{◌≡◌, ◌≢◌, ℕ, zero, suc, ◌+◌, ◌-◌, ◌/◌, ◌%◌, ◌<◌, Bool, true, false, cond, eqb, leb}
+use Rattle.std.proofs.Common.{eqb-true, List, [], ◌∷◌, length, get_or}
 use Rattle.std.proofs.Common.{drop, refl, sym, ap, ◌∙◌, subst, arith}
 use Rattle.std.specs.Prelude.{is_none}
 use Rattle.std.specs.List.{list_all}
@@ -8,11 +9,13 @@ use Rattle.std.proofs.lemmas.List.{get_or_append_left}
 use Rattle.nofs_disk.specs.Disk.{DiskState, no_cell}
 use Rattle.nofs_disk.specs.Number.{put_number, zeros}
 use Rattle.nofs_disk.specs.Tag.{zero_cell}
-use Rattle.nofs_super.specs.Format.{IsFormatted, cell_at-formatted, first_records, formatted, formatted_cell, fresh_super, length-first_formatted, super_cell}
+use Rattle.nofs_super.specs.Format.{IsFormatted, cell_at-formatted, first_records, formatted, formatted_cell}
+use Rattle.nofs_super.specs.Format.{fresh_super, length-first_formatted, super_cell}
 use Rattle.nofs_super.specs.Format.{super_payload, table_cell}
 use Rattle.nofs_super.specs.Geometry.{IsGeometry, is_geometry, is_geometry-parts}
 use Rattle.nofs_super.specs.Spelling.{super_of-payload}
-use Rattle.nofs_model.specs.Cells.{Cell, Pointer, Record, SuperBlock, fields_in, free_record, is_null, link_in, null, number_at, pointer_in}
+use Rattle.nofs_model.specs.Cells.{Cell, Pointer, Record, SuperBlock, fields_in, free_record, is_null, link_in, null}
+use Rattle.nofs_model.specs.Cells.{number_at, pointer_in}
 use Rattle.nofs_model.specs.Cells.{record_at, record_of}
 use Rattle.nofs_model.specs.Image.{Image, cell_at, inode, is_inode, record_pointer, super_at, super_in}
 use Rattle.nofs_model.proofs.OnSound.Writes.{mountable-law}
@@ -58,7 +61,8 @@ unfolding formatted_cell table_cell zero_cell
 cell-records blocks inodes b j ne lt = go (eqb b 0) refl (leb b (inodes / 4)) (eqb b 1)
   where
     go : (z : Bool) → eqb b 0 ≡ z → (q t : Bool) → HasNone (record_at
-        (cond z (super_cell (fresh_super blocks inodes)) (cond q (record { payload = cond t first_records (zeros 1024); tag = (table_cell b).tag })
+        (cond z (super_cell (fresh_super blocks inodes))
+        (cond q (record { payload = cond t first_records (zeros 1024); tag = (table_cell b).tag })
         zero_cell)).payload j)
     go true e q t = absurd (ne (eqb-true b 0 e))
     go false e true true = table-records j lt
@@ -74,14 +78,17 @@ unfolding formatted_cell
 first-cell blocks inodes = refl
 
 -- an image in which block 0, and then each block, is as a format writes it
-module _ (X : Image) (device blocks inodes : ℕ) (g : IsGeometry device blocks inodes) (first : cell_at X 0 ≡ formatted_cell blocks inodes 0) where
+module _ (X : Image) (device blocks inodes : ℕ) (g : IsGeometry device blocks inodes)
+    (first : cell_at X 0 ≡ formatted_cell blocks inodes 0) where
   numbers-are : super_at X ≡ fresh_super blocks inodes
   unfolding super_at
   numbers-are =
       let most = g.most_blocks in let few = g.most_inodes in
       let it : SuperBlock = fresh_super blocks inodes in
-      let payload : (cell_at X 0).payload ≡ super_payload it = ap (λ (c : Cell). c.payload) (first ∙ first-cell blocks inodes) ∙ super-payload it in
-      ap super_in payload ∙ (spells (super_payload it) it (super_of-payload it (omega arith) (omega (arith, most)) (omega (arith, few)) (omega arith)
+      let payload : (cell_at X 0).payload ≡ super_payload it =
+      ap (λ (c : Cell). c.payload) (first ∙ first-cell blocks inodes) ∙ super-payload it in
+      ap super_in payload ∙ (spells (super_payload it) it
+      (super_of-payload it (omega arith) (omega (arith, most)) (omega (arith, few)) (omega arith)
       refl)).numbers
 
   module _ (cells : (b : ℕ) → b < blocks → cell_at X b ≡ formatted_cell blocks inodes b) where
@@ -89,20 +96,26 @@ module _ (X : Image) (device blocks inodes : ℕ) (g : IsGeometry device blocks 
     unfolding inode
     has-none i = go (is_inode X i) refl
       where
-        go : (b : Bool) → is_inode X i ≡ b → HasNone (cond b (record_at (cell_at X (1 + (i - 1) / 4)).payload ((i - 1) % 4)) free_record)
+        go : (b : Bool) → is_inode X i ≡ b
+            → HasNone (cond b (record_at (cell_at X (1 + (i - 1) / 4)).payload ((i - 1) % 4)) free_record)
         go true e =
             let most = leb-true i (super_at X).inodes (and_parts (leb 1 i) (leb i (super_at X).inodes) e).1 in
             let same : (super_at X).inodes ≡ inodes = ap (λ (q : SuperBlock). q.inodes) numbers-are in
             let table = g.table in
-            subst (λ (c : Cell). HasNone (record_at c.payload ((i - 1) % 4))) (sym (cells (1 + (i - 1) / 4) (omega (arith, most, same, table))))
+            subst (λ (c : Cell). HasNone (record_at c.payload ((i - 1) % 4)))
+            (sym (cells (1 + (i - 1) / 4) (omega (arith, most, same, table))))
             (cell-records blocks inodes (1 + (i - 1) / 4) ((i - 1) % 4) (omega arith) (omega arith))
         go false e = (refl, refl, refl)
 
     blank : IsBlank X
-    blank = record { mount = ap (λ (q : SuperBlock). q.mount) numbers-are; empty = λ i n lt. no-pointers (inode X i) n (has-none i) }
+    blank = record {
+      mount = ap (λ (q : SuperBlock). q.mount) numbers-are;
+      empty = λ i n lt. no-pointers (inode X i) n (has-none i);
+    }
 
 -- what was accepted is a geometry
-accepted-parts : (blocks inodes : ℕ) (old new : DiskState) → IsFormatted blocks inodes old new → IsGeometry old.blocks blocks inodes
+accepted-parts : (blocks inodes : ℕ) (old new : DiskState) → IsFormatted blocks inodes old new
+    → IsGeometry old.blocks blocks inodes
 unfolding is_geometry
 accepted-parts blocks inodes old new f = is_geometry-parts old.blocks blocks inodes (ap (λ o. is_none o) f.accepted)
 
@@ -133,5 +146,6 @@ first-disk old new blocks inodes told f q X p = blank X old.blocks blocks inodes
     cells b low =
         let n = sound.fits in
         let l = p.len in
-        let e : (super_at X).blocks ≡ blocks = ap (λ (s : SuperBlock). s.blocks) (numbers-are X old.blocks blocks inodes g first-is) in
+        let e : (super_at X).blocks ≡ blocks =
+        ap (λ (s : SuperBlock). s.blocks) (numbers-are X old.blocks blocks inodes g first-is) in
         cell-is b (omega (arith, low, n, l, e)) low

@@ -1,5 +1,6 @@
 -- The form of a history with one more entry, and what the calls of its entries come to.
-use Rattle.std.proofs.Common.{◌≡◌, ℕ, ◌+◌, ◌-◌, ◌*◌, ◌^◌, ◌≤◌, min, Bool, true, false, ◌||◌, cond, List, [], ◌∷◌, ◌++◌, length, ◌⊎◌, inl, inr, refl, sym, ap}
+use Rattle.std.proofs.Common.{◌≡◌, ℕ, ◌+◌, ◌-◌, ◌*◌, ◌^◌, ◌≤◌, min, Bool, true, false, ◌||◌, cond, List, [], ◌∷◌, ◌++◌}
+use Rattle.std.proofs.Common.{length, ◌⊎◌, inl, inr, refl, sym, ap}
 use Rattle.std.proofs.Common.{◌∙◌, subst, subst₂, arith}
 use Rattle.nofs_disk.specs.Disk.{DiskState, IsSameDisk}
 use Rattle.nofs_disk.specs.Chains.{IsSameDisk-refl}
@@ -33,20 +34,23 @@ pub safe-history : (k : Books) (h : HistoryState) (d : DiskState) → IsSafe d k
 safe-history k h d = safe-over d d k k.stopped h (IsSameDisk-refl d) refl
 
 -- the same mount with other room in its history
-pub mount-history : (found d : DiskState) (first : ℕ) (k : Books) (h : HistoryState) → h.start ≡ k.history.start → h.entries ≡ k.history.entries
+pub mount-history : (found d : DiskState) (first : ℕ) (k : Books) (h : HistoryState)
+    → h.start ≡ k.history.start → h.entries ≡ k.history.entries
     → IsMount found d first k → IsMount found d first (record k { history = h })
 mount-history found d first k h start entries m = record {
   safe = safe-history k h d m.safe;
   disk = m.disk;
   mounted = subst (λ (n : ℕ). IsMounted found d n k.at) (sym start) m.mounted;
   forms = subst₂ (λ (n : ℕ) (H : List Entry1). Forms n false H d.moment k.stopped) (sym start) (sym entries) m.forms;
-  counted = subst (λ (H : List Entry1). min (found.faults + faults_in H) (2 ^ 64 - 1) ≤ d.faults) (sym entries) m.counted;
+  counted = subst (λ (H : List Entry1). min (found.faults + faults_in H) (2 ^ 64 - 1) ≤ d.faults)
+      (sym entries) m.counted;
   stands = λ q. let s = m.stands q in record {
     past = s.past;
     base = subst (λ (n : ℕ). s.past.base ≡ d.was n) (sym start) s.base;
     serial = s.serial;
     raised = s.raised;
-    now = subst (λ (H : List Entry1). IsOpen d (record k { history = h }) H s.past ⊎ IsStopped d (record k { history = h }) H s.past) (sym entries)
+    now = subst (λ (H : List Entry1). IsOpen d (record k { history = h }) H s.past
+        ⊎ IsStopped d (record k { history = h }) H s.past) (sym entries)
         (go s.past s.now);
     sound = s.sound;
     rests = λ X p. subst (λ (H : List Entry1). IsAllowed s.past.base H d.moment X) (sym entries) (s.rests X p);
@@ -54,7 +58,8 @@ mount-history found d first k h start entries m = record {
 }
   where
     go : (p : Past) → IsOpen d k k.history.entries p ⊎ IsStopped d k k.history.entries p
-        → IsOpen d (record k { history = h }) k.history.entries p ⊎ IsStopped d (record k { history = h }) k.history.entries p
+        → IsOpen d (record k { history = h }) k.history.entries p
+        ⊎ IsStopped d (record k { history = h }) k.history.entries p
     go p (inl o) = inl (open-with d k h start k.history.entries p o)
     go p (inr o) = inr (stopped-with d k h start k.history.entries p o)
 
@@ -68,11 +73,15 @@ forms-later (e ∷ H) m b n c f =
     let later = f.0.later in
     omega (arith, rest, from, later)
 
-pub forms-append : (H : List Entry1) (m : ℕ) (b : Bool) (n : ℕ) (c : Bool) (e : Entry1) (end : ℕ) (last : Bool) → Forms m b H n c → IsNextEntry n c e
+pub forms-append : (H : List Entry1) (m : ℕ) (b : Bool) (n : ℕ) (c : Bool) (e : Entry1) (end : ℕ) (last : Bool)
+    → Forms m b H n c → IsNextEntry n c e
     → end ≡ e.to → last ≡ (c || is_write_fault e.reply) → Forms m b (H ++ e ∷ []) end last
-forms-append [] m b n c e end last f next is_end is_last =
-    (subst₂ (λ (k : ℕ) (t : Bool). IsNextEntry k t e) f.0 f.1 next, (is_end, is_last ∙ ap (λ (t : Bool). t || is_write_fault e.reply) f.1))
-forms-append (x ∷ H) m b n c e end last f next is_end is_last = (f.0, forms-append H x.to (b || is_write_fault x.reply) n c e end last f.1 next is_end is_last)
+forms-append [] m b n c e end last f next is_end is_last = (
+  subst₂ (λ (k : ℕ) (t : Bool). IsNextEntry k t e) f.0 f.1 next,
+  (is_end, is_last ∙ ap (λ (t : Bool). t || is_write_fault e.reply) f.1),
+)
+forms-append (x ∷ H) m b n c e end last f next is_end is_last =
+    (f.0, forms-append H x.to (b || is_write_fault x.reply) n c e end last f.1 next is_end is_last)
 
 pub faults-more : (H : List Entry1) (e : Entry1) → faults_in (H ++ e ∷ []) ≡ faults_in H + cond (is_fault e.reply) 1 0
 faults-more [] e = omega arith
@@ -95,7 +104,8 @@ pub memory-refused : (r : Reply) → is_out_of_memory r ≡ true → (is_refused
 memory-refused (reply.Refused refusal.OutOfMemory) e = (refl, refl)
 memory-refused _ e = cc
 
-pub faulty : (r : Reply) → is_fault r ≡ true → (r ≡ reply.Refused refusal.ReadFault) ⊎ (r ≡ reply.Refused refusal.WriteFault)
+pub faulty : (r : Reply) → is_fault r ≡ true → (r ≡ reply.Refused refusal.ReadFault)
+    ⊎ (r ≡ reply.Refused refusal.WriteFault)
 faulty (reply.Refused refusal.ReadFault) e = inl refl
 faulty (reply.Refused refusal.WriteFault) e = inr refl
 faulty _ e = cc
@@ -122,24 +132,28 @@ no-flushes : (a b : Bool) → b ≡ false → one_flush a b ≡ 0
 no-flushes true b e = rw e refl
 no-flushes false b e = refl
 
-pub calls-by : (old new : DiskState) (k : Books) (caller : ℕ) (s : Step) (c : Claims) (r : Reply) → NoOrder old new (MeetsOpen old k) s c r
+pub calls-by : (old new : DiskState) (k : Books) (caller : ℕ) (s : Step) (c : Claims) (r : Reply)
+    → NoOrder old new (MeetsOpen old k) s c r
     → Calls (entry caller old new s c r)
 calls-by old new k caller s c r (LeavesDisk none cells) = record {
   cells = 0;
   wrote = NoCell (inl none) refl;
-  took = (let m = cells.moment in let f : flushes_of (entry caller old new s c r) ≡ 0 = let t = quick r none in rw t refl in omega (arith, m, f));
+  took = (let m = cells.moment in let f : flushes_of (entry caller old new s c r) ≡ 0 = let t = quick r none in
+      rw t refl in omega (arith, m, f));
 }
 calls-by old new k caller s c r (FlushesAlone is late f) = record {
   cells = 0;
   wrote = NoCell (inr is) refl;
-  took = (let m = f.moment in let n : flushes_of (entry caller old new s c r) ≡ 1 = rw (late, is) refl in omega (arith, m, n));
+  took = (let m = f.moment in let n : flushes_of (entry caller old new s c r) ≡ 1 = rw (late, is) refl in
+      omega (arith, m, n));
 }
 calls-by old new k caller s c r (WritesAlone made w) = record {
   cells = length w.calls;
   wrote = Cells made (length w.row) w.count (prefix_length w.calls w.row w.first) (λ e. ap length (w.whole e));
   took = (
       let m = w.only.moment in
-      let f : flushes_of (entry caller old new s c r) ≡ 0 = no-flushes (takes_time r) (is_flush s) (no-flush s c (length w.row) w.count) in
+      let f : flushes_of (entry caller old new s c r) ≡ 0 =
+      no-flushes (takes_time r) (is_flush s) (no-flush s c (length w.row) w.count) in
       omega (arith, m, f)
       );
 }
@@ -152,5 +166,6 @@ only-calls (e ∷ H) m b n c f =
     record {
       cells = f.0.cells + rest.cells;
       wrote = (f.0.cells, rest.cells, f.0.wrote, rest.wrote, refl);
-      moment = (let from = f.0.from in let took = f.0.took in let more = rest.moment in omega (arith, from, took, more));
+      moment = (let from = f.0.from in let took = f.0.took in let more = rest.moment in
+          omega (arith, from, took, more));
     }

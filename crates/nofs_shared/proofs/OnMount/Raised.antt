@@ -17,7 +17,8 @@ use Rattle.nofs_crashlaw.specs.Lives.{HasSuperCell, Raised}
 version-of : (payload : List ℕ) → is_super payload ≡ true → is_version (super_in payload).version ≡ true
 unfolding is_super
 version-of payload e =
-    let numbers = (and_parts (has_magic payload) (is_version (super_in payload).version && is_none (rest_fault payload)) e).1 in
+    let numbers =
+    (and_parts (has_magic payload) (is_version (super_in payload).version && is_none (rest_fault payload)) e).1 in
     (and_parts (is_version (super_in payload).version) (is_none (rest_fault payload)) numbers).0
 
 -- the superblock of a sound image, raised
@@ -36,11 +37,13 @@ module _ (X : Image) (sound : IsSound X) where
       let b = g.most_blocks in
       let i = g.most_inodes in
       let m = sound.mount in
-      spells (super_payload (raised it)) (raised it) (super_of-payload (raised it) (version-small it.version version) (omega (arith, b)) (omega (arith, i))
+      spells (super_payload (raised it)) (raised it)
+      (super_of-payload (raised it) (version-small it.version version) (omega (arith, b)) (omega (arith, i))
       (omega (arith, m)) version)
 
   pub some : 0 < length X
-  some = let g = ((mountable-law X).1 sound.mountable).fits in let a = g.some_blocks in let b = g.fits in omega (arith, a, b)
+  some = let g = ((mountable-law X).1 sound.mountable).fits in let a = g.some_blocks in let b = g.fits in
+      omega (arith, a, b)
 
   module _ (Y : Image) (first : cell_at Y 0 ≡ super_cell (raised it)) where
     numbers-are : super_at Y ≡ raised it

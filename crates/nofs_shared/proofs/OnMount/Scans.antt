@@ -7,7 +7,8 @@ use Rattle.nofs_scan.specs.Laws.{AreExamined, IsFullScan}
 use Rattle.nofs_scan.proofs.OnLaws.{scanned}
 use Rattle.nofs_shared.specs.Mount.Invariant.{IsMount, IsSoundDisk}
 
-pub mount-scanned : (found d : DiskState) (first : ℕ) (k : Books) → IsDisk d → IsMount found d first k → IsSoundDisk found → k.stopped ≡ false
+pub mount-scanned : (found d : DiskState) (first : ℕ) (k : Books) → IsDisk d → IsMount found d first k
+    → IsSoundDisk found → k.stopped ≡ false
     → AreExamined k.history.entries k.at → IsFullScan d.now k
 mount-scanned found d first k is m q running all = go (m.stands q).past (m.stands q).now
   where

@@ -1,5 +1,6 @@
 -- A mount stands after each step.
-use Rattle.std.proofs.Common.{◌≡◌, ℕ, ◌+◌, ◌-◌, ◌^◌, ◌<◌, ◌≤◌, min, Bool, true, false, ◌||◌, cond, List, [], ◌∷◌, ◌++◌, IsTrue, ◌⊎◌, inl, inr, refl, sym, ap}
+use Rattle.std.proofs.Common.{◌≡◌, ℕ, ◌+◌, ◌-◌, ◌^◌, ◌<◌, ◌≤◌, min, Bool, true, false, ◌||◌, cond, List, [], ◌∷◌, ◌++◌}
+use Rattle.std.proofs.Common.{IsTrue, ◌⊎◌, inl, inr, refl, sym, ap}
 use Rattle.std.proofs.Common.{◌∙◌, subst, subst₂, arith, le_refl}
 use Rattle.std.proofs.lemmas.Bool.{cases_lt}
 use Rattle.nofs_disk.specs.Disk.{DiskState, IsSameDisk, KeepsCells, Picks, Rose}
@@ -38,7 +39,8 @@ abbrev pub Leads : DiskState → Books → Entry1 → List Entry1 → Past → T
 Leads new l e H p = (q : Past) × Moves p e q × (IsOpen new l (H ++ e ∷ []) q ⊎ IsStopped new l (H ++ e ∷ []) q)
 
 -- where the cells stay, an image picks from what was there
-pub picks-back : (old new : DiskState) → IsSameDisk old new → KeepsCells old new → (X : Image) → Picks new.may new.blocks X → Picks old.may old.blocks X
+pub picks-back : (old new : DiskState) → IsSameDisk old new → KeepsCells old new
+    → (X : Image) → Picks new.may new.blocks X → Picks old.may old.blocks X
 picks-back old new disk cells X p = subst₂ (λ (may : ℕ → List Cell) (n : ℕ). Picks may n X) cells.may disk.blocks p
 
 module _ (old new : DiskState) (k l : Books) (r : Reply) (g : IsSafeStep old k new l r) where
@@ -48,29 +50,34 @@ module _ (old new : DiskState) (k l : Books) (r : Reply) (g : IsSafeStep old k n
       go : (a : Bool) → k.stopped ≡ a → (b : Bool) → is_write_fault r ≡ b → (t : Bool) → l.stopped ≡ t → t ≡ (a || b)
       go true ea b eb t et = sym et ∙ g.cause.keeps ea
       go false ea true eb t et = sym et ∙ g.cause.fault (fault-is r eb)
-      go false ea false eb true et = absurd (let e = g.cause.stops ea et in let z : is_write_fault r ≡ true = ap is_write_fault e in cc (z, eb))
+      go false ea false eb true et =
+          absurd (let e = g.cause.stops ea et in let z : is_write_fault r ≡ true = ap is_write_fault e in cc (z, eb))
       go false ea false eb false et = refl
 
   took : takes_time r ≡ true → old.moment < new.moment
   took t = elim (takes-when r t) [ inl e ↦ g.cause.flush e | inr e ↦ (g.cause.write e).1 ]
 
-  rose : (f n : ℕ) → min (f + n) (2 ^ 64 - 1) ≤ old.faults → min (f + (n + cond (is_fault r) 1 0)) (2 ^ 64 - 1) ≤ new.faults
+  rose : (f n : ℕ)
+      → min (f + n) (2 ^ 64 - 1) ≤ old.faults → min (f + (n + cond (is_fault r) 1 0)) (2 ^ 64 - 1) ≤ new.faults
   rose f n le = go (is_fault r) refl
     where
       go : (b : Bool) → is_fault r ≡ b → min (f + (n + cond b 1 0)) (2 ^ 64 - 1) ≤ new.faults
       go false e = let q = g.disk.faults in omega (arith, le, q)
       go true e =
-          let up : Rose old.faults new.faults = elim (faulty r e) [ inl a ↦ g.cause.read a | inr b ↦ (g.cause.write b).0 ] in
+          let up : Rose old.faults new.faults =
+          elim (faulty r e) [ inl a ↦ g.cause.read a | inr b ↦ (g.cause.write b).0 ] in
           omega (arith, le, up)
 
-  mounted-on : (found : DiskState) (start : ℕ) (at : SuperBlock) → start ≤ old.moment → IsMounted found old start at → IsMounted found new start at
+  mounted-on : (found : DiskState) (start : ℕ) (at : SuperBlock) → start ≤ old.moment → IsMounted found old start at
+      → IsMounted found new start at
   mounted-on found start at low m = record {
     begun = m.begun;
     base = g.past.was start low ∙ m.base;
     before = λ n X from to left. m.before n X from to (g.past.no_more n X (omega (arith, low, to)) left);
     resting = λ e X p.
         let up = g.later in
-        m.resting (omega (arith, e, low, up)) X (picks-back old new g.disk (g.cause.still (omega (arith, e, low, up))) X p);
+        m.resting (omega (arith, e, low, up)) X
+        (picks-back old new g.disk (g.cause.still (omega (arith, e, low, up))) X p);
   }
 
   -- each image that picks from what a step may leave is allowed at its end
@@ -78,8 +85,10 @@ module _ (old new : DiskState) (k l : Books) (r : Reply) (g : IsSafeStep old k n
     abbrev here : Entry1
     here = entry caller old new s c r
 
-    rests-more : IsOpen old k H p ⊎ IsStopped old k H p → IsOpen new l (H ++ here ∷ []) q ⊎ IsStopped new l (H ++ here ∷ []) q
-        → ((X : Image) → Picks old.may old.blocks X → IsAllowed p.base H old.moment X) → (X : Image) → Picks new.may new.blocks X
+    rests-more : IsOpen old k H p ⊎ IsStopped old k H p
+        → IsOpen new l (H ++ here ∷ []) q ⊎ IsStopped new l (H ++ here ∷ []) q
+        → ((X : Image) → Picks old.may old.blocks X → IsAllowed p.base H old.moment X)
+        → (X : Image) → Picks new.may new.blocks X
         → IsAllowed q.base (H ++ here ∷ []) new.moment X
     rests-more was now rest X picks = elim (cases_lt old.moment new.moment) [
       | inl later ↦ rests-later H here old.moment new (all-by was) later refl q now X picks
@@ -116,7 +125,8 @@ module _ (found old new : DiskState) (first : ℕ) (k l : Books) (m : IsMount fo
       before = λ n X from to left. m.mounted.before n X from to (keep.past.no_more n X (omega (arith, low, to)) left);
       resting = λ e X p. m.mounted.resting (sym keep.cells.moment ∙ e) X (picks-back old new keep.disk keep.cells X p);
     };
-    forms = subst (λ (n : ℕ). Forms k.history.start false k.history.entries n k.stopped) (sym keep.cells.moment) m.forms;
+    forms = subst (λ (n : ℕ). Forms k.history.start false k.history.entries n k.stopped)
+        (sym keep.cells.moment) m.forms;
     counted = (let q = m.counted in let f = keep.disk.faults in omega (arith, q, f));
     stands = λ q. let st = m.stands q in record {
       past = st.past;
@@ -138,17 +148,20 @@ module _ (found old new : DiskState) (first : ℕ) (k l : Books) (m : IsMount fo
   -- where memory was wanting
   pub mount-none : (r : Reply) → IsSafeStep old k new l r → is_out_of_memory r ≡ true → IsMount found new first l
   mount-none r g mem = subst (λ (b : Books). IsMount found new first b) (sym (g.cause.memory mem))
-      (mount-still (record { disk = g.disk; past = g.past; cells = cells }) (subst (λ (b : Books). IsSafe new b) (g.cause.memory mem) g.safe))
+      (mount-still (record { disk = g.disk; past = g.past; cells = cells })
+      (subst (λ (b : Books). IsSafe new b) (g.cause.memory mem) g.safe))
     where
       cells : KeepsCells old new
       cells = let q = memory-refused r mem in g.cause.refused q.0 q.1
 
   -- what a step that goes as the machine's leads to
-  module _ (s : Step) (c : Claims) (r : Reply) (caller : ℕ) (g : Goes old k new l s c r) (mem : is_out_of_memory r ≡ false) where
+  module _ (s : Step) (c : Claims) (r : Reply) (caller : ℕ) (g : Goes old k new l s c r)
+      (mem : is_out_of_memory r ≡ false) where
     abbrev this : Entry1
     this = entry caller old new s c r
 
-    pub goes-leads : IsSoundDisk found → (p : Past) → IsOpen old k k.history.entries p ⊎ IsStopped old k k.history.entries p
+    pub goes-leads : IsSoundDisk found
+        → (p : Past) → IsOpen old k k.history.entries p ⊎ IsStopped old k k.history.entries p
         → Leads new l this k.history.entries p
     goes-leads q p (inr o) = (
       p,
@@ -165,20 +178,24 @@ module _ (found old new : DiskState) (first : ℕ) (k l : Books) (m : IsMount fo
         go false eb = let t = f.done mem eb in (t.0, t.1, inl t.2)
 
   -- one entry more
-  module _ (s : Step) (c : Claims) (r : Reply) (caller : ℕ) (g : IsSafeStep old k new l r) (order : NoOrder old new (MeetsOpen old k) s c r)
+  module _ (s : Step) (c : Claims) (r : Reply) (caller : ℕ) (g : IsSafeStep old k new l r)
+      (order : NoOrder old new (MeetsOpen old k) s c r)
       (mem : is_out_of_memory r ≡ false) where
     abbrev e : Entry1
     e = entry caller old new s c r
 
-    pub mount-more : (IsSoundDisk found → (st : MountStands found old first k) → Leads new l e k.history.entries st.past × Sounds found.moment new)
-        → (h : HistoryState) → h.start ≡ l.history.start → h.entries ≡ l.history.entries ++ e ∷ [] → IsMount found new first (record l { history = h })
+    pub mount-more : (IsSoundDisk found
+        → (st : MountStands found old first k) → Leads new l e k.history.entries st.past × Sounds found.moment new)
+        → (h : HistoryState) → h.start ≡ l.history.start → h.entries ≡ l.history.entries ++ e ∷ []
+        → IsMount found new first (record l { history = h })
     mount-more leads h start entries = record {
       safe = safe-history l h new g.safe;
       disk = IsSameDisk-trans found old new m.disk g.disk;
       mounted = subst₂ (λ (n : ℕ) (at : SuperBlock). IsMounted found new n at) (sym from) (sym g.at)
           (mounted-on old new k l r g found k.history.start k.at low m.mounted);
       forms = subst₂ (λ (n : ℕ) (H : List Entry1). Forms n false H new.moment l.stopped) (sym from) (sym all)
-          (forms-append k.history.entries k.history.start false old.moment k.stopped e new.moment l.stopped m.forms (record {
+          (forms-append k.history.entries k.history.start false old.moment k.stopped e new.moment l.stopped
+          m.forms (record {
             from = refl;
             later = g.later;
             takes = took old new k l r g;
@@ -189,7 +206,8 @@ module _ (found old new : DiskState) (first : ℕ) (k l : Books) (m : IsMount fo
             stopped_only = g.cause.not_stopped;
             memory = mem;
           }) refl (stopped-is old new k l r g));
-      counted = subst (λ (n : ℕ). min (found.faults + n) (2 ^ 64 - 1) ≤ new.faults) (sym (ap faults_in all ∙ faults-more k.history.entries e))
+      counted = subst (λ (n : ℕ). min (found.faults + n) (2 ^ 64 - 1) ≤ new.faults)
+          (sym (ap faults_in all ∙ faults-more k.history.entries e))
           (rose old new k l r g found.faults (faults_in k.history.entries) m.counted);
       stands = λ q.
           let st = m.stands q in
@@ -199,11 +217,14 @@ module _ (found old new : DiskState) (first : ℕ) (k l : Books) (m : IsMount fo
             base = a.0.1.base ∙ st.base ∙ sym (g.past.was k.history.start low) ∙ ap new.was (sym from);
             serial = a.0.1.first ∙ st.serial;
             raised = g.at ∙ st.raised;
-            now = subst (λ (H : List Entry1). IsOpen new (record l { history = h }) H a.0.0 ⊎ IsStopped new (record l { history = h }) H a.0.0) (sym all)
+            now = subst (λ (H : List Entry1). IsOpen new (record l { history = h }) H a.0.0
+                ⊎ IsStopped new (record l { history = h }) H a.0.0) (sym all)
                 (go a.0.0 a.0.2);
             sound = a.1;
-            rests = subst (λ (H : List Entry1). (X : Image) → Picks new.may new.blocks X → IsAllowed a.0.0.base H new.moment X) (sym all)
-                (rests-more old new k l r g caller s c k.history.entries st.past a.0.0 a.0.1.base st.now a.0.2 st.rests);
+            rests = subst (λ (H : List Entry1). (X : Image) → Picks new.may new.blocks X
+                → IsAllowed a.0.0.base H new.moment X) (sym all)
+                (rests-more old new k l r g caller s c k.history.entries st.past a.0.0 a.0.1.base st.now
+                a.0.2 st.rests);
           };
     }
       where
@@ -214,13 +235,19 @@ module _ (found old new : DiskState) (first : ℕ) (k l : Books) (m : IsMount fo
         all = entries ∙ ap (λ (x : HistoryState). x.entries ++ e ∷ []) g.history
 
         go : (p : Past) → IsOpen new l (k.history.entries ++ e ∷ []) p ⊎ IsStopped new l (k.history.entries ++ e ∷ []) p
-            → IsOpen new (record l { history = h }) (k.history.entries ++ e ∷ []) p ⊎ IsStopped new (record l { history = h }) (k.history.entries ++ e ∷ []) p
+            → IsOpen new (record l { history = h }) (k.history.entries ++ e ∷ []) p
+            ⊎ IsStopped new (record l { history = h }) (k.history.entries ++ e ∷ []) p
         go p (inl o) = inl (open-with new l h start (k.history.entries ++ e ∷ []) p o)
         go p (inr o) = inr (stopped-with new l h start (k.history.entries ++ e ∷ []) p o)
 
   -- so after a step of the mount
-  pub mount-goes : (s : Step) (c : Claims) (r : Reply) (caller : ℕ) (g : Goes old k new l s c r) (mem : is_out_of_memory r ≡ false)
-      → (h : HistoryState) → h.start ≡ l.history.start → h.entries ≡ l.history.entries ++ entry caller old new s c r ∷ []
+  pub mount-goes : (s : Step) (c : Claims) (r : Reply) (caller : ℕ) (g : Goes old k new l s c r)
+      (mem : is_out_of_memory r ≡ false)
+      → (h : HistoryState)
+      → h.start ≡ l.history.start → h.entries ≡ l.history.entries ++ entry caller old new s c r ∷ []
       → IsMount found new first (record l { history = h })
   mount-goes s c r caller g mem = mount-more s c r caller (goes-safely g) g.order mem
-      (λ q st. (goes-leads s c r caller g mem q st.past st.now, g.sound (told q) k.history.entries st.past st.now found.moment st.sound))
+      (λ q st. (
+        goes-leads s c r caller g mem q st.past st.now,
+        g.sound (told q) k.history.entries st.past st.now found.moment st.sound,
+      ))

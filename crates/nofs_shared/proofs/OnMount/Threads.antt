@@ -24,5 +24,7 @@ verdicts-send : IsSend verdicts.the_row
 verdicts-send = verdicts_sends.the_send
 
 pub evidence-send : (D : RattleType) (g : Disk.Ghosts D.Denot) → IsSend (evidence.the_row D g)
-evidence-send D g = declared_send (evidence.the_type D g)
-    (as_row_send (snapshot.the_field (core.the_row D)) (snapshot-send (core.the_row D)), (search sendable, (as_row_send verdicts.the_field verdicts-send, tt)))
+evidence-send D g = declared_send (evidence.the_type D g) (
+  as_row_send (snapshot.the_field (core.the_row D)) (snapshot-send (core.the_row D)),
+  (search sendable, (as_row_send verdicts.the_field verdicts-send, tt)),
+)

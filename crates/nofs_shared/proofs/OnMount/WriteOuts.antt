@@ -15,7 +15,8 @@ use Rattle.nofs_shared.specs.Mount.Invariant.{IsMount, IsMounted}
 use Rattle.nofs_shared.proofs.OnMount.Histories.{forms-later}
 use Rattle.nofs_shared.proofs.OnMount.Steps.{picks-back}
 
-module _ (found old new : DiskState) (first : ℕ) (k : Books) (result : Result (Option ℕ) OutFault) (out : WroteOne old new result)
+module _ (found old new : DiskState) (first : ℕ) (k : Books) (result : Result (Option ℕ) OutFault)
+    (out : WroteOne old new result)
     (m : IsMount found old first k) where
   began : k.history.start ≤ old.moment
   began = forms-later k.history.entries k.history.start false old.moment k.stopped m.forms
@@ -56,7 +57,8 @@ module _ (found old new : DiskState) (first : ℕ) (k : Books) (result : Result 
   }
     where
       go : (p : Past) → ((X : Image) → Picks old.may old.blocks X → IsAllowed p.base k.history.entries old.moment X)
-          → IsOpen old k k.history.entries p ⊎ IsStopped old k k.history.entries p → IsOpen new k k.history.entries p ⊎ IsStopped new k k.history.entries p
+          → IsOpen old k k.history.entries p ⊎ IsStopped old k k.history.entries p
+          → IsOpen new k k.history.entries p ⊎ IsStopped new k k.history.entries p
       go p rest (inl o) = inl (open-out old new result out k k.history.entries p rest o)
       go p rest (inr o) = inr (stopped-out old new result out k k.history.entries p rest o)
 

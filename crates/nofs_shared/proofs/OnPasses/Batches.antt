@@ -19,7 +19,8 @@ use Rattle.nofs_shared.specs.Mount.Commits.{CommitRan}
 use Rattle.nofs_shared.specs.Passes.Entries.{TellsStep}
 use Rattle.nofs_shared.specs.Passes.Seats.{SameSeat}
 
-module _ {F Out : Type 0} (tells : F → List Entry1 → List Entry1 → Out → Type 0) (v w : View Entry1 F) (out : Out) (h : Ran tells v w out) where
+module _ {F Out : Type 0} (tells : F → List Entry1 → List Entry1 → Out → Type 0) (v w : View Entry1 F) (out : Out)
+    (h : Ran tells v w out) where
   -- the seat stays
   pub seat-stays : SameSeat v w
   seat-stays = record {
@@ -27,7 +28,8 @@ module _ {F Out : Type 0} (tells : F → List Entry1 → List Entry1 → Out →
     start = ap (λ (u : View Entry1 F). u.start) h.now;
     seats = ap (λ (u : View Entry1 F). u.seats) h.now;
     stands = ap (λ (u : View Entry1 F). u.stands) h.now;
-    seen = subst (λ l. IsPrefix v.seen l) (sym (ap (λ (u : View Entry1 F). u.seen) h.now)) (prefix_trans v.seen h.before h.after h.begins h.keeps);
+    seen = subst (λ l. IsPrefix v.seen l) (sym (ap (λ (u : View Entry1 F). u.seen) h.now))
+        (prefix_trans v.seen h.before h.after h.begins h.keeps);
   }
 
   -- it looked at the turn
@@ -38,31 +40,37 @@ module _ {F Out : Type 0} (tells : F → List Entry1 → List Entry1 → Out →
   pub mine-stays : h.after ≡ h.before → w.mine ≡ v.mine
   mine-stays same = ap (λ (u : View Entry1 F). u.mine) h.now
       ∙ ap (λ (l : List Entry1). v.mine ++ numbered (length h.before) (drop (length h.before) l)) same
-      ∙ ap (λ (l : List Entry1). v.mine ++ numbered (length h.before) l) (drop_all (length h.before) h.before (le_refl (length h.before)))
+      ∙ ap (λ (l : List Entry1). v.mine ++ numbered (length h.before) l)
+      (drop_all (length h.before) h.before (le_refl (length h.before)))
       ∙ append-nil v.mine
 
   -- what is known of the list that was left
   pub knows-left : (P : F → List Entry1 → Type 0) → P h.part h.after → MayRun P w
   knows-left P p f e =
       let same : Some f ≡ Some h.part = sym e ∙ ap (λ (u : View Entry1 F). u.fixed) h.now ∙ h.same_part in
-      subst (λ (l : List Entry1). P f l) (sym (ap (λ (u : View Entry1 F). u.seen) h.now)) (subst (λ (x : F). P x h.after) (sym (some-is f h.part same)) p)
+      subst (λ (l : List Entry1). P f l) (sym (ap (λ (u : View Entry1 F). u.seen) h.now))
+      (subst (λ (x : F). P x h.after) (sym (some-is f h.part same)) p)
     where
       some-is : (a b : F) → Some a ≡ Some b → a ≡ b
       some-is a b q = cc q
 
 -- what stays with each entry is known on
-pub knows-on : {F : Type 0} (P : F → List Entry1 → Type 0) (more : (f : F) (xs ys : List Entry1) → P f xs → P f (xs ++ ys)) (v w : View Entry1 F)
+pub knows-on : {F : Type 0} (P : F → List Entry1 → Type 0)
+    (more : (f : F) (xs ys : List Entry1) → P f xs → P f (xs ++ ys)) (v w : View Entry1 F)
     → SameSeat v w → MayRun P v → MayRun P w
-knows-on P more v w same may f e = subst (λ (l : List Entry1). P f l) same.seen.1 (more f v.seen same.seen.0 (may f (sym same.fixed ∙ e)))
+knows-on P more v w same may f e =
+    subst (λ (l : List Entry1). P f l) same.seen.1 (more f v.seen same.seen.0 (may f (sym same.fixed ∙ e)))
 
 -- what a look gave, as the pass knows it
-pub knows-looked : {F A B : Type 0} (tells : F → List Entry1 → List Entry1 → Result A B → Type 0) (P : A → F → List Entry1 → Type 0) (v w : View Entry1 F)
+pub knows-looked : {F A B : Type 0} (tells : F → List Entry1 → List Entry1 → Result A B → Type 0)
+    (P : A → F → List Entry1 → Type 0) (v w : View Entry1 F)
     (r : Result A B) (h : Ran tells v w r) → IfOk r (λ e. P e h.part h.after) → IfOk r (λ e. MayRun (P e) w)
 knows-looked tells P v w (Ok e) h p = knows-left tells v w (Ok e) h (P e) p
 knows-looked tells P v w (Err x) h p = tt
 
 -- what a commit tells: its step, and what it says of the list that it met
-module _ {F : Type 0} (commits : F → List Entry1 → Reply → Type 0) (caller : ℕ) (s : Step) (v w : View Entry1 F) (r : Reply)
+module _ {F : Type 0} (commits : F → List Entry1 → Reply → Type 0) (caller : ℕ) (s : Step)
+    (v w : View Entry1 F) (r : Reply)
     (h : Ran (λ f xs ys q. TellsStep caller s xs ys q × commits f xs q) v w r) where
   pub commit-step : Ran (λ f xs ys q. TellsStep caller s xs ys q) v w r
   commit-step = record {
@@ -86,7 +94,8 @@ module _ {F : Type 0} (commits : F → List Entry1 → Reply → Type 0) (caller
     fixed = h.same_part;
     begins = h.begins;
     keeps = subst (λ (l : List Entry1). IsPrefix h.before l) (sym (ap (λ (u : View Entry1 F). u.seen) h.now)) h.keeps;
-    at_most_one = subst (λ (l : List Entry1). length l ≤ length h.before + 1) (sym (ap (λ (u : View Entry1 F). u.seen) h.now)) h.at_most_one;
+    at_most_one = subst (λ (l : List Entry1). length l ≤ length h.before + 1)
+        (sym (ap (λ (u : View Entry1 F). u.seen) h.now)) h.at_most_one;
     says = h.told.1;
   }
 

@@ -1,5 +1,6 @@
 -- What a step under the turn adds to the caller's own entries.
-use Rattle.std.proofs.Common.{◌≡◌, ℕ, ◌+◌, ◌%◌, ◌<◌, ◌≤◌, length-append, eqb, eq-eqb, Bool, true, false, ◌&&◌, List, [], ◌∷◌, ◌++◌, length, Result, Ok, Err}
+use Rattle.std.proofs.Common.{◌≡◌, ℕ, ◌+◌, ◌%◌, ◌<◌, ◌≤◌, length-append, eqb, eq-eqb, Bool, true, false, ◌&&◌, List, []}
+use Rattle.std.proofs.Common.{◌∷◌, ◌++◌, length, Result, Ok, Err}
 use Rattle.std.proofs.Common.{IfOk, IfErr, refl, sym, ap, ◌∙◌, subst, arith}
 use Rattle.std.proofs.lemmas.List.{append-nil}
 use mathlib.Core.List.{IsPrefix}
@@ -43,7 +44,8 @@ news c s r H K a = go (is_out_of_memory r) refl
           made = λ xs n. ap (λ (m : Made). xs ++ m ∷ []) (λ i. (o.3 i, o.4 i)) ∙ sym (rw e refl);
         }
 
-all_by-append : (c : ℕ) (xs ys : List (ℕ × Entry1)) → all_by c xs ≡ true → all_by c ys ≡ true → all_by c (xs ++ ys) ≡ true
+all_by-append : (c : ℕ) (xs ys : List (ℕ × Entry1))
+    → all_by c xs ≡ true → all_by c ys ≡ true → all_by c (xs ++ ys) ≡ true
 all_by-append c [] ys e k = k
 all_by-append c (x ∷ xs) ys e k = both (is_by c x.1) (all_by c xs) e (λ h. all_by-append c xs ys h k)
   where
@@ -55,7 +57,8 @@ own_steps-append : (xs ys : List (ℕ × Entry1)) → own_steps (xs ++ ys) ≡ o
 own_steps-append [] ys = refl
 own_steps-append (x ∷ xs) ys = λ i. done_of x.1 ∷ own_steps-append xs ys i
 
-module _ {F : Type 0} (c : ℕ) (s : Step) (r : Reply) (v w : View Entry1 F) (h : Ran (λ (f : F) xs ys q. TellsStep c s xs ys q) v w r) where
+module _ {F : Type 0} (c : ℕ) (s : Step) (r : Reply) (v w : View Entry1 F)
+    (h : Ran (λ (f : F) xs ys q. TellsStep c s xs ys q) v w r) where
   new_ones : News c s r h.before h.after
   new_ones = news c s r h.before h.after h.told.adds
 
@@ -68,7 +71,8 @@ module _ {F : Type 0} (c : ℕ) (s : Step) (r : Reply) (v w : View Entry1 F) (h 
       (all_by-append c v.mine (numbered (length h.before) new_ones.more) e (new_ones.owned (length h.before)))
 
   pub ran_made : own_steps w.mine ≡ with_made (own_steps v.mine) s r
-  ran_made = ap own_steps mine_is ∙ (own_steps-append v.mine (numbered (length h.before) new_ones.more) ∙ new_ones.made (own_steps v.mine) (length h.before))
+  ran_made = ap own_steps mine_is ∙ (own_steps-append v.mine (numbered (length h.before) new_ones.more)
+      ∙ new_ones.made (own_steps v.mine) (length h.before))
 
   pub ran_same : SameSeat v w
   ran_same = record {
@@ -76,21 +80,26 @@ module _ {F : Type 0} (c : ℕ) (s : Step) (r : Reply) (v w : View Entry1 F) (h 
     start = ap (λ (u : View Entry1 F). u.start) h.now;
     seats = ap (λ (u : View Entry1 F). u.seats) h.now;
     stands = ap (λ (u : View Entry1 F). u.stands) h.now;
-    seen = subst (λ l. IsPrefix v.seen l) (sym (ap (λ (u : View Entry1 F). u.seen) h.now)) (prefix_trans v.seen h.before h.after h.begins h.keeps);
+    seen = subst (λ l. IsPrefix v.seen l) (sym (ap (λ (u : View Entry1 F). u.seen) h.now))
+        (prefix_trans v.seen h.before h.after h.begins h.keeps);
   }
 
 -- the same of a try
-pub tried_owns : {B F : Type 0} (Same : B → Type 0) (c : ℕ) (s : Step) (res : Result Reply B) (word : B → ℕ) (v w : View Entry1 F)
-    → IfOk res (Ran (λ (f : F) xs ys q. TellsStep c s xs ys q) v w) → IfErr res (λ b. Same b × (word b % 2 ≡ 1) × (w ≡ looked v (word b)))
+pub tried_owns : {B F : Type 0} (Same : B → Type 0) (c : ℕ) (s : Step) (res : Result Reply B) (word : B → ℕ)
+    (v w : View Entry1 F)
+    → IfOk res (Ran (λ (f : F) xs ys q. TellsStep c s xs ys q) v w)
+    → IfErr res (λ b. Same b × (word b % 2 ≡ 1) × (w ≡ looked v (word b)))
     → all_by c v.mine ≡ true → all_by c w.mine ≡ true
 tried_owns Same c s (Ok r) word v w ok err e = ran_owns c s r v w ok e
-tried_owns {F = F} Same c s (Err b) word v w ok err e = subst (λ (u : View Entry1 F). all_by c u.mine ≡ true) (sym err.2) e
+tried_owns {F = F} Same c s (Err b) word v w ok err e =
+    subst (λ (u : View Entry1 F). all_by c u.mine ≡ true) (sym err.2) e
 
 -- a history grows by one entry at most
 pub adds-prefix : (c : ℕ) (s : Step) (r : Reply) (H K : List Entry1) → AddsStep c s r H K → IsPrefix H K
 adds-prefix c s r H K a = let n = news c s r H K a in (n.more, n.whole)
 
-pub adds-few : (c : ℕ) (s : Step) (r : Reply) (H K : List Entry1) → AddsStep c s r H K → (n : ℕ) → length H < n → length K ≤ n
+pub adds-few : (c : ℕ) (s : Step) (r : Reply) (H K : List Entry1) → AddsStep c s r H K
+    → (n : ℕ) → length H < n → length K ≤ n
 adds-few c s r H K a n low = go (is_out_of_memory r) refl
   where
     go : (b : Bool) → is_out_of_memory r ≡ b → length K ≤ n

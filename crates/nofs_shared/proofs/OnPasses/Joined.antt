@@ -12,7 +12,8 @@ pub chosen_by : (c : ℕ) (m : List (ℕ × Entry1)) → all_by c m ≡ true →
 chosen_by c [] e = refl
 chosen_by c (x ∷ m) e = both (is_by c x.1) e (λ h. chosen_by c m h)
   where
-    both : (b : Bool) → b && all_by c m ≡ true → (all_by c m ≡ true → chosen (is_by c) m ≡ m) → cond b (x ∷ chosen (is_by c) m) (chosen (is_by c) m) ≡ x ∷ m
+    both : (b : Bool) → b && all_by c m ≡ true → (all_by c m ≡ true → chosen (is_by c) m ≡ m)
+        → cond b (x ∷ chosen (is_by c) m) (chosen (is_by c) m) ≡ x ∷ m
     both true h more = λ i. x ∷ more h i
     both false h more = absurd (cc)
 

@@ -22,7 +22,8 @@ pub record IsPrepared (d : DiskState) (it : Prepared) : Type 0 where
 pub record IsMountRefused (old new : DiskState) (why : MountFault) : Type 0 where
   pub no_write : why ≢ fault.WriteFault
   pub read : why ≡ fault.ReadFault → Rose old.faults new.faults
-  pub table : why ≢ fault.ReadFault → why ≢ fault.OutOfMemory → 0 < old.blocks → IsTrue old.tells → Err why ≡ check_super old.blocks (cell_at old.now 0).payload
+  pub table : why ≢ fault.ReadFault → why ≢ fault.OutOfMemory → 0 < old.blocks → IsTrue old.tells
+      → Err why ≡ check_super old.blocks (cell_at old.now 0).payload
 
 pub record Prepares (old new : DiskState) (result : Result Prepared MountFault) : Type 0 where
   pub disk : IsSameDisk old new

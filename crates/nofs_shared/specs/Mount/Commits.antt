@@ -32,15 +32,18 @@ pub record SeesVerdict (k l : Books) (kind : ElementKind) (item : ℕ) (used : B
   pub books : l ≡ with_history settled l.history
 
 -- A verdict of an earlier state of the mount over the disk `found` is committed. `d` is the disk at the commit
-pub record IsCommit (found d : DiskState) (k l : Books) (kind : ElementKind) (item : ℕ) (used : Bool) (r : Reply) : Type 0 where
+pub record IsCommit (found d : DiskState) (k l : Books) (kind : ElementKind) (item : ℕ) (used : Bool)
+    (r : Reply) : Type 0 where
   -- the answer is Stopped exactly where a write failed, and else the verdict that stands
   pub stopped : k.stopped ≡ true → is_out_of_memory r ≡ false → r ≡ reply.Refused refusal.Stopped
   pub seen : k.stopped ≡ false → is_out_of_memory r ≡ false → SeesVerdict k l kind item used r
   -- the answer is that of the scan of the disk as it is now, whatever was done since the element was looked at
   pub right : IsSoundDisk found → (v : Bool) → r ≡ reply.Seen v → v ≡ is_used kind d.now item
 
--- the mount over `found`, whose history had these entries, met a commit in some state, and the commit says of it what `IsCommit` says
-pub record CommitsAt {D : Type 0} (state : D → DiskState) (found : D) (first : ℕ) (H : List Entry1) (kind : ElementKind) (item : ℕ) (used : Bool) (r : Reply)
+-- the mount over `found`, whose history had these entries, met a commit in some state, and the commit says of it what
+-- `IsCommit` says
+pub record CommitsAt {D : Type 0} (state : D → DiskState) (found : D) (first : ℕ) (H : List Entry1) (kind : ElementKind)
+    (item : ℕ) (used : Bool) (r : Reply)
     : Type 0
   where
     pub met : D
@@ -50,9 +53,11 @@ pub record CommitsAt {D : Type 0} (state : D → DiskState) (found : D) (first :
     pub history : before.history.entries ≡ H
     pub commit : IsCommit (state found) (state met) before after kind item used r
 
--- A pass committed: the list of entries that the commit met begins with all that the pass had seen, at most one entry follows it, and
--- what a commit says is said of that list
-pub record CommitRan {F : Type 0} (commits : F → List Entry1 → Reply → Type 0) (v w : View Entry1 F) (r : Reply) : Type 0 where
+-- A pass committed: the list of entries that the commit met begins with all that the pass had seen, at most one entry
+-- follows it, and what a commit says is said of that list
+pub record CommitRan {
+    F : Type 0
+    } (commits : F → List Entry1 → Reply → Type 0) (v w : View Entry1 F) (r : Reply) : Type 0 where
   pub part : F
   pub before : List Entry1
   pub fixed : v.fixed ≡ Some part

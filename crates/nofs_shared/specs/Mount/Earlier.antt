@@ -9,7 +9,8 @@ use Rattle.nofs_turn.proofs.OnLists.Words.{prefix_trans}
 use Rattle.nofs_shared.specs.Mount.Invariant.{IsMount}
 
 -- the mount of these numbers stood open in this state, which came before the entries H or between them
-pub record IsEarlier (found early : DiskState) (k : Books) (first start : ℕ) (at : SuperBlock) (H : List Entry1) : Type 0 where
+pub record IsEarlier (found early : DiskState) (k : Books) (first start : ℕ) (at : SuperBlock)
+    (H : List Entry1) : Type 0 where
   pub stood : ∥ IsMount found early first k ∥₁
   pub going : k.stopped ≡ false
   pub begun : k.history.start ≡ start
@@ -24,19 +25,25 @@ pub record IsOfBooks (early k : Books) : Type 0 where
   pub begins : IsPrefix early.history.entries k.history.entries
 
 -- so it is when more entries came
-pub earlier-more : {found early : DiskState} {k : Books} {first start : ℕ} {at : SuperBlock} {H : List Entry1} → IsEarlier found early k first start at H
+pub earlier-more : {found early : DiskState} {k : Books} {first start : ℕ} {at : SuperBlock} {H : List Entry1}
+    → IsEarlier found early k first start at H
     → (K : List Entry1) → IsEarlier found early k first start at (H ++ K)
 earlier-more {k = k} {H = H} e K = record {
   stood = e.stood;
   going = e.going;
   begun = e.begun;
   numbers = e.numbers;
-  begins = (e.begins.0 ++ K, sym (append_assoc k.history.entries e.begins.0 K) ∙ ap (λ (L : List Entry1). L ++ K) e.begins.1);
+  begins = (
+    e.begins.0 ++ K,
+    sym (append_assoc k.history.entries e.begins.0 K) ∙ ap (λ (L : List Entry1). L ++ K) e.begins.1,
+  );
 }
 
 -- in a later state of the same mount
-pub earlier-on : {found early : DiskState} {k : Books} {first start : ℕ} {at : SuperBlock} {H : List Entry1} → IsEarlier found early k first start at H
-    → (from : ℕ) (numbers : SuperBlock) (K : List Entry1) → from ≡ start → numbers ≡ at → IsPrefix H K → IsEarlier found early k first from numbers K
+pub earlier-on : {found early : DiskState} {k : Books} {first start : ℕ} {at : SuperBlock} {H : List Entry1}
+    → IsEarlier found early k first start at H
+    → (from : ℕ) (numbers : SuperBlock) (K : List Entry1) → from ≡ start → numbers ≡ at → IsPrefix H K
+    → IsEarlier found early k first from numbers K
 earlier-on {k = k} e from numbers K begun same longer = record {
   stood = e.stood;
   going = e.going;

@@ -22,9 +22,11 @@ pub record EntryClaimsFree (W : World) (e : Entry1) : Type 0 where
 
 -- each entry of a run claims so
 abbrev pub AllClaimsFree : ℕ → World → List Entry1 → Type 0
-AllClaimsFree start W H = (before after : List Entry1) (e : Entry1) → H ≡ before ++ e ∷ after → (U : World) × Run start W before U × EntryClaimsFree U e
+AllClaimsFree start W H = (before after : List Entry1) (e : Entry1)
+    → H ≡ before ++ e ∷ after → (U : World) × Run start W before U × EntryClaimsFree U e
 
--- What the history and the images of the disk say. `found` is the disk as the mount found it, `last` the disk at its end
+-- What the history and the images of the disk say. `found` is the disk as the mount found it, `last` the disk at its
+-- end
 pub record Contents (found last : DiskState) (first : ℕ) (h : HistoryState) : Type 0 where
   -- the base is the disk that was found, with the mount number raised
   pub base : Image
@@ -36,14 +38,16 @@ pub record Contents (found last : DiskState) (first : ℕ) (h : HistoryState) : 
   -- at each moment since the mount, a crash leaves only what is allowed then
   pub allowed : (m : ℕ) (X : Image) → h.start ≤ m → m ≤ last.moment → last.left m X → IsAllowed base h.entries m X
   -- and before it, the disk as it was found but for block 0
-  pub before : (m : ℕ) (X : Image) → found.moment ≤ m → m ≤ h.start → last.left m X → IsFound (raised (super_at found.now)) found X
+  pub before : (m : ℕ) (X : Image) → found.moment ≤ m → m ≤ h.start → last.left m X
+      → IsFound (raised (super_at found.now)) found X
   -- what is claimed had no owner
   pub claims : AllClaimsFree h.start (world_of base first) h.entries
   -- the next mount finds a sound disk, whenever this one ends
   pub sound : (m : ℕ) (X : Image) → found.moment ≤ m → m ≤ last.moment → last.left m X → IsSound X
   pub next : (X : Image) → Picks last.may last.blocks X → IsSound X
 
--- What a mount gives at its end: the form of the history over any disk, and the contents over one that tells and was found sound
+-- What a mount gives at its end: the form of the history over any disk, and the contents over one that tells and was
+-- found sound
 pub record Ends (found last : DiskState) (first : ℕ) (h : HistoryState) : Type 0 where
   pub disk : IsSameDisk found last
   pub began : h.start ≡ found.moment + 4

@@ -11,8 +11,10 @@ use Rattle.nofs_history.specs.declared.machine.replies.Reply.{Reply}
 -- nothing where memory was wanting, and else one entry of this caller, with its step and its reply
 pub record AddsStep (caller : ℕ) (s : Step) (r : Reply) (H K : List Entry1) : Type 0 where
   pub none : is_out_of_memory r ≡ true → K ≡ H
-  pub one : is_out_of_memory r ≡ false → (e : Entry1) × (K ≡ H ++ e ∷ []) × (e.caller ≡ caller) × (e.step ≡ s) × (e.reply ≡ r)
+  pub one : is_out_of_memory r ≡ false → (e : Entry1) × (K ≡ H ++ e ∷ []) × (e.caller ≡ caller)
+      × (e.step ≡ s) × (e.reply ≡ r)
 
 -- no block that the new entry claims had an owner on the disk before the step
 abbrev pub Unowned : Image → List Entry1 → List Entry1 → Type 0
-Unowned X H K = (e : Entry1) → K ≡ H ++ e ∷ [] → (x : Pointer) → Contains (claimed_blocks e.claims) x → owner X x.block ≡ None
+Unowned X H K = (e : Entry1) → K ≡ H ++ e ∷ [] → (x : Pointer) → Contains (claimed_blocks e.claims) x
+    → owner X x.block ≡ None

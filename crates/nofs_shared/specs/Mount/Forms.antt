@@ -11,7 +11,8 @@ use Rattle.nofs_state.specs.Cores.Steps.{WritesSoMany, is_flush, makes_calls}
 -- in an entry so many cells were written: those of its step, and perhaps fewer where a write failed
 pub data Wrote (e : Entry1) (n : ℕ) : Type 0 where
   NoCell : (makes_calls e.reply ≡ false) ⊎ (is_flush e.step ≡ true) → n ≡ 0 → Wrote e n
-  Cells : makes_calls e.reply ≡ true → (row : ℕ) → WritesSoMany e.step e.claims row → n ≤ row → (is_write_fault e.reply ≡ false → n ≡ row) → Wrote e n
+  Cells : makes_calls e.reply ≡ true → (row : ℕ) → WritesSoMany e.step e.claims row
+      → n ≤ row → (is_write_fault e.reply ≡ false → n ≡ row) → Wrote e n
 
 -- the flush of a Flush
 abbrev pub flushes_of : Entry1 → ℕ
@@ -33,7 +34,8 @@ pub record IsNextEntry (moment : ℕ) (stopped : Bool) (e : Entry1) : Type 0 whe
 -- each entry begins at the moment at which the one before ended; Stopped comes exactly after a fault of writing
 abbrev pub Forms : ℕ → Bool → List Entry1 → ℕ → Bool → Type 0
 Forms moment stopped [] end last = (end ≡ moment) × (last ≡ stopped)
-Forms moment stopped (e ∷ es) end last = IsNextEntry moment stopped e × Forms e.to (stopped || is_write_fault e.reply) es end last
+Forms moment stopped (e ∷ es) end last = IsNextEntry moment stopped e
+    × Forms e.to (stopped || is_write_fault e.reply) es end last
 
 -- in how many steps the device failed
 abbrev pub faults_in : List Entry1 → ℕ
@@ -50,7 +52,8 @@ abbrev pub flushes_in : List Entry1 → ℕ
 flushes_in [] = 0
 flushes_in (e ∷ es) = flushes_of e + flushes_in es
 
--- NO OTHER CALL. From one moment to another the device wrote the cells of these entries, one call a cell, and made the flushes of their Flush steps
+-- NO OTHER CALL. From one moment to another the device wrote the cells of these entries, one call a cell, and made the
+-- flushes of their Flush steps
 pub record OnlyCalls (from to : ℕ) (H : List Entry1) : Type 0 where
   pub cells : ℕ
   pub wrote : WroteTotal H cells

@@ -19,7 +19,8 @@ pub record IsSoundDisk (d : DiskState) : Type 0 where
 
 -- an image of the disk as it was found, but that block 0 may have the raised superblock
 abbrev pub IsFound : SuperBlock → DiskState → Image → Type 0
-IsFound at found X = (length X ≡ found.blocks) × ((b : ℕ) → b < found.blocks → WasOr (IsSuperCell at) found b (cell_at X b))
+IsFound at found X = (length X ≡ found.blocks)
+    × ((b : ℕ) → b < found.blocks → WasOr (IsSuperCell at) found b (cell_at X b))
 
 -- The mount: the base is the disk that was found with the raised superblock, and until the first step a crash leaves
 -- an image of the disk as it was found, but for block 0
@@ -41,7 +42,8 @@ pub record MountStands (found d : DiskState) (first : ℕ) (k : Books) : Type 0 
   -- each image that picks from what may be left is allowed now: so it stays when a crash may leave it
   pub rests : (X : Image) → Picks d.may d.blocks X → IsAllowed past.base k.history.entries d.moment X
 
--- the invariant of a mount over the disk `found`: the first parts over any disk, the last one over a disk that tells and was found sound
+-- the invariant of a mount over the disk `found`: the first parts over any disk, the last one over a disk that tells
+-- and was found sound
 pub record IsMount (found d : DiskState) (first : ℕ) (k : Books) : Type 0 where
   pub safe : IsSafe d k
   pub disk : IsSameDisk found d

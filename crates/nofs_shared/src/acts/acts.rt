@@ -51,7 +51,8 @@ fn get_content<D: Disk + Drop>(
 /// only read, and may be taken as one that found no memory.
 pub(crate) fn act<D: Disk + Drop>(core: &mut Core<D>, alloc: Global, step: &Step) -> Acted
     requires { IsSafe (D.state core.old.disk) core.old.books }
-    ensures goes { Goes (D.state core.old.disk) core.old.books (D.state core.new.disk) core.new.books step.now result.claims result.reply }
+    ensures goes { Goes (D.state core.old.disk) core.old.books
+        (D.state core.new.disk) core.new.books step.now result.claims result.reply }
     ensures memory { reads_content step.now ≡ true → Goes (D.state core.old.disk) core.old.books
         (D.state core.new.disk) core.new.books step.now no_claims (reply.Refused refusal.OutOfMemory) }
     ensures fits { Fits step.now result.reply }

@@ -85,13 +85,13 @@ fn commit_in<D: Disk + Drop>(
 }
 
 impl<D: Disk + Drop> Mount<D> {
-    /// Looks at 1 to 64 elements. It makes no entry, and changes no verdict: each is committed later. What it finds of inodes on the
-    /// ways up, which are agreed and which are not, the mount knows from then on.
+    /// Looks at 1 to 64 elements. It makes no entry, and changes no verdict: each is committed later. What it finds of
+    /// inodes on the ways up, which are agreed and which are not, the mount knows from then on.
     ///
     /// # Errors
     ///
-    /// `BadRange` only where some element is not on the disk; `Stopped` where a write failed before; `ReadFault` only where the
-    /// device's count of faults rose; `OutOfMemory`.
+    /// `BadRange` only where some element is not on the disk; `Stopped` where a write failed before; `ReadFault` only
+    /// where the device's count of faults rose; `OutOfMemory`.
     pub fn look_batch(
         &mut self,
         alloc: Global,
@@ -102,10 +102,13 @@ impl<D: Disk + Drop> Mount<D> {
         ensures same { (self.new.core.books ≡ with_agreement self.old.core.books self.new.core.books.agreement)
             × (self.new.found ≡ self.old.found) × (self.new.first ≡ self.old.first) × (self.new.kept ≡ self.old.kept) }
         ensures stays { StaysButFaults (D.state self.old.core.disk) (D.state self.new.core.disk) }
-        ensures refused { IfErr result (batches.BatchFails (D.state self.old.core.disk) self.old.core.books (D.state self.new.core.disk) kind items.now) }
+        ensures refused { IfErr result (batches.BatchFails (D.state self.old.core.disk) self.old.core.books
+            (D.state self.new.core.disk) kind items.now) }
         ensures asked { IfOk result (λ evidence. (evidence.kind ≡ kind) × (items_of evidence.verdicts ≡ items.now)) }
-        ensures own { IfOk result (λ evidence. IsEarlier (D.state self.new.found.value) (D.state evidence.core.value.disk) evidence.core.value.books
-            self.new.first self.new.core.books.history.start self.new.core.books.at self.new.core.books.history.entries) }
+        ensures own { IfOk result (λ evidence. IsEarlier (D.state self.new.found.value)
+            (D.state evidence.core.value.disk) evidence.core.value.books
+            self.new.first self.new.core.books.history.start self.new.core.books.at
+            self.new.core.books.history.entries) }
     {
         if !are_elements(kind, &self.core.books.at, items) {
             return Err(Refusal::BadRange);
@@ -124,20 +127,26 @@ impl<D: Disk + Drop> Mount<D> {
         at: u32,
         used: bool,
     ) -> Reply
-        requires own { IsEarlier (D.state self.old.found.value) (D.state evidence.now.core.value.disk) evidence.now.core.value.books
-            self.old.first self.old.core.books.history.start self.old.core.books.at self.old.core.books.history.entries }
+        requires own { IsEarlier (D.state self.old.found.value)
+            (D.state evidence.now.core.value.disk) evidence.now.core.value.books
+            self.old.first self.old.core.books.history.start self.old.core.books.at
+            self.old.core.books.history.entries }
         requires verdict { IsVerdict evidence.now.verdicts at used }
-        ensures commits { ∥ IsCommit (D.state self.old.found.value) (D.state self.old.core.disk) self.old.core.books self.new.core.books
+        ensures commits { ∥ IsCommit (D.state self.old.found.value)
+            (D.state self.old.core.disk) self.old.core.books self.new.core.books
             evidence.now.kind (verdict_at evidence.now.verdicts at).item used result ∥₁ }
         ensures tells { TellsStep caller (see_step evidence.now.kind (verdict_at evidence.now.verdicts at).item)
             self.old.core.books.history.entries self.new.core.books.history.entries result }
         ensures same { (self.new.found ≡ self.old.found) × (self.new.first ≡ self.old.first)
             × (self.new.core.books.history.start ≡ self.old.core.books.history.start)
             × (self.new.core.books.at ≡ self.old.core.books.at) }
-        ensures kept { TakesKept caller (see_step evidence.now.kind (verdict_at evidence.now.verdicts at).item) result self.old.kept self.new.kept }
+        ensures kept { TakesKept caller
+            (see_step evidence.now.kind (verdict_at evidence.now.verdicts at).item) result self.old.kept self.new.kept }
         ensures leaves { KeepsCells (D.state self.old.core.disk) (D.state self.new.core.disk) }
-        ensures own { IsEarlier (D.state self.new.found.value) (D.state evidence.now.core.value.disk) evidence.now.core.value.books
-            self.new.first self.new.core.books.history.start self.new.core.books.at self.new.core.books.history.entries }
+        ensures own { IsEarlier (D.state self.new.found.value)
+            (D.state evidence.now.core.value.disk) evidence.now.core.value.books
+            self.new.first self.new.core.books.history.start self.new.core.books.at
+            self.new.core.books.history.entries }
     {
         let item = evidence.verdicts.item(at);
         let step = step_of(evidence.kind, item);

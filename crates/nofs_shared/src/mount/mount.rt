@@ -12,8 +12,8 @@
 //! ```
 //!
 //! - unmounted: `begin` may still refuse. All memory of the mount is taken before the write that raises its number.
-//! - open: over a disk that tells and was found sound, files, maps and history are the machine's, and every image that a crash
-//!   may leave is allowed (`IsOpen`).
+//! - open: over a disk that tells and was found sound, files, maps and history are the machine's, and every image that
+//!   a crash may leave is allowed (`IsOpen`).
 //! - stopped: every such image is still allowed (`IsStopped`), but the maps may be wrong, so no step is served.
 //! - A write-out that failed is no step: the mount stays open.
 ghost use Rattle.std.specs.Prelude.{◌≡◌, ◌+◌, ◌^◌, ◌≤◌, false, [], length, IfOk, IfErr};
@@ -94,15 +94,18 @@ impl<D: Disk + Drop> Mount<D> {
     /// them failed before, and every other refusal leaves the cells. No step orders its writes: one that is no
     /// Flush makes writes alone, one call a cell, and after a call that failed no other.
     pub fn step(&mut self, alloc: Global, caller: u32, step: Step) -> Reply
-        ensures tells { TellsStep caller step self.old.core.books.history.entries self.new.core.books.history.entries result }
+        ensures tells { TellsStep caller step self.old.core.books.history.entries
+            self.new.core.books.history.entries result }
         ensures claims { IsSoundDisk (D.state self.old.found.value)
-            → ∥ Unowned (D.state self.old.core.disk).now self.old.core.books.history.entries self.new.core.books.history.entries ∥₁ }
+            → ∥ Unowned (D.state self.old.core.disk).now self.old.core.books.history.entries
+            self.new.core.books.history.entries ∥₁ }
         ensures same { (self.new.found ≡ self.old.found) × (self.new.first ≡ self.old.first)
             × (self.new.core.books.history.start ≡ self.old.core.books.history.start)
             × (self.new.core.books.at ≡ self.old.core.books.at) }
         ensures kept { TakesKept caller step result self.old.kept self.new.kept }
         ensures settled { Settles step result (D.state self.new.core.disk) }
-        ensures causes { StepCauses (D.state self.old.core.disk) (D.state self.new.core.disk) self.old.core.books self.new.core.books result }
+        ensures causes { StepCauses (D.state self.old.core.disk)
+            (D.state self.new.core.disk) self.old.core.books self.new.core.books result }
         ensures order { StepOrder (D.state self.old.core.disk) (D.state self.new.core.disk)
             (MeetsSound (D.state self.old.found.value) self.old.core.books) step result }
     {
@@ -116,8 +119,8 @@ impl<D: Disk + Drop> Mount<D> {
         }
     }
 
-    /// Writes out one block that the device kept back, and names it; `None` exactly where there is none. It makes no entry, no moment
-    /// passes, and each image that a crash may leave for it picks from what may be left.
+    /// Writes out one block that the device kept back, and names it; `None` exactly where there is none. It makes no
+    /// entry, no moment passes, and each image that a crash may leave for it picks from what may be left.
     ///
     /// # Errors
     ///
@@ -134,9 +137,12 @@ impl<D: Disk + Drop> Mount<D> {
     /// a disk that tells and was found sound, the maps that it counts are the full scan of the disk
     /// once the history has a verdict of each element.
     pub fn counts(&self) -> Counts
-        ensures inodes { result.inodes_used + result.inodes_free + result.inodes_unchecked ≡ self.now.core.books.at.inodes }
-        ensures blocks { result.blocks_used + result.blocks_free + result.blocks_unchecked ≡ self.now.core.books.at.blocks }
-        ensures machine { (W : World) → Says self.now.core.books W → counted.CountsInodes W result × counted.CountsBlocks W result }
+        ensures inodes { result.inodes_used + result.inodes_free + result.inodes_unchecked
+            ≡ self.now.core.books.at.inodes }
+        ensures blocks { result.blocks_used + result.blocks_free + result.blocks_unchecked
+            ≡ self.now.core.books.at.blocks }
+        ensures machine { (W : World) → Says self.now.core.books W
+            → counted.CountsInodes W result × counted.CountsBlocks W result }
         ensures scan { IsSoundDisk (D.state self.now.found.value) → self.now.core.books.stopped ≡ false
             → AreExamined self.now.core.books.history.entries self.now.core.books.at
             → ∥ IsFullScan (D.state self.now.core.disk).now self.now.core.books ∥₁ }

@@ -1,6 +1,7 @@
 //! What lies behind a turn: a value at which callers make steps, and whose elements are examined in batches.
 //!
-//! Promise: a step adds its entry alone, and a look or a write-out adds none. What was looked at may be committed in every later state of the value.
+//! Promise: a step adds its entry alone, and a look or a write-out adds none. What was looked at may be committed in
+//! every later state of the value.
 ghost use Rattle.std.specs.Prelude.{◌≡◌, ◌++◌, ◌<◌, ◌≤◌, ℕ, Bool, List, IfOk, get_or, length};
 ghost use Rattle.nofs_history.specs.declared.machine.history.Entry1.{Entry1};
 ghost use Rattle.nofs_history.specs.declared.machine.steps.ElementKind.{ElementKind};
@@ -31,15 +32,17 @@ impl<D: Disk + Drop> Kept for Mount<D> {
 
     ghost entries = { λ m. m.core.books.history.entries };
 
-    ghost fixed = { λ m. record { found = m.found.value; first = m.first; start = m.core.books.history.start; at = m.core.books.at } };
+    ghost fixed = { λ m.
+        record { found = m.found.value; first = m.first; start = m.core.books.history.start; at = m.core.books.at } };
 
     fn kept(&self) -> u64 {
         self.core.books.history.len()
     }
 }
 
-/// A value behind a turn at which callers make steps, one entry each, and whose elements are examined in batches. Its device keeps blocks back
-/// in a step alone, not in a look or a commit: so where a write-out found none, there is none until the next step.
+/// A value behind a turn at which callers make steps, one entry each, and whose elements are examined in batches. Its
+/// device keeps blocks back in a step alone, not in a look or a commit: so where a write-out found none, there is none
+/// until the next step.
 pub trait Serves: Kept<Entry = Entry1> + Drop {
     ghost use Rattle.nofs_shared.specs.Passes.Entries.{TellsStep};
 
@@ -57,7 +60,8 @@ pub trait Serves: Kept<Entry = Entry1> + Drop {
     ghost is_of: { Self.Evidence → Self.Fixed → List Entry1 → Type 0 };
 
     /// It stays so with each entry.
-    ghost is_of_more: { (e : Self.Evidence) (f : Self.Fixed) (xs ys : List Entry1) → is_of e f xs → is_of e f (xs ++ ys) };
+    ghost is_of_more: { (e : Self.Evidence) (f : Self.Fixed) (xs ys : List Entry1) → is_of e f xs
+        → is_of e f (xs ++ ys) };
 
     /// What a commit of the verdict at a place says, where the entries before it were these.
     ghost commits: { Self.Evidence → ℕ → Self.Fixed → List Entry1 → Reply → Type 0 };
@@ -121,11 +125,13 @@ impl<D: Disk + Drop> Serves for Mount<D> {
 
     ghost verdict_in = { λ e at. (verdict_at e.verdicts at).used };
 
-    ghost is_of = { λ e f xs. IsEarlier (D.state f.found) (D.state e.core.value.disk) e.core.value.books f.first f.start f.at xs };
+    ghost is_of = { λ e f xs. IsEarlier (D.state f.found)
+        (D.state e.core.value.disk) e.core.value.books f.first f.start f.at xs };
 
     ghost is_of_more = { λ e f xs ys h. earlier-more h ys };
 
-    ghost commits = { λ e at f xs r. ∥ CommitsAt D.state f.found f.first xs e.kind (verdict_at e.verdicts at).item (verdict_at e.verdicts at).used r ∥₁ };
+    ghost commits = { λ e at f xs r. ∥ CommitsAt D.state f.found f.first xs e.kind
+        (verdict_at e.verdicts at).item (verdict_at e.verdicts at).used r ∥₁ };
 
     fn serve(&mut self, alloc: Global, caller: u32, step: Step) -> Reply {
         self.step(alloc, caller, step)

@@ -44,7 +44,8 @@ pub(crate) fn step_in<D: Disk + Drop>(
     ensures sees { is_see step ≡ true → is_out_of_memory result ≡ false }
     ensures settled { Settles step result (D.state core.new.disk) }
     ensures causes { StepCauses (D.state core.old.disk) (D.state core.new.disk) core.old.books core.new.books result }
-    ensures order { StepOrder (D.state core.old.disk) (D.state core.new.disk) (MeetsOpen (D.state core.old.disk) core.old.books) step result }
+    ensures order { StepOrder (D.state core.old.disk) (D.state core.new.disk)
+        (MeetsOpen (D.state core.old.disk) core.old.books) step result }
 {
     let from = core.disk.moment();
     let Acted { reply, claims } = act(core, alloc, &step);

@@ -31,7 +31,8 @@ impl<V: Serves> Section<V> for Look<'_> {
 
     ghost asks = { λ s _ _. (1 ≤ length s.items.now) × (length s.items.now ≤ 64) };
 
-    ghost tells = { λ s f xs ys r. (ys ≡ xs) × IfOk r (λ e. (V.kind_of e ≡ s.kind) × (V.items_in e ≡ s.items.now)) × IfOk r (λ e. V.is_of e f ys) };
+    ghost tells = { λ s f xs ys r. (ys ≡ xs) × IfOk r (λ e. (V.kind_of e ≡ s.kind) × (V.items_in e ≡ s.items.now))
+        × IfOk r (λ e. V.is_of e f ys) };
 
     ghost lasts = { λ _ _ _ _ asked. asked };
 
@@ -57,9 +58,11 @@ impl<V: Serves> Section<V> for Settle<'_, V> {
 
     type Out = Reply;
 
-    ghost asks = { λ s f xs. V.is_of s.evidence.now f xs × (s.at < length (V.items_in s.evidence.now)) × (s.used ≡ V.verdict_in s.evidence.now s.at) };
+    ghost asks = { λ s f xs. V.is_of s.evidence.now f xs × (s.at < length (V.items_in s.evidence.now))
+        × (s.used ≡ V.verdict_in s.evidence.now s.at) };
 
-    ghost tells = { λ s f xs ys r. TellsStep s.caller (see_step (V.kind_of s.evidence.now) (get_or (V.items_in s.evidence.now) s.at 0)) xs ys r
+    ghost tells = { λ s f xs ys r. TellsStep s.caller
+        (see_step (V.kind_of s.evidence.now) (get_or (V.items_in s.evidence.now) s.at 0)) xs ys r
         × V.commits s.evidence.now s.at f xs r };
 
     ghost lasts = { λ s f xs ys asked. (V.is_of_more s.evidence.now f xs ys asked.0, asked.1, asked.2) };
@@ -87,8 +90,9 @@ impl<R: Wait, V: Serves> SharedPass<'_, R, V> {
         self.turn.with(self.rt, &mut self.pass, look)
     }
 
-    /// Commits the verdict at a place, in one section, as one step of this caller. What a commit says holds of the entries that it met:
-    /// at a mount over a disk that tells and was found sound, the answer is the verdict of the disk of that moment.
+    /// Commits the verdict at a place, in one section, as one step of this caller. What a commit says holds of the
+    /// entries that it met: at a mount over a disk that tells and was found sound, the answer is the verdict of the
+    /// disk of that moment.
     pub fn commit(&mut self, evidence: &V::Evidence, at: u32, used: bool) -> Reply
         requires own { MayRun (V.is_of evidence.now) (view_of self.old.pass) }
         requires within { at < length (V.items_in evidence.now) }
@@ -97,7 +101,8 @@ impl<R: Wait, V: Serves> SharedPass<'_, R, V> {
             × SameSeat (view_of self.old.pass) (view_of self.new.pass) }
         ensures made { own_steps (view_of self.new.pass).mine ≡ with_made (own_steps (view_of self.old.pass).mine)
             (elements.see_step (V.kind_of evidence.now) (get_or (V.items_in evidence.now) at 0)) result }
-        ensures fits { Fits (elements.see_step (V.kind_of evidence.now) (get_or (V.items_in evidence.now) at 0)) result }
+        ensures fits { Fits
+            (elements.see_step (V.kind_of evidence.now) (get_or (V.items_in evidence.now) at 0)) result }
         ensures own { MayRun (V.is_of evidence.now) (view_of self.new.pass) }
         ensures right { CommitRan (V.commits evidence.now at) (view_of self.old.pass) (view_of self.new.pass) result }
     {

@@ -40,7 +40,8 @@ impl<V: Serves> SharedMount<V> {
         seats: u32,
     ) -> Result<(SharedMount<V>, Vec<Pass<V>>), ShareFault<V>>
         requires { (0 < seats) × (seats ≤ 64) }
-        ensures passes { IfOk result (λ t. (vec_len t.1 ≡ seats) × All (IsFreshPass V.entries V.fixed t.0.turn mount seats) t.1.items) }
+        ensures passes { IfOk result
+            (λ t. (vec_len t.1 ≡ seats) × All (IsFreshPass V.entries V.fixed t.0.turn mount seats) t.1.items) }
         ensures err { IfErr result (λ e. e.mount ≡ mount) }
     {
         match Turn::new(alloc, mount, seats) {
@@ -79,8 +80,10 @@ impl<V: Serves> SharedMount<V> {
     /// The mount, where the pass stands for all passes.
     pub fn close(self, pass: Pass<V>) -> Result<V, SharedOut<V>>
         requires of { IsPassOf self.turn pass }
-        ensures closed { IfOk result (λ mount. Closes V.entries V.fixed (view_of pass) mount × ((view_of pass).stands ≡ (view_of pass).seats)) }
-        ensures out { IfErr result (λ e. (e.mount ≡ self) × (e.pass ≡ pass) × (0 < e.out) × (e.out + (view_of pass).stands ≡ (view_of pass).seats)) }
+        ensures closed { IfOk result
+            (λ mount. Closes V.entries V.fixed (view_of pass) mount × ((view_of pass).stands ≡ (view_of pass).seats)) }
+        ensures out { IfErr result (λ e. (e.mount ≡ self) × (e.pass ≡ pass) × (0 < e.out)
+            × (e.out + (view_of pass).stands ≡ (view_of pass).seats)) }
     {
         let SharedMount { turn, clean } = self;
         match turn.close(pass) {

@@ -91,9 +91,12 @@ impl<'a, R, V: Serves> SharedPass<'a, R, V> {
     /// Makes the step where the turn is free.
     pub fn try_step(&mut self, step: Step) -> Result<Reply, BusyStep>
         ensures same { (self.new.turn.now ≡ self.old.turn.now) × (self.new.caller ≡ self.old.caller) }
-        ensures made { IfOk result (λ r. (own_steps (view_of self.new.pass).mine ≡ with_made (own_steps (view_of self.old.pass).mine) step r) × Fits step r) }
+        ensures made { IfOk result
+            (λ r. (own_steps (view_of self.new.pass).mine ≡ with_made (own_steps (view_of self.old.pass).mine) step r)
+            × Fits step r) }
         ensures one_look { (view_of self.new.pass).looks ≡ (view_of self.old.pass).looks + 1 }
-        ensures busy { IfErr result (λ b. (b.step ≡ step) × (b.word % 2 ≡ 1) × (view_of self.new.pass ≡ looked (view_of self.old.pass) b.word)) }
+        ensures busy { IfErr result (λ b. (b.step ≡ step) × (b.word % 2 ≡ 1)
+            × (view_of self.new.pass ≡ looked (view_of self.old.pass) b.word)) }
     {
         let section = Move {
             alloc: self.alloc,
@@ -139,11 +142,13 @@ impl<R: Wait, V: Serves> Steps for SharedPass<'_, R, V> {
 
     ghost made = { λ p. own_steps (view_of p.pass).mine };
 
-    ghost goes = { λ p q. (q.turn.now ≡ p.turn.now) × (q.caller ≡ p.caller) × SameSeat (view_of p.pass) (view_of q.pass) };
+    ghost goes = { λ p q. (q.turn.now ≡ p.turn.now) × (q.caller ≡ p.caller)
+        × SameSeat (view_of p.pass) (view_of q.pass) };
 
     ghost goes_none = { λ p. (refl, refl, same_seat (view_of p.pass)) };
 
-    ghost goes_on = { λ a b c p q. (q.0 ∙ p.0, q.1 ∙ p.1, same_seats (view_of a.pass) (view_of b.pass) (view_of c.pass) p.2 q.2) };
+    ghost goes_on = { λ a b c p q.
+        (q.0 ∙ p.0, q.1 ∙ p.1, same_seats (view_of a.pass) (view_of b.pass) (view_of c.pass) p.2 q.2) };
 
     fn step(&mut self, step: Step) -> Reply {
         let section = Move {

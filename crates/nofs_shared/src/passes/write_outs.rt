@@ -1,8 +1,10 @@
-//! Write-outs behind a turn: each is one section, or one look at the turn where nothing is kept back, and makes no entry.
+//! Write-outs behind a turn: each is one section, or one look at the turn where nothing is kept back, and makes no
+//! entry.
 //!
-//! `clean` says that nothing is. A write-out that found nothing sets it, and each step clears it before it does anything, both under the turn.
-//! So where it is set at a look, no step has begun since that write-out, and at that moment nothing is kept back: `None` is the answer
-//! that the section would give then. All of these steps are sequentially consistent.
+//! `clean` says that nothing is. A write-out that found nothing sets it, and each step clears it before it does
+//! anything, both under the turn. So where it is set at a look, no step has begun since that write-out, and at that
+//! moment nothing is kept back: `None` is the answer that the section would give then. All of these steps are
+//! sequentially consistent.
 ghost use Rattle.std.specs.Prelude.{◌≡◌, ◌<◌};
 ghost use Rattle.nofs_turn.specs.Turn.{view_of};
 ghost use Rattle.nofs_shared.specs.Passes.Entries.{own_steps};
@@ -54,8 +56,9 @@ impl<R: Wait, V: Serves> SharedPass<'_, R, V> {
         self.turn.with(self.rt, &mut self.pass, section)
     }
 
-    /// Writes out one block that the device kept back, and names it; `None` where there is none. It makes no entry. It takes the turn
-    /// once; but where a write-out found none and no step has begun since, it only looks at the turn, and answers `None`.
+    /// Writes out one block that the device kept back, and names it; `None` where there is none. It makes no entry. It
+    /// takes the turn once; but where a write-out found none and no step has begun since, it only looks at the turn,
+    /// and answers `None`.
     pub fn write_out(&mut self) -> Result<Option<u64>, OutFault>
         ensures same { (self.new.turn.now ≡ self.old.turn.now) × (self.new.caller ≡ self.old.caller)
             × SameSeat (view_of self.old.pass) (view_of self.new.pass) }

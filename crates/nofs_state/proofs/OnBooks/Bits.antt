@@ -1,9 +1,11 @@
 -- Maps of bits: those of a new mount, how one bit changes, and what true and false do beside another bit.
-use Rattle.std.proofs.Common.{◌≡◌, ◌≢◌, ℕ, ◌+◌, ◌<◌, ◌≤◌, inl, inr, Bool, true, false, ◌&&◌, List, length, replicate, leb, ltb, refl, sym, ◌∙◌, subst, arith}
+use Rattle.std.proofs.Common.{◌≡◌, ◌≢◌, ℕ, ◌+◌, ◌<◌, ◌≤◌, inl, inr, Bool, true, false, ◌&&◌, List, length, replicate}
+use Rattle.std.proofs.Common.{leb, ltb, refl, sym, ◌∙◌, subst, arith}
 use Rattle.std.specs.Prelude.{slice_set}
 use Rattle.std.proofs.lemmas.Bool.{cases_lt, cases_eq}
 use Rattle.std.proofs.lemmas.Bool.Decides.{nat_tests}
-use Rattle.std.proofs.lemmas.List.{get_or-set_same, get_or-set_other, get_or-replicate, get_or_past, length-replicate, length-set}
+use Rattle.std.proofs.lemmas.List.{get_or-set_same, get_or-set_other, get_or-replicate, get_or_past, length-replicate}
+use Rattle.std.proofs.lemmas.List.{length-set}
 use Rattle.nofs_bits.specs.Bits.{is_set}
 use Rattle.nofs_state.specs.Books.Maps.{MapsAll, SetsFrom}
 
@@ -35,9 +37,11 @@ between-all : (from place n : ℕ) → n < place → (leb from n && ltb n place)
 between-all from place n low = grind (arith, nat_tests)
 
 pub sets-begins : (places from : ℕ) → SetsFrom places from from (replicate places false)
-sets-begins places from = record { len = length-replicate places false; each = λ n low. set-none places n ∙ sym (between-none from n) }
+sets-begins places from =
+    record { len = length-replicate places false; each = λ n low. set-none places n ∙ sym (between-none from n) }
 
-pub sets-goes : (places from place : ℕ) (bits : List Bool) → SetsFrom places from place bits → from ≤ place → place < places
+pub sets-goes : (places from place : ℕ) (bits : List Bool) → SetsFrom places from place bits
+    → from ≤ place → place < places
     → SetsFrom places from (place + 1) (slice_set bits place true)
 sets-goes places from place bits s low high = record {
   len = set-length bits place true ∙ s.len;
@@ -50,8 +54,10 @@ sets-goes places from place bits s low high = record {
   ];
 }
 
-pub sets-ends : (places from place : ℕ) (bits : List Bool) → SetsFrom places from place bits → places ≤ place → MapsAll places from bits
-sets-ends places from place bits s all = record { len = s.len; each = λ n low. s.each n low ∙ between-all from place n (omega (arith, low, all)) }
+pub sets-ends : (places from place : ℕ) (bits : List Bool) → SetsFrom places from place bits
+    → places ≤ place → MapsAll places from bits
+sets-ends places from place bits s all =
+    record { len = s.len; each = λ n low. s.each n low ∙ between-all from place n (omega (arith, low, all)) }
 
 pub and-true : (b : Bool) → b ≡ (b && true)
 and-true true = refl

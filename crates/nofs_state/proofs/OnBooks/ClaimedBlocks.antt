@@ -1,5 +1,6 @@
 -- The blocks that a step claims: their homes, what they were, and what the books have of them.
-use Rattle.std.proofs.Common.{◌≡◌, ◌≢◌, ℕ, ◌+◌, ◌≤◌, ◌⊎◌, inl, inr, Bool, true, false, cond, eqb, eqb-true, eq-eqb, ◌&&◌, [], ◌∷◌}
+use Rattle.std.proofs.Common.{◌≡◌, ◌≢◌, ℕ, ◌+◌, ◌≤◌, ◌⊎◌, inl, inr, Bool, true, false, cond, eqb, eqb-true, eq-eqb}
+use Rattle.std.proofs.Common.{◌&&◌, [], ◌∷◌}
 use Rattle.std.proofs.Common.{Option, Some, None, is_some, refl, sym, ap, ◌∙◌, subst, arith}
 use Rattle.nofs_bits.specs.Bits.{is_set}
 use Rattle.nofs_model.specs.Cells.{Pointer}
@@ -7,7 +8,8 @@ use Rattle.nofs_model.specs.Image.{path_of, slot_of, Files, Home, home_at}
 use Rattle.nofs_model.proofs.OnSlots.Find.{and-both}
 use Rattle.nofs_history.specs.Search.{first_of}
 use Rattle.nofs_history.specs.World.{World, is_free_block}
-use Rattle.nofs_history.specs.Claims.{cell_slot, claimed_home, is_claimed, next_stamp, slot_above, IsClaim, IsBlockClaim, Claimed, Unclaimed}
+use Rattle.nofs_history.specs.Claims.{cell_slot, claimed_home, is_claimed, next_stamp, slot_above, IsClaim}
+use Rattle.nofs_history.specs.Claims.{IsBlockClaim, Claimed, Unclaimed}
 use Rattle.nofs_history.specs.declared.machine.history.Claims.{Claims}
 use Rattle.nofs_history.specs.declared.machine.steps.Step.{Step}
 use Rattle.nofs_crashlaw.specs.Maps.Moves.{IsClaimed}
@@ -31,7 +33,8 @@ pub home-claimed : (F : Files) (s : Step) (c : Claims) (at : Home) (n : ℕ) →
     ⊎ (((x : Pointer) → IsClaimed c x → n ≢ x.block) × (claimed_home F s c n ≡ None))
 home-claimed F s c at n slot = go (named n c.cell) refl (named n c.leaf) refl (named n c.top) refl
   where
-    is : claimed_home F s c n ≡ three (named n c.cell) (named n c.leaf) (named n c.top) at (home_at at.inode (slot_of (slot_above (path_of at.slot))))
+    is : claimed_home F s c n ≡ three (named n c.cell) (named n c.leaf) (named n c.top) at
+        (home_at at.inode (slot_of (slot_above (path_of at.slot))))
         (home_at at.inode (slot_of (slot_above (slot_above (path_of at.slot)))))
     is = rw (slot, claimed_home) refl
 
@@ -48,8 +51,10 @@ home-claimed F s c at n slot = go (named n c.cell) refl (named n c.leaf) refl (n
         → ((q : Pointer) × IsClaimed c q × (n ≡ q.block) × (is_some (claimed_home F s c n) ≡ true))
         ⊎ (((q : Pointer) → IsClaimed c q → n ≢ q.block) × (claimed_home F s c n ≡ None))
     go true ea b eb d ed = inl (c.cell, ((yes c.cell ea).0, inl refl), (yes c.cell ea).1, ap is_some is ∙ rw ea refl)
-    go false ea true eb d ed = inl (c.leaf, ((yes c.leaf eb).0, inr (inl refl)), (yes c.leaf eb).1, ap is_some is ∙ rw (ea, eb) refl)
-    go false ea false eb true ed = inl (c.top, ((yes c.top ed).0, inr (inr refl)), (yes c.top ed).1, ap is_some is ∙ rw (ea, eb, ed) refl)
+    go false ea true eb d ed =
+        inl (c.leaf, ((yes c.leaf eb).0, inr (inl refl)), (yes c.leaf eb).1, ap is_some is ∙ rw (ea, eb) refl)
+    go false ea false eb true ed =
+        inl (c.top, ((yes c.top ed).0, inr (inr refl)), (yes c.top ed).1, ap is_some is ∙ rw (ea, eb, ed) refl)
     go false ea false eb false ed = inr (
       (λ q h. elim h.1 [
         | inl e ↦ other c.cell q ea e h.0
@@ -59,10 +64,12 @@ home-claimed F s c at n slot = go (named n c.cell) refl (named n c.leaf) refl (n
     )
 
 -- a claimed block was known and free, and has a new stamp
-pub claim-was : (W : World) (s : Step) (c : Claims) (x : Pointer) → IsClaim W s c → IsClaimed c x → (is_free_block W x.block ≡ true) × (next_stamp W ≤ x.stamp)
+pub claim-was : (W : World) (s : Step) (c : Claims) (x : Pointer) → IsClaim W s c → IsClaimed c x
+    → (is_free_block W x.block ≡ true) × (next_stamp W ≤ x.stamp)
 claim-was W s c x claim h = elim h.1 [
   | inl e ↦ part c.cell e _ _ claim.cell (omega arith)
-  | inr r ↦ elim r [ inl e ↦ part c.leaf e _ _ claim.leaf (omega arith) | inr e ↦ part c.top e _ _ claim.top (omega arith) ]
+  | inr r ↦ elim r
+      [ inl e ↦ part c.leaf e _ _ claim.leaf (omega arith) | inr e ↦ part c.top e _ _ claim.top (omega arith) ]
 ]
   where
     part : (y : Pointer) → y ≡ x → (stamp : ℕ) (wanted : Bool) → IsBlockClaim W stamp y wanted → next_stamp W ≤ stamp
@@ -72,4 +79,5 @@ claim-was W s c x claim h = elim h.1 [
       let q : y.stamp ≡ x.stamp = ap
           (λ (z : Pointer). z.stamp) e in omega (arith, q, is, low),
     )
-    part y e stamp false (Unclaimed none) low = absurd (let z : is_claimed x ≡ false = ap is_claimed (sym e ∙ none) in let t = h.0 in cc (z, t))
+    part y e stamp false (Unclaimed none) low =
+        absurd (let z : is_claimed x ≡ false = ap is_claimed (sym e ∙ none) in let t = h.0 in cc (z, t))

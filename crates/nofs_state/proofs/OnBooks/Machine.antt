@@ -1,5 +1,6 @@
 -- What the machine says of a file, in the words of the disk.
-use Rattle.std.proofs.Common.{◌≡◌, ℕ, Bool, true, false, ◌&&◌, not, List, Option, Some, None, is_some, refl, sym, ap, ◌∙◌, subst}
+use Rattle.std.proofs.Common.{◌≡◌, ℕ, Bool, true, false, ◌&&◌, not, List, Option, Some, None, is_some, refl, sym, ap}
+use Rattle.std.proofs.Common.{◌∙◌, subst}
 use Rattle.nofs_disk.specs.Disk.{DiskState}
 use Rattle.nofs_model.specs.Cells.{BackLink, SuperBlock, is_live}
 use Rattle.nofs_model.specs.Image.{Image, inode, Files, FileState, files_in, agreed, is_pair, pairs}
@@ -27,7 +28,8 @@ pub agreed-live : (X : Image) (i : ℕ) → agreed (files_in X) i ≡ true → i
 agreed-live X i a = live-some X i (agreed-some (files_in X) i (agreed-holds (files_in X) i a))
 
 -- the world has the numbers of the disk
-pub world-numbers : (d : DiskState) (k : Books) (H : List Entry1) (p : Past) → IsOpen d k H p → MatchesSuper p.world d.now
+pub world-numbers : (d : DiskState) (k : Books) (H : List Entry1) (p : Past) → IsOpen d k H p
+    → MatchesSuper p.world d.now
 world-numbers d k H p o = record {
   version = o.says.version ∙ ap (λ (q : SuperBlock). q.version) (sym o.at);
   blocks = o.says.blocks ∙ ap (λ (q : SuperBlock). q.blocks) (sym o.at);
@@ -48,19 +50,23 @@ pub machine-pair : (F : Files) (X : Image) (i : ℕ) (link : BackLink) → Files
     → is_pair F i link ≡ is_agreed_link (files_in X) i link
 machine-pair F X i link match a = go (agreed (files_in X) link.directory) refl
   where
-    go : (b : Bool) → agreed (files_in X) link.directory ≡ b → is_pair F i link ≡ (is_pair (files_in X) i link && agreed (files_in X) link.directory)
+    go : (b : Bool) → agreed (files_in X) link.directory ≡ b
+        → is_pair F i link ≡ (is_pair (files_in X) i link && agreed (files_in X) link.directory)
     go true e =
-        pairs-alike (F i) (files_in X i) (F link.directory) (files_in X link.directory) i link (same-alike (F i) (files_in X i) (same-of F X i match a))
+        pairs-alike (F i) (files_in X i) (F link.directory) (files_in X link.directory) i link
+        (same-alike (F i) (files_in X i) (same-of F X i match a))
         (same-alike (F link.directory) (files_in X link.directory) (same-of F X link.directory match e))
         ∙ and-true (is_pair (files_in X) i link) ∙ ap (λ (b : Bool). is_pair (files_in X) i link && b) (sym e)
     go false e =
         let none : F link.directory ≡ None = same-none (F link.directory)
-        (subst (λ (o : Option FileState). SameFile (F link.directory) o) (agreed-files-is X link.directory ∙ rw e refl) (match link.directory)) in
+        (subst (λ (o : Option FileState). SameFile (F link.directory) o) (agreed-files-is X link.directory ∙ rw e refl)
+        (match link.directory)) in
         ap (λ (o : Option FileState). pairs (F i) o i link) none ∙ no-pair (F i) i link
         ∙ and-false (is_pair (files_in X) i link) ∙ ap (λ (b : Bool). is_pair (files_in X) i link && b) (sym e)
 
 -- whether a file is stale
-pub stale-is : (W : World) (X : Image) (i g : ℕ) → FilesMatch W.files X → stale W i g ≡ row (not (is_current X i g)) refusal.Stale
+pub stale-is : (W : World) (X : Image) (i g : ℕ) → FilesMatch W.files X
+    → stale W i g ≡ row (not (is_current X i g)) refusal.Stale
 stale-is W X i g match = go (agreed (files_in X) i) refl
   where
     go : (b : Bool) → agreed (files_in X) i ≡ b → stale W i g ≡ row (not (is_current X i g)) refusal.Stale
@@ -74,11 +80,13 @@ stale-is W X i g match = go (agreed (files_in X) i) refl
 pub stale-none : (W : World) (X : Image) (i g : ℕ) → FilesMatch W.files X → is_current X i g ≡ true → stale W i g ≡ None
 stale-none W X i g match c = stale-is W X i g match ∙ rw c refl
 
-pub stale-some : (W : World) (X : Image) (i g : ℕ) → FilesMatch W.files X → is_current X i g ≡ false → stale W i g ≡ Some refusal.Stale
+pub stale-some : (W : World) (X : Image) (i g : ℕ) → FilesMatch W.files X
+    → is_current X i g ≡ false → stale W i g ≡ Some refusal.Stale
 stale-some W X i g match c = stale-is W X i g match ∙ rw c refl
 
 -- what the books know of inodes is true
-pub are-agreed : (d : DiskState) (k : Books) (H : List Entry1) (p : Past) → IsSafe d k → IsOpen d k H p → AreTrue d.now k.agreement
+pub are-agreed : (d : DiskState) (k : Books) (H : List Entry1) (p : Past) → IsSafe d k → IsOpen d k H p
+    → AreTrue d.now k.agreement
 are-agreed d k H p safe o i =
     if-told (known_agreement k.agreement i) (λ a. agreed (files_in d.now) i ≡ a)
     (λ a known. sym (uses-inode p.world.files d.now (open-files d k H p o) i) ∙ o.says.agreement i a known)

@@ -1,5 +1,6 @@
 -- The books of a mount over another disk, and with other maps of the same sizes.
-use Rattle.std.proofs.Common.{◌≡◌, ℕ, ◌+◌, ◌/◌, ◌^◌, ◌<◌, ◌≤◌, Bool, true, IsTrue, Result, length, refl, sym, ap, ◌∙◌, subst}
+use Rattle.std.proofs.Common.{◌≡◌, ℕ, ◌+◌, ◌/◌, ◌^◌, ◌<◌, ◌≤◌, Bool, true, IsTrue, Result, length, refl, sym, ap, ◌∙◌}
+use Rattle.std.proofs.Common.{subst}
 use Rattle.nofs_bits.specs.Bits.{is_set}
 use Rattle.nofs_disk.specs.Disk.{DiskState, IsSameDisk, KeepsCells, KeepsPast, MakesReady, StaysButFaults}
 use Rattle.nofs_super.specs.Geometry.{IsGeometry}
@@ -40,7 +41,8 @@ safe-sizes old new k l s at same area =
     }
 
 -- over a disk with the same superblock, stopped or not, and with any history
-pub safe-over : (old new : DiskState) (k : Books) (stop : Bool) (h : HistoryState) → IsSameDisk old new → super_at new.now ≡ super_at old.now → IsSafe old k
+pub safe-over : (old new : DiskState) (k : Books) (stop : Bool) (h : HistoryState) → IsSameDisk old new
+    → super_at new.now ≡ super_at old.now → IsSafe old k
     → IsSafe new (record k { stopped = stop; history = h })
 safe-over old new k stop h disk super s =
     let at : IsAt new k.at = record {
@@ -68,7 +70,8 @@ pub record Keeping (old new : DiskState) : Type 0 where
 pub reads-keep : (old new : DiskState) → StaysButFaults old new → Keeping old new
 reads-keep old new s = record { disk = s.disk; past = s.past; cells = s.cells }
 
-pub ready-keeps : {E : Type 0} (old new : DiskState) (calls : ℕ) (result : Result (Unit {0}) E) → MakesReady old new calls result → Keeping old new
+pub ready-keeps : {E : Type 0} (old new : DiskState) (calls : ℕ) (result : Result (Unit {0}) E)
+    → MakesReady old new calls result → Keeping old new
 ready-keeps old new calls result m = record { disk = m.disk; past = m.past; cells = m.cells }
 
 pub safe-keeps : (old new : DiskState) (keep : Keeping old new) (k : Books) → IsSafe old k → IsSafe new k

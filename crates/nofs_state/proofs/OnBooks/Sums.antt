@@ -1,9 +1,11 @@
 -- The counts of used, free and unknown elements.
-use Rattle.std.proofs.Common.{◌≡◌, ℕ, zero, suc, ◌+◌, ◌-◌, ◌<◌, min, Bool, true, false, cond, not, ◌&&◌, leb, ltb, lt-ltb, length, refl, sym, ap, ◌∙◌, arith}
+use Rattle.std.proofs.Common.{◌≡◌, ℕ, zero, suc, ◌+◌, ◌-◌, ◌<◌, min, Bool, true, false, cond, not, ◌&&◌, leb, ltb}
+use Rattle.std.proofs.Common.{lt-ltb, length, refl, sym, ap, ◌∙◌, arith}
 use Rattle.std.proofs.Common.{le-leb}
 use Rattle.nofs_bits.specs.Bits.{count_set, is_set}
 use Rattle.nofs_history.specs.Search.{count_below}
-use Rattle.nofs_history.specs.World.{World, free_blocks, free_inodes, is_free_block, is_free_inode, unverified_blocks, unverified_inodes, uses_block}
+use Rattle.nofs_history.specs.World.{World, free_blocks, free_inodes, is_free_block, is_free_inode, unverified_blocks}
+use Rattle.nofs_history.specs.World.{unverified_inodes, uses_block}
 use Rattle.nofs_history.specs.World.{uses_inode}
 use Rattle.nofs_state.specs.Books.Maps.{Says, knows_block, knows_inode}
 use Rattle.nofs_state.specs.Books.Counts.{used_blocks, used_inodes}
@@ -18,12 +20,14 @@ each-way true false a b c n e = omega (arith, e)
 each-way false true a b c n e = omega (arith, e)
 each-way false false a b c n e = omega (arith, e)
 
-pub three-ways : (known uses : ℕ → Bool) (n : ℕ) → count_below (λ m. known m && uses m) n + count_below (λ m. known m && not (uses m)) n + count_below
+pub three-ways : (known uses : ℕ → Bool) (n : ℕ)
+    → count_below (λ m. known m && uses m) n + count_below (λ m. known m && not (uses m)) n + count_below
     (λ m. not (known m)) n ≡ n
 unfolding count_below
 three-ways known uses zero = refl
 three-ways known uses (suc n) =
-    let q = each-way (known n) (uses n) (count_below (λ m. known m && uses m) n) (count_below (λ m. known m && not (uses m)) n)
+    let q = each-way (known n) (uses n) (count_below (λ m. known m && uses m) n)
+    (count_below (λ m. known m && not (uses m)) n)
     (count_below (λ m. not (known m)) n) n (three-ways known uses n) in
     let s : 1 + n ≡ suc n = omega arith in
     q ∙ s
@@ -39,7 +43,8 @@ module _ (k : Books) (W : World) (says : Says k W) where
   pub free-inodes-count : length k.free_inodes ≡ k.at.inodes → count_set k.free_inodes ≡ free_inodes W
   free-inodes-count len = count-is k.free_inodes
       ∙ count-same (λ n. is_set k.free_inodes n) (λ n. is_free_inode W (suc n)) (length k.free_inodes)
-      (λ m lt. let s : suc m - 1 ≡ m = omega arith in ap (is_set k.free_inodes) (sym s) ∙ says.free_inodes (suc m) (omega arith) (omega (arith, lt, len)))
+      (λ m lt. let s : suc m - 1 ≡ m = omega arith in
+      ap (is_set k.free_inodes) (sym s) ∙ says.free_inodes (suc m) (omega arith) (omega (arith, lt, len)))
       ∙ ap (count_below (λ n. is_free_inode W (suc n))) (len ∙ sym says.inodes)
 
   unknown-inode : (n : ℕ) → n < k.at.inodes → is_set k.unknown_inodes n ≡ not (W.known_inodes (suc n))
@@ -48,7 +53,8 @@ module _ (k : Books) (W : World) (says : Says k W) where
       let t : leb (suc n) k.at.inodes ≡ true = le-leb (suc n) k.at.inodes (omega (arith, lt)) in
       let s : suc n - 1 ≡ n = omega arith in
       let q : knows_inode k (suc n) ≡ not (is_set k.unknown_inodes (suc n - 1)) = rw (a, t) refl in
-      sym (ap not (says.known_inodes (suc n) ∙ q) ∙ twice (is_set k.unknown_inodes (suc n - 1)) ∙ ap (is_set k.unknown_inodes) s)
+      sym (ap not (says.known_inodes (suc n) ∙ q) ∙ twice (is_set k.unknown_inodes (suc n - 1))
+      ∙ ap (is_set k.unknown_inodes) s)
     where
       twice : (b : Bool) → not (not b) ≡ b
       twice true = refl
@@ -61,7 +67,8 @@ module _ (k : Books) (W : World) (says : Says k W) where
       ∙ ap (count_below (λ n. not (W.known_inodes (suc n)))) (len ∙ sym says.inodes)
 
   pub free-blocks-count : length k.free_blocks ≡ k.at.blocks → count_set k.free_blocks ≡ free_blocks W
-  free-blocks-count len = count-is k.free_blocks ∙ count-same (λ n. is_set k.free_blocks n) (λ q. is_free_block W q) (length k.free_blocks)
+  free-blocks-count len = count-is k.free_blocks
+      ∙ count-same (λ n. is_set k.free_blocks n) (λ q. is_free_block W q) (length k.free_blocks)
       (λ m lt. says.free_blocks m (omega (arith, lt, len)))
       ∙ ap (count_below (λ q. is_free_block W q)) (len ∙ sym says.blocks)
 
@@ -76,11 +83,14 @@ module _ (k : Books) (W : World) (says : Says k W) where
       twice false = refl
 
   pub unknown-blocks-count : length k.unknown_blocks ≡ k.at.blocks → count_set k.unknown_blocks ≡ unverified_blocks W
-  unknown-blocks-count len = count-is k.unknown_blocks ∙ count-same (λ n. is_set k.unknown_blocks n) (λ q. not (W.known_blocks q)) (length k.unknown_blocks)
+  unknown-blocks-count len = count-is k.unknown_blocks
+      ∙ count-same (λ n. is_set k.unknown_blocks n) (λ q. not (W.known_blocks q)) (length k.unknown_blocks)
       (λ m lt. unknown-block m (omega (arith, lt, len)))
       ∙ ap (count_below (λ q. not (W.known_blocks q))) (len ∙ sym says.blocks)
 
 -- the three numbers that are kept are those of the machine, where they are so many together
-pub split-is : (all used free unchecked u f n : ℕ) → u + f + n ≡ all → unchecked ≡ n → free ≡ min f (all - n) → used + free + unchecked ≡ all
+pub split-is : (all used free unchecked u f n : ℕ) → u + f + n ≡ all → unchecked ≡ n → free ≡ min f (all - n)
+    → used + free + unchecked ≡ all
     → (used ≡ u) × (free ≡ f) × (unchecked ≡ n)
-split-is all used free unchecked u f n whole en ef sum = (omega (arith, whole, en, ef, sum), omega (arith, whole, en, ef, sum), en)
+split-is all used free unchecked u f n whole en ef sum =
+    (omega (arith, whole, en, ef, sum), omega (arith, whole, en, ef, sum), en)

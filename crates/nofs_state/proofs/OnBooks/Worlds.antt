@@ -21,7 +21,8 @@ pub says-maps : (k l : Books) (W : World) (inodes blocks : ℕ → Bool) → Say
     → ((i : ℕ) → inodes i ≡ knows_inode l i) → ((p : ℕ) → blocks p ≡ knows_block l p)
     → ((i : ℕ) → 1 ≤ i → i ≤ l.at.inodes → is_set l.free_inodes (i - 1) ≡ is_free_inode (world_with W inodes blocks) i)
     → ((p : ℕ) → p < l.at.blocks → is_set l.free_blocks p ≡ is_free_block (world_with W inodes blocks) p)
-    → ((i : ℕ) (agreed : Bool) → known_agreement l.agreement i ≡ Some agreed → is_some (W.files i) ≡ agreed) → Says l (world_with W inodes blocks)
+    → ((i : ℕ) (agreed : Bool) → known_agreement l.agreement i ≡ Some agreed → is_some (W.files i) ≡ agreed)
+    → Says l (world_with W inodes blocks)
 says-maps k l W inodes blocks s same known_inodes known_blocks free_inodes free_blocks agreement = record {
   version = s.version ∙ (λ j. (sym same.at j).version);
   blocks = s.blocks ∙ (λ j. (sym same.at j).blocks);

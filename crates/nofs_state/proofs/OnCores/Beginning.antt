@@ -1,5 +1,6 @@
 -- A mount that has just begun stands.
-use Rattle.std.proofs.Common.{◌≡◌, ℕ, ◌+◌, ◌-◌, ◌*◌, ◌/◌, ◌^◌, ◌<◌, ◌≤◌, Bool, true, false, ◌&&◌, ◌||◌, not, leb, ltb, eqb, [], Option, Some, None, is_some}
+use Rattle.std.proofs.Common.{◌≡◌, ℕ, ◌+◌, ◌-◌, ◌*◌, ◌/◌, ◌^◌, ◌<◌, ◌≤◌, Bool, true, false, ◌&&◌, ◌||◌, not, leb, ltb}
+use Rattle.std.proofs.Common.{eqb, [], Option, Some, None, is_some}
 use Rattle.std.proofs.Common.{IsTrue, inl, inr, refl, sym, ap, ◌∙◌, subst, arith, le_refl}
 use Rattle.std.proofs.lemmas.Bool.{ltb-true, cases_lt}
 use Rattle.std.proofs.lemmas.Bool.Decides.{nat_tests}
@@ -61,7 +62,8 @@ special-known i inodes set some h = elim (cases_lt i 1) [
   ]
 ]
 
-fixed-known : (p blocks fixed : ℕ) (set : Bool) → fixed < blocks → (p < blocks → set ≡ leb (1 + fixed) p) → leb p fixed ≡ (ltb p blocks && not set)
+fixed-known : (p blocks fixed : ℕ) (set : Bool) → fixed < blocks → (p < blocks → set ≡ leb (1 + fixed) p)
+    → leb p fixed ≡ (ltb p blocks && not set)
 fixed-known p blocks fixed set some h = elim (cases_lt p blocks) [
   | inl low ↦ rw (h low) (grind (arith, nat_tests))
   | inr past ↦ grind (arith, nat_tests)
@@ -71,7 +73,8 @@ not-both : (a b : Bool) → (a && not (a || b)) ≡ false
 not-both true b = refl
 not-both false b = refl
 
-says-first : (X : Image) (at : SuperBlock) (first start : ℕ) (room : Room) → super_at X ≡ at → 4 ≤ at.inodes → 2 + at.inodes / 4 ≤ at.blocks → IsRoom at room
+says-first : (X : Image) (at : SuperBlock) (first start : ℕ) (room : Room)
+    → super_at X ≡ at → 4 ≤ at.inodes → 2 + at.inodes / 4 ≤ at.blocks → IsRoom at room
     → Says (new_books at first room start) (world_of X first)
 unfolding world_of
 says-first X at first start room same some table r = record {
@@ -84,21 +87,25 @@ says-first X at first start room same some table r = record {
   known_inodes = λ i. special-known i at.inodes (is_set room.unknown_inodes (i - 1)) some
       (λ low high. r.unknown_inodes.each (i - 1) (omega (arith, low, high)));
   known_blocks = λ p. ap (λ (q : SuperBlock). leb p (q.inodes / 4)) same
-      ∙ fixed-known p at.blocks (at.inodes / 4) (is_set room.unknown_blocks p) (omega (arith, table)) (λ low. r.unknown_blocks.each p low);
+      ∙ fixed-known p at.blocks (at.inodes / 4) (is_set room.unknown_blocks p) (omega (arith, table))
+      (λ low. r.unknown_blocks.each p low);
   free_inodes = λ i low high. ap (λ (bits : _). is_set bits (i - 1)) r.free_inodes ∙ set-none at.inodes (i - 1)
       ∙ sym (not-both (is_special i) (is_some (agreed_files X i)));
   free_blocks = λ p low. ap (λ (bits : _). is_set bits p) r.free_blocks ∙ set-none at.blocks p
       ∙ sym (not-both (leb p ((super_at X).inodes / 4)) (is_some (owner X p)));
-  agreement = λ i a t. absurd (let e : known_agreement room.agreement i ≡ None = ap (λ (known : _). known_agreement known i) r.agreement ∙ told-nothing at.inodes i in cc (t, e));
+  agreement = λ i a t. absurd (let e : known_agreement room.agreement i ≡ None =
+      ap (λ (known : _). known_agreement known i) r.agreement ∙ told-nothing at.inodes i in cc (t, e));
 }
 
-pub open-first : (d : DiskState) (at : SuperBlock) (first : ℕ) (room : Room) → IsDisk d → IsAt d at → IsRoom at room → IsTrue d.tells → IsSettled d
+pub open-first : (d : DiskState) (at : SuperBlock) (first : ℕ) (room : Room) → IsDisk d → IsAt d at → IsRoom at room
+    → IsTrue d.tells → IsSettled d
     → IsTrue (is_mountable d.now) → 0 < at.mount * 2 ^ 40 + first
     → IsBelow (at.mount * 2 ^ 40 + first) d.now → IsOpen d (new_books at first room d.moment) [] (first_past d first)
 unfolding world_of
 open-first d at first room is numbers r tells settled mountable positive below =
     let same : super_at d.now ≡ at = numbers.same tells in
-    let m : (super_at d.now).mount * 2 ^ 40 + first ≡ at.mount * 2 ^ 40 + first = ap (λ (q : SuperBlock). q.mount * 2 ^ 40 + first) same in
+    let m : (super_at d.now).mount * 2 ^ 40 + first ≡ at.mount * 2 ^ 40 + first =
+    ap (λ (q : SuperBlock). q.mount * 2 ^ 40 + first) same in
     let go : is_mountable d.now ≡ true = mountable in
     let st = law-first-stage d ((super_at d.now).mount * 2 ^ 40 + first) (record {
       disk = is;
@@ -123,13 +130,17 @@ open-first d at first room is numbers r tells settled mountable positive below =
       no_fault = tt;
     }
 
-pub open-with : (d : DiskState) (at : SuperBlock) (first moment : ℕ) (room : Room) (h : HistoryState) → IsDisk d → IsAt d at → IsRoom at room
+pub open-with : (d : DiskState) (at : SuperBlock) (first moment : ℕ) (room : Room) (h : HistoryState) → IsDisk d
+    → IsAt d at → IsRoom at room
     → moment ≡ d.moment
-    → h ≡ record { start = moment; entries = []; spare = room.history.spare } → IsTrue d.tells → IsSettled d → IsTrue (is_mountable d.now)
+    → h ≡ record { start = moment; entries = []; spare = room.history.spare } → IsTrue d.tells → IsSettled d
+    → IsTrue (is_mountable d.now)
     → 0 < at.mount * 2 ^ 40 + first
-    → IsBelow (at.mount * 2 ^ 40 + first) d.now → IsOpen d (record (new_books at first room moment) { history = h }) [] (first_past d first)
+    → IsBelow (at.mount * 2 ^ 40 + first) d.now
+    → IsOpen d (record (new_books at first room moment) { history = h }) [] (first_past d first)
 open-with d at first moment room h is numbers r same eh tells settled mountable positive below =
     let e : h ≡ record { start = d.moment; entries = []; spare = room.history.spare } =
     eh ∙ (λ j. record { start = same j; entries = []; spare = room.history.spare }) in
-    subst (λ (q : HistoryState). IsOpen d (record (new_books at first room moment) { history = q }) [] (first_past d first)) (sym e)
+    subst (λ (q : HistoryState). IsOpen d (record (new_books at first room moment) { history = q }) []
+    (first_past d first)) (sym e)
     (open-first d at first room is numbers r tells settled mountable positive below)

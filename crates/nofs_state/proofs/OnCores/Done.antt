@@ -1,5 +1,6 @@
 -- A step that writes, and is done: the mount stands.
-use Rattle.std.proofs.Common.{◌≡◌, ℕ, ◌+◌, ◌%◌, ◌<◌, ◌≤◌, ◌⊎◌, inl, inr, Bool, true, false, List, [], ◌∷◌, ◌++◌, Option, Some, None, length, leb, ltb}
+use Rattle.std.proofs.Common.{◌≡◌, ℕ, ◌+◌, ◌%◌, ◌<◌, ◌≤◌, ◌⊎◌, inl, inr, Bool, true, false, List, [], ◌∷◌, ◌++◌, Option}
+use Rattle.std.proofs.Common.{Some, None, length, leb, ltb}
 use Rattle.std.proofs.Common.{ltb-true, ◌/◌, IsTrue, refl, sym, ap, ◌∙◌, subst, subst₂, arith}
 use Rattle.nofs_disk.specs.Disk.{DiskState, IsDisk, IsSameDisk, KeepsPast, cell_at}
 use Rattle.nofs_disk.specs.Adds.{Adds, WasOr}
@@ -43,7 +44,8 @@ use Rattle.nofs_state.proofs.OnCores.SafeSteps.{accepted-fault, accepted-memory,
 use Rattle.nofs_state.proofs.OnWrites.Numbered.{sounds-adds}
 
 -- weaker cells
-pub Adds-map : (P Q : ℕ → Cell → Type 0) (old new : DiskState) → ((b : ℕ) (c : Cell) → P b c → Q b c) → Adds P old new → Adds Q old new
+pub Adds-map : (P Q : ℕ → Cell → Type 0) (old new : DiskState) → ((b : ℕ) (c : Cell) → P b c → Q b c) → Adds P old new
+    → Adds Q old new
 Adds-map P Q old new h a = record {
   disk = a.disk;
   past = a.past;
@@ -70,10 +72,12 @@ after_world W s c l =
     }
 
 -- what a step that writes owes where it is done
-pub record IsDone (old new : DiskState) (k l : Books) (H : List Entry1) (p : Past) (s : Step) (c : Claims) (r : Reply) (ws : List (ℕ × Cell)) : Type 0 where
+pub record IsDone (old new : DiskState) (k l : Books) (H : List Entry1) (p : Past) (s : Step) (c : Claims) (r : Reply)
+    (ws : List (ℕ × Cell)) : Type 0 where
   pub adds : Adds (OneOf ws) old new
   pub later : old.moment < new.moment
-  pub proper : (e : Entry1) → e.step ≡ s → e.claims ≡ c → given_by (files_along (agreed_files p.base) H) e ≡ gives (files_along (agreed_files p.base) H) s c
+  pub proper : (e : Entry1) → e.step ≡ s → e.claims ≡ c
+      → given_by (files_along (agreed_files p.base) H) e ≡ gives (files_along (agreed_files p.base) H) s c
       → (b : ℕ) (cell : Cell) → OneOf ws b cell → Proper (during (mark_at p.base H (old.moment + 1) p.mark p.stamps)
       (given_by (files_along (agreed_files p.base) H) e)) old.now b cell
   pub numbers : (b : ℕ) (cell : Cell) → OneOf ws b cell → CellNumbers (Numbered p.world c) old.now b cell
@@ -87,14 +91,16 @@ pub record IsDone (old new : DiskState) (k l : Books) (H : List Entry1) (p : Pas
   pub learns : Learns p.world s true (after_world p.world s c l)
   pub files : FilesMatch (files_after p.world.files (gives p.world.files s c)) new.now
   pub move : HomesMove p.world.files s c old.now new.now
-  pub rest : (e : Entry1) → e.step ≡ s → e.claims ≡ c → given_by (files_along (agreed_files p.base) H) e ≡ gives (files_along (agreed_files p.base) H) s c
+  pub rest : (e : Entry1) → e.step ≡ s → e.claims ≡ c
+      → given_by (files_along (agreed_files p.base) H) e ≡ gives (files_along (agreed_files p.base) H) s c
       → SteadyRest p.base (H ++ e ∷ []) new.now
   pub says : Says l (after_world p.world s c l)
   pub books_at : l.at ≡ k.at
   pub history : l.history ≡ k.history
   pub going : l.stopped ≡ false
 
-module _ (old new : DiskState) (k l : Books) (H : List Entry1) (p : Past) (caller : ℕ) (s : Step) (c : Claims) (r : Reply) (ws : List (ℕ × Cell))
+module _ (old new : DiskState) (k l : Books) (H : List Entry1) (p : Past) (caller : ℕ) (s : Step) (c : Claims)
+    (r : Reply) (ws : List (ℕ × Cell))
     (is_old : IsDisk old) (is_new : IsDisk new) (tells : IsTrue old.tells)
     (o : IsOpen old k H p) (d : IsDone old new k l H p s c r ws) where
   abbrev W : World
@@ -119,7 +125,8 @@ module _ (old new : DiskState) (k l : Books) (H : List Entry1) (p : Past) (calle
   given = let a = d.accepted in rw a refl
 
   by : files_by (files_along (agreed_files p.base) H) e ≡ files_after W.files (gives W.files s c)
-  by = (let a = d.accepted in let q : files_by (files_along (agreed_files p.base) H) e ≡ files_after (files_along (agreed_files p.base) H)
+  by = (let a = d.accepted in
+      let q : files_by (files_along (agreed_files p.base) H) e ≡ files_after (files_along (agreed_files p.base) H)
       (gives (files_along (agreed_files p.base) H) s c) = rw a refl in q)
       ∙ ap (λ (G : Files). files_after G (gives G s c)) (sym o.files)
 
@@ -137,7 +144,8 @@ module _ (old new : DiskState) (k l : Books) (H : List Entry1) (p : Past) (calle
 
   new-fresh : IsFresh V new.now new.may
   new-fresh = (law-fresh W V e old.now new.now old.may new.may next quarters d.super old-fresh
-      (λ b lt cell has. elim (d.adds.cells b cell has) [ inl was ↦ inl was | inr one ↦ inr (d.numbers b cell one) ])).0 (accepted-fault r d.accepted)
+      (λ b lt cell has. elim (d.adds.cells b cell has) [ inl was ↦ inl was | inr one ↦ inr (d.numbers b cell one) ])).0
+      (accepted-fault r d.accepted)
 
   homes : HomesMatch V new.now
   homes = law-homes W V s c old.now new.now o.homes (open-files old k H p o) d.move refl refl d.files
@@ -149,11 +157,14 @@ module _ (old new : DiskState) (k l : Books) (H : List Entry1) (p : Past) (calle
       beyond : (h : Home) → claimed_home W.files s c b ≡ Some h → ⊥
       beyond h eh =
           let house = d.move.claimed b h eh in
-          let area = and-both (leb (1 + (super_at new.now).inodes / 4) house.pointer.block) (ltb house.pointer.block (super_at new.now).blocks)
+          let area = and-both (leb (1 + (super_at new.now).inodes / 4) house.pointer.block)
+          (ltb house.pointer.block (super_at new.now).blocks)
           (find-held new.now h.inode house.path house.pointer house.holds).agrees.area in
-          let low : house.pointer.block < (super_at new.now).blocks = ltb-true house.pointer.block (super_at new.now).blocks area.1 in
+          let low : house.pointer.block < (super_at new.now).blocks =
+          ltb-true house.pointer.block (super_at new.now).blocks area.1 in
           let same = house.block in
-          let blocks : (super_at new.now).blocks ≡ W.blocks = ap (λ (q : SuperBlock). q.blocks) same-super ∙ sym blocks-are in
+          let blocks : (super_at new.now).blocks ≡ W.blocks = ap (λ (q : SuperBlock). q.blocks) same-super
+          ∙ sym blocks-are in
           omega (arith, low, same, blocks, past)
 
       go : (q : Option Home) → claimed_home W.files s c b ≡ q → V.homes b ≡ None
@@ -161,7 +172,8 @@ module _ (old new : DiskState) (k l : Books) (H : List Entry1) (p : Past) (calle
       go (Some h) eq = absurd (beyond h eq)
 
   proper : AddsProper p.base H e p.mark p.stamps old new
-  proper = Adds-map (OneOf ws) (Proper (during (mark_at p.base H (old.moment + 1) p.mark p.stamps) (given_by (files_along (agreed_files p.base) H) e))
+  proper = Adds-map (OneOf ws) (Proper
+      (during (mark_at p.base H (old.moment + 1) p.mark p.stamps) (given_by (files_along (agreed_files p.base) H) e))
       old.now) old new (d.proper e refl refl given) d.adds
 
   stage : Stage p.base (H ++ e ∷ []) p.mark p.stamps k.history.start (next_stamp V) new
@@ -170,11 +182,13 @@ module _ (old new : DiskState) (k l : Books) (H : List Entry1) (p : Past) (calle
       (record {
         files = subst (λ (G : Files). FilesMatch G new.now) (sym by) d.files;
         positive = (let q = o.stage.ready.positive in omega (arith, q));
-        fresh = λ b cell lt has. new-fresh b (subst (λ (n : ℕ). b < n) (ap (λ (q : SuperBlock). q.blocks) same-super ∙ sym blocks-are) lt) cell has;
+        fresh = λ b cell lt has. new-fresh b
+            (subst (λ (n : ℕ). b < n) (ap (λ (q : SuperBlock). q.blocks) same-super ∙ sym blocks-are) lt) cell has;
       })
 
   whole : length new.now ≡ length old.now
-  whole = is_new.whole (subst (λ (b : Bool). IsTrue b) (sym d.adds.disk.tells) tells) ∙ d.size ∙ sym (is_old.whole tells)
+  whole = is_new.whole (subst (λ (b : Bool). IsTrue b) (sym d.adds.disk.tells) tells)
+      ∙ d.size ∙ sym (is_old.whole tells)
 
   mountable : is_mountable new.now ≡ true
   mountable =
@@ -186,7 +200,8 @@ module _ (old new : DiskState) (k l : Books) (H : List Entry1) (p : Past) (calle
 
   pub open-done : IsOpen new l (H ++ e ∷ []) (record p { world = V })
   open-done = record {
-    run = run-more old new k l H p e V o.run (ap (λ h. h.start) d.history) refl refl (let q = d.later in omega (arith, q))
+    run = run-more old new k l H p e V o.run (ap (λ h. h.start) d.history) refl refl
+        (let q = d.later in omega (arith, q))
         (λ t. absurd (let z = takes-none r d.no_flush (accepted-fault r d.accepted) in cc (t, z))) next;
     going = d.going;
     says = d.says;
@@ -195,7 +210,8 @@ module _ (old new : DiskState) (k l : Books) (H : List Entry1) (p : Past) (calle
     files = sym (along-append (agreed_files p.base) H (e ∷ []) ∙ by);
     homes = homes;
     homes_past = homes-past;
-    stage = subst (λ (n : ℕ). Stage p.base (H ++ e ∷ []) p.mark p.stamps n (next_stamp V) new) (sym (ap (λ h. h.start) d.history)) stage;
+    stage = subst (λ (n : ℕ). Stage p.base (H ++ e ∷ []) p.mark p.stamps n (next_stamp V) new)
+        (sym (ap (λ h. h.start) d.history)) stage;
     older = (let a = o.older in omega (arith, a));
     rest = d.rest e refl refl given;
     no_fault = faults-append H e o.no_fault (accepted-fault r d.accepted);
@@ -208,23 +224,33 @@ module _ (old new : DiskState) (k l : Books) (H : List Entry1) (p : Past) (calle
       (Adds-map (OneOf ws) (λ b cell. CellNumbers (Numbered W c) old.now b cell) old new d.numbers d.adds)
 
 -- the contract of a step that is done
-pub goes-done : (old new : DiskState) (k l : Books) (s : Step) (c : Claims) (r : Reply) (ws : List (ℕ × Cell)) → IsDisk old → IsDisk new → k.stopped ≡ false
+pub goes-done : (old new : DiskState) (k l : Books) (s : Step) (c : Claims) (r : Reply) (ws : List (ℕ × Cell))
+    → IsDisk old → IsDisk new → k.stopped ≡ false
     → l.at ≡ k.at → l.history ≡ k.history → l.stopped ≡ false → IsSafe new l → is_refused r ≡ false
-    → IsSameDisk old new → KeepsPast old new → old.moment < new.moment → NoOrder old new (MeetsOpen old k) s c r → IsSafe old k
-    → (IsTrue old.tells → (H : List Entry1) (p : Past) → IsOpen old k H p → IsDone old new k l H p s c r ws) → Goes old k new l s c r
+    → IsSameDisk old new → KeepsPast old new
+    → old.moment < new.moment → NoOrder old new (MeetsOpen old k) s c r → IsSafe old k
+    → (IsTrue old.tells → (H : List Entry1) (p : Past) → IsOpen old k H p → IsDone old new k l H p s c r ws)
+    → Goes old k new l s c r
 goes-done old new k l s c r ws is_old is_new going at history runs safe accepted disk past later order safe_old done =
-    safely-goes old new k l s c r (safely-done old new k l r going at history runs safe accepted disk past later) order sounds
+    safely-goes old new k l s c r
+    (safely-done old new k l r going at history runs safe accepted disk past later) order sounds
     (λ tells caller H p o. record {
       none = λ t. absurd (let z = accepted-memory r accepted in cc (t, z));
       done = λ n f. (
         record p { world = after_world p.world s c l },
-        record { base = refl; first = refl; next = next old new k l H p caller s c r ws is_old is_new tells o (done tells H p o) },
+        record {
+          base = refl;
+          first = refl;
+          next = next old new k l H p caller s c r ws is_old is_new tells o (done tells H p o);
+        },
         open-done old new k l H p caller s c r ws is_old is_new tells o (done tells H p o),
       );
       fault = λ t. absurd (let z = accepted-fault r accepted in cc (t, z));
     })
     (λ tells caller H p o. absurd (let t = o.stopped in cc (t, going)))
   where
-    sounds : IsTrue old.tells → (H : List Entry1) (p : Past) → IsOpen old k H p ⊎ IsStopped old k H p → (from : ℕ) → Sounds from old → Sounds from new
-    sounds tells H p (inl o) from q = done-sounds old new k l H p 0 s c r ws is_old is_new tells o (done tells H p o) safe_old from q
+    sounds : IsTrue old.tells → (H : List Entry1) (p : Past) → IsOpen old k H p ⊎ IsStopped old k H p
+        → (from : ℕ) → Sounds from old → Sounds from new
+    sounds tells H p (inl o) from q =
+        done-sounds old new k l H p 0 s c r ws is_old is_new tells o (done tells H p o) safe_old from q
     sounds tells H p (inr o) from q = absurd (let t = o.stopped in cc (t, going))

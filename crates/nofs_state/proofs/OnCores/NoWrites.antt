@@ -1,5 +1,6 @@
 -- A step that leaves the disk and the files: the mount stands as before, with one more entry.
-use Rattle.std.proofs.Common.{◌≡◌, ℕ, ◌+◌, ◌*◌, ◌^◌, ◌<◌, ◌≤◌, true, false, List, [], ◌∷◌, ◌++◌, IsTrue, refl, sym, ap, ◌∙◌, subst, subst₂, arith}
+use Rattle.std.proofs.Common.{◌≡◌, ℕ, ◌+◌, ◌*◌, ◌^◌, ◌<◌, ◌≤◌, true, false, List, [], ◌∷◌, ◌++◌, IsTrue, refl, sym, ap}
+use Rattle.std.proofs.Common.{◌∙◌, subst, subst₂, arith}
 use Rattle.nofs_disk.specs.Disk.{DiskState, IsDisk, StaysButFaults}
 use Rattle.nofs_model.specs.Image.{Image, super_at, is_mountable, Files, owner}
 use Rattle.nofs_history.specs.Machine.{given_by, files_by, nothing, is_write_fault}
@@ -37,29 +38,35 @@ takes-none (reply.Refused _) f w = refl
 takes-none _ f w = refl
 
 -- one more entry of a run
-pub run-more : (old new : DiskState) (k l : Books) (H : List Entry1) (p : Past) (e : Entry1) (V : World) → IsRun old k H p
+pub run-more : (old new : DiskState) (k l : Books) (H : List Entry1) (p : Past) (e : Entry1) (V : World)
+    → IsRun old k H p
     → l.history.start ≡ k.history.start → e.from ≡ old.moment → e.to ≡ new.moment → old.moment ≤ new.moment
-    → (takes_time e.reply ≡ true → old.moment < new.moment) → Next p.world e V → IsRun new l (H ++ e ∷ []) (record p { world = V })
+    → (takes_time e.reply ≡ true → old.moment < new.moment) → Next p.world e V
+    → IsRun new l (H ++ e ∷ []) (record p { world = V })
 run-more old new k l H p e V r start from to later time next = record {
   run = subst (λ (n : ℕ). Run n (world_of p.base p.first) (H ++ e ∷ []) V) (sym start)
-      (run-append H k.history.start (world_of p.base p.first) p.world V e r.run (from ∙ sym r.ends) (omega (arith, from, to, later)) (λ t. let q =
+      (run-append H k.history.start (world_of p.base p.first) p.world V e r.run (from ∙ sym r.ends)
+      (omega (arith, from, to, later)) (λ t. let q =
       time t in omega (arith, from, to, q)) next);
   ends = ends-append H l.history.start e ∙ to;
 }
 
-module _ (old new : DiskState) (k l : Books) (H : List Entry1) (p : Past) (e : Entry1) (stays : StaysButFaults old new) (from : e.from ≡ old.moment)
+module _ (old new : DiskState) (k l : Books) (H : List Entry1) (p : Past) (e : Entry1) (stays : StaysButFaults old new)
+    (from : e.from ≡ old.moment)
     (to : e.to ≡ new.moment) (history : l.history ≡ k.history) where
   start : l.history.start ≡ k.history.start
   start = ap (λ (h : HistoryState). h.start) history
 
-  run-idle : (V : World) → is_flushed e.reply ≡ false → is_write_fault e.reply ≡ false → IsRun old k H p → Next p.world e V
+  run-idle : (V : World) → is_flushed e.reply ≡ false → is_write_fault e.reply ≡ false → IsRun old k H p
+      → Next p.world e V
       → IsRun new l (H ++ e ∷ []) (record p { world = V })
   run-idle V plain safe r next =
       let same : new.moment ≡ old.moment = stays.cells.moment in
       let none : takes_time e.reply ≡ false = takes-none e.reply plain safe in
       run-more old new k l H p e V r start from to (omega (arith, same)) (λ t. absurd (cc (t, none))) next
 
-  pub open-idle : (V : World) → IsDisk old → IsTrue old.tells → IsOpen old k H p → IsIdle p.world.files e → Next p.world e V → Keeps p.world V → Says l V
+  pub open-idle : (V : World) → IsDisk old → IsTrue old.tells → IsOpen old k H p → IsIdle p.world.files e
+      → Next p.world e V → Keeps p.world V → Says l V
       → l.at ≡ k.at → l.stopped ≡ false
       → IsOpen new l (H ++ e ∷ []) (record p { world = V })
   open-idle V is tells o idle next keeps says at going =
@@ -69,7 +76,8 @@ module _ (old new : DiskState) (k l : Books) (H : List Entry1) (p : Past) (e : E
       let stamp : next_stamp V ≡ next_stamp p.world = λ j. keeps.mount j * 2 ^ 40 + keeps.serial j in
       let st : Stage p.base (H ++ e ∷ []) p.mark p.stamps k.history.start (next_stamp p.world) new =
       law-idle-stage old new p.base H e p.mark p.stamps k.history.start (next_stamp p.world)
-      (record { stage = o.stage; disk = is; tells = tells; from = from; to = to; no_flush = i.no_flush }) stays i.files in
+      (record { stage = o.stage; disk = is; tells = tells; from = from; to = to; no_flush = i.no_flush })
+      stays i.files in
       record {
         run = run-idle V i.no_flush i.no_fault o.run next;
         going = going;
@@ -77,20 +85,27 @@ module _ (old new : DiskState) (k l : Books) (H : List Entry1) (p : Past) (e : E
         at = ap super_at now ∙ o.at ∙ sym at;
         mountable = subst (λ (X : Image). is_mountable X ≡ true) (sym now) o.mountable;
         files = keeps.files ∙ o.files ∙ sym (along-append (agreed_files p.base) H (e ∷ []) ∙ i.files);
-        homes = λ b low. (λ j. keeps.homes j b) ∙ o.homes b (let q = keeps.blocks in omega (arith, low, q)) ∙ ap (λ (X : Image). owner X b) (sym now);
+        homes = λ b low. (λ j. keeps.homes j b) ∙ o.homes b (let q = keeps.blocks in omega (arith, low, q))
+            ∙ ap (λ (X : Image). owner X b) (sym now);
         homes_past = λ b past. (λ j. keeps.homes j b) ∙ o.homes_past b (let q = keeps.blocks in omega (arith, past, q));
         stage = subst₂ (λ (n s : ℕ). Stage p.base (H ++ e ∷ []) p.mark p.stamps n s new) (sym start) (sym stamp) st;
         older = (let a = o.older in omega (arith, a, stamp));
-        rest = subst (λ (X : Image). SteadyRest p.base (H ++ e ∷ []) X) (sym now) (rest-idle p.base H e old.now i.given o.rest);
+        rest = subst (λ (X : Image). SteadyRest p.base (H ++ e ∷ []) X) (sym now)
+            (rest-idle p.base H e old.now i.given o.rest);
         no_fault = faults-append H e o.no_fault i.no_fault;
       }
 
   -- so it is what follows in the machine's next world
-  pub follows-idle : (V : World) → IsDisk old → IsTrue old.tells → IsOpen old k H p → IsIdle p.world.files e → Next p.world e V → Keeps p.world V → Says l V
+  pub follows-idle : (V : World) → IsDisk old → IsTrue old.tells → IsOpen old k H p → IsIdle p.world.files e
+      → Next p.world e V → Keeps p.world V → Says l V
       → l.at ≡ k.at → l.stopped ≡ false → is_out_of_memory e.reply ≡ false → Follows old new l H p e
   follows-idle V is tells o idle next keeps says at going memory = record {
     none = λ t. absurd (cc (t, memory));
-    done = λ n f. (record p { world = V }, record { base = refl; first = refl; next = next }, open-idle V is tells o idle next keeps says at going);
+    done = λ n f. (
+      record p { world = V },
+      record { base = refl; first = refl; next = next },
+      open-idle V is tells o idle next keeps says at going,
+    );
     fault = λ t. absurd (let f = idle.no_fault in cc (t, f));
   }
 

@@ -1,5 +1,6 @@
 -- Rows of refusals: which of them come after the first read, and a file that is not opened.
-use Rattle.std.proofs.Common.{◌≡◌, ℕ, Bool, true, false, List, [], ◌∷◌, Option, Some, None, Result, Err, IfErr, refl, subst}
+use Rattle.std.proofs.Common.{◌≡◌, ℕ, Bool, true, false, List, [], ◌∷◌, Option, Some, None, Result, Err, IfErr, refl}
+use Rattle.std.proofs.Common.{subst}
 use Rattle.nofs_disk.specs.Disk.{DiskState, IsDisk}
 use Rattle.nofs_history.specs.Search.{first_of}
 use Rattle.nofs_history.specs.World.{World}
@@ -36,15 +37,18 @@ late-row true w h why e = let s : w ≡ why = cc in subst (λ (q : Refusal). rea
 late-row false w h why e = cc
 
 -- the file was not opened: it is stale, or a read failed
-pub goes-unopened : (old new : DiskState) (k : Books) (s : Step) (i g : ℕ) (last : LastRead) (res : Result Opened Refusal) (why : Refusal) → IsDisk old
+pub goes-unopened : (old new : DiskState) (k : Books) (s : Step) (i g : ℕ) (last : LastRead)
+    (res : Result Opened Refusal) (why : Refusal) → IsDisk old
     → IsSafe old k → k.stopped ≡ false → Opens old new k i g last res → res ≡ Err why
-    → ((W : World) → stale W i g ≡ Some refusal.Stale → first_of (rows W W s) ≡ Some refusal.Stale) → ((W : World) → IsLate (first_of (rows W W s)))
+    → ((W : World) → stale W i g ≡ Some refusal.Stale → first_of (rows W W s) ≡ Some refusal.Stale)
+    → ((W : World) → IsLate (first_of (rows W W s)))
     → Goes old k new k s no_claims (reply.Refused why)
 goes-unopened old new k s i g last res why is safe going opens e comes late =
     go why (subst (λ (q : Result Opened Refusal). IfErr q (OpenFails old new k i g)) e opens.refused)
   where
     go : (w : Refusal) → OpenFails old new k i g w → Goes old k new k s no_claims (reply.Refused w)
     go refusal.Stale fails = goes-row old new k s is safe opens.stays refusal.Stale refl tt going
-        (λ tells H p o. comes p.world (stale-some p.world old.now i g (open-files old k H p o) (fails tells (are-agreed old k H p safe o))))
+        (λ tells H p o. comes p.world
+        (stale-some p.world old.now i g (open-files old k H p o) (fails tells (are-agreed old k H p safe o))))
     go refusal.ReadFault fails = goes-read old new k s is safe opens.stays going fails (λ tells H p o. late p.world)
     go _ fails = absurd fails

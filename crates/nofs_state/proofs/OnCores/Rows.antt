@@ -20,7 +20,8 @@ module _ (d : DiskState) (k : Books) (h : HistoryState) (start : h.start ≡ k.h
   }
 
   says-with : (W : World) → Says k W → Says (with_history k h) W
-  says-with W s = says-maps k (with_history k h) W W.known_inodes W.known_blocks s (record { at = refl; serial = refl; stopped = refl })
+  says-with W s = says-maps k (with_history k h) W W.known_inodes W.known_blocks s
+      (record { at = refl; serial = refl; stopped = refl })
       s.known_inodes s.known_blocks s.free_inodes s.free_blocks s.agreement
 
   pub open-with : (H : List Entry1) (p : Past) → IsOpen d k H p → IsOpen d (with_history k h) H p

@@ -53,7 +53,8 @@ pub record IsQuiet (old new : DiskState) (k : Books) (r : Reply) : Type 0 where
   pub range : HasRange r
 
 -- one that accepts
-pub quiet-answer : (old new : DiskState) (k : Books) (r : Reply) → is_refused r ≡ false → is_flushed r ≡ false → k.stopped ≡ false → IsQuiet old new k r
+pub quiet-answer : (old new : DiskState) (k : Books) (r : Reply)
+    → is_refused r ≡ false → is_flushed r ≡ false → k.stopped ≡ false → IsQuiet old new k r
 quiet-answer old new k r accepted plain going = record {
   stopped = λ t n. absurd (cc (t, going));
   not_stopped = λ e. absurd (let z = ap is_refused e in cc (z, accepted));
@@ -64,7 +65,8 @@ quiet-answer old new k r accepted plain going = record {
 }
 
 -- its causes, where the cells stay
-pub quiet-causes : (old new : DiskState) (k l : Books) (r : Reply) → KeepsCells old new → IsQuiet old new k r → l.stopped ≡ k.stopped
+pub quiet-causes : (old new : DiskState) (k l : Books) (r : Reply) → KeepsCells old new → IsQuiet old new k r
+    → l.stopped ≡ k.stopped
     → (is_out_of_memory r ≡ true → l ≡ k) → Causes old new k l r
 quiet-causes old new k l r cells quiet same memory = record {
   stopped = quiet.stopped;
@@ -85,7 +87,8 @@ quiet-causes old new k l r cells quiet same memory = record {
     no-fault e = let z = ap is_write_fault e in let f = quiet.no_fault in cc (z, f)
 
 -- such a step, where the books stay too
-quietly : (old new : DiskState) (keep : Keeping old new) (k : Books) (r : Reply) → IsSafe old k → IsQuiet old new k r → IsSafeStep old k new k r
+quietly : (old new : DiskState) (keep : Keeping old new) (k : Books) (r : Reply) → IsSafe old k → IsQuiet old new k r
+    → IsSafeStep old k new k r
 quietly old new keep k r safe quiet = record {
   disk = keep.disk;
   past = keep.past;
@@ -100,35 +103,64 @@ module _ (old new : DiskState) (k : Books) (safe : IsSafe old k) (stays : StaysB
   -- the mount is stopped
   pub safely-stopped : k.stopped ≡ true → IsSafeStep old k new k (reply.Refused refusal.Stopped)
   safely-stopped stopped = quietly old new (reads-keep old new stays) k (reply.Refused refusal.Stopped) safe
-      (record { stopped = λ t n. refl; not_stopped = λ e. stopped; read = λ e. absurd (cc); no_fault = refl; no_flush = refl; range = tt })
+      (record {
+        stopped = λ t n. refl;
+        not_stopped = λ e. stopped;
+        read = λ e. absurd (cc);
+        no_fault = refl;
+        no_flush = refl;
+        range = tt;
+      })
 
   -- a refusal by a row
-  pub safely-row : (why : Refusal) → is_plain why ≡ true → InRange why → k.stopped ≡ false → IsSafeStep old k new k (reply.Refused why)
+  pub safely-row : (why : Refusal) → is_plain why ≡ true → InRange why
+      → k.stopped ≡ false → IsSafeStep old k new k (reply.Refused why)
   safely-row why plain range going = quietly old new (reads-keep old new stays) k (reply.Refused why) safe (record {
     stopped = λ t n. absurd (cc (t, going));
-    not_stopped = λ e. absurd (let f : why ≡ refusal.Stopped = cc in let z : is_plain why ≡ false = ap is_plain f in cc (z, plain));
-    read = λ e. absurd (let f : why ≡ refusal.ReadFault = cc in let z : is_plain why ≡ false = ap is_plain f in cc (z, plain));
+    not_stopped = λ e.
+        absurd (let f : why ≡ refusal.Stopped = cc in let z : is_plain why ≡ false = ap is_plain f in cc (z, plain));
+    read = λ e. absurd (let f : why ≡ refusal.ReadFault = cc in
+        let z : is_plain why ≡ false = ap is_plain f in cc (z, plain));
     no_fault = plain-fault why plain;
     no_flush = refl;
     range = range;
   })
 
   -- a read failed
-  pub safely-read : k.stopped ≡ false → Rose old.faults new.faults → IsSafeStep old k new k (reply.Refused refusal.ReadFault)
+  pub safely-read : k.stopped ≡ false → Rose old.faults new.faults
+      → IsSafeStep old k new k (reply.Refused refusal.ReadFault)
   safely-read going rose = quietly old new (reads-keep old new stays) k (reply.Refused refusal.ReadFault) safe
-      (record { stopped = λ t n. absurd (cc (t, going)); not_stopped = λ e. absurd (cc); read = λ e. rose; no_fault = refl; no_flush = refl; range = tt })
+      (record {
+        stopped = λ t n. absurd (cc (t, going));
+        not_stopped = λ e. absurd (cc);
+        read = λ e. rose;
+        no_fault = refl;
+        no_flush = refl;
+        range = tt;
+      })
 
   -- an answer
-  pub safely-answer : (r : Reply) → is_refused r ≡ false → is_flushed r ≡ false → k.stopped ≡ false → IsSafeStep old k new k r
-  safely-answer r accepted plain going = quietly old new (reads-keep old new stays) k r safe (quiet-answer old new k r accepted plain going)
+  pub safely-answer : (r : Reply)
+      → is_refused r ≡ false → is_flushed r ≡ false → k.stopped ≡ false → IsSafeStep old k new k r
+  safely-answer r accepted plain going =
+      quietly old new (reads-keep old new stays) k r safe (quiet-answer old new k r accepted plain going)
 
 -- no memory
-pub safely-memory : (old new : DiskState) (keep : Keeping old new) (k : Books) → IsSafe old k → IsSafeStep old k new k (reply.Refused refusal.OutOfMemory)
+pub safely-memory : (old new : DiskState) (keep : Keeping old new) (k : Books) → IsSafe old k
+    → IsSafeStep old k new k (reply.Refused refusal.OutOfMemory)
 safely-memory old new keep k safe = quietly old new keep k (reply.Refused refusal.OutOfMemory) safe
-    (record { stopped = λ t n. absurd (cc); not_stopped = λ e. absurd (cc); read = λ e. absurd (cc); no_fault = refl; no_flush = refl; range = tt })
+    (record {
+      stopped = λ t n. absurd (cc);
+      not_stopped = λ e. absurd (cc);
+      read = λ e. absurd (cc);
+      no_fault = refl;
+      no_flush = refl;
+      range = tt;
+    })
 
 -- a step from there on is one from here on
-pub safely-after : (old new : DiskState) (keep : Keeping old new) (end : DiskState) (k l : Books) (r : Reply) → IsSafeStep new k end l r
+pub safely-after : (old new : DiskState) (keep : Keeping old new) (end : DiskState) (k l : Books) (r : Reply)
+    → IsSafeStep new k end l r
     → IsSafeStep old k end l r
 safely-after old new keep end k l r g = record {
   disk = IsSameDisk-trans old new end keep.disk g.disk;
@@ -157,8 +189,10 @@ safely-after old new keep end k l r g = record {
 }
 
 -- the writes are done
-pub safely-done : (old new : DiskState) (k l : Books) (r : Reply) → k.stopped ≡ false → l.at ≡ k.at → l.history ≡ k.history → l.stopped ≡ false
-    → IsSafe new l → is_refused r ≡ false → IsSameDisk old new → KeepsPast old new → old.moment < new.moment → IsSafeStep old k new l r
+pub safely-done : (old new : DiskState) (k l : Books) (r : Reply)
+    → k.stopped ≡ false → l.at ≡ k.at → l.history ≡ k.history → l.stopped ≡ false
+    → IsSafe new l → is_refused r ≡ false → IsSameDisk old new → KeepsPast old new
+    → old.moment < new.moment → IsSafeStep old k new l r
 safely-done old new k l r going at history runs safe accepted disk past later = record {
   disk = disk;
   past = past;
@@ -183,7 +217,8 @@ safely-done old new k l r going at history runs safe accepted disk past later = 
 }
 
 -- a write failed
-pub safely-fault : (old new : DiskState) (k l : Books) → k.stopped ≡ false → l.at ≡ k.at → l.history ≡ k.history → l.stopped ≡ true → IsSafe new l
+pub safely-fault : (old new : DiskState) (k l : Books)
+    → k.stopped ≡ false → l.at ≡ k.at → l.history ≡ k.history → l.stopped ≡ true → IsSafe new l
     → IsSameDisk old new → KeepsPast old new → Rose old.faults new.faults → old.moment < new.moment
     → IsSafeStep old k new l (reply.Refused refusal.WriteFault)
 safely-fault old new k l going at history stopped safe disk past rose later = record {
@@ -212,9 +247,12 @@ safely-fault old new k l going at history stopped safe disk past rose later = re
 -- a safe step goes as the machine's, where it leads from what stands over a disk that tells to what stands
 pub safely-goes : (old new : DiskState) (k l : Books) (s : Step) (c : Claims) (r : Reply) → IsSafeStep old k new l r
     → NoOrder old new (MeetsOpen old k) s c r
-    → (IsTrue old.tells → (H : List Entry1) (p : Past) → IsOpen old k H p ⊎ IsStopped old k H p → (from : ℕ) → Sounds from old → Sounds from new)
-    → (IsTrue old.tells → (caller : ℕ) (H : List Entry1) (p : Past) → IsOpen old k H p → Follows old new l H p (entry caller old new s c r))
-    → (IsTrue old.tells → (caller : ℕ) (H : List Entry1) (p : Past) → IsStopped old k H p → StaysStopped old new l H p (entry caller old new s c r))
+    → (IsTrue old.tells → (H : List Entry1) (p : Past) → IsOpen old k H p ⊎ IsStopped old k H p
+    → (from : ℕ) → Sounds from old → Sounds from new)
+    → (IsTrue old.tells → (caller : ℕ) (H : List Entry1) (p : Past) → IsOpen old k H p
+    → Follows old new l H p (entry caller old new s c r))
+    → (IsTrue old.tells → (caller : ℕ) (H : List Entry1) (p : Past) → IsStopped old k H p
+    → StaysStopped old new l H p (entry caller old new s c r))
     → Goes old k new l s c r
 safely-goes old new k l s c r safely order sound from_open from_stopped = record {
   disk = safely.disk;

@@ -1,5 +1,6 @@
 -- A See step: one more element is known, with the verdict of the disk.
-use Rattle.std.proofs.Common.{◌≡◌, ℕ, ◌+◌, ◌/◌, ◌<◌, ◌≤◌, ◌⊎◌, inl, inr, Bool, true, false, cond, ◌&&◌, ◌||◌, not, eqb, ltb, leb, List, length, Some}
+use Rattle.std.proofs.Common.{◌≡◌, ℕ, ◌+◌, ◌/◌, ◌<◌, ◌≤◌, ◌⊎◌, inl, inr, Bool, true, false, cond, ◌&&◌, ◌||◌, not, eqb}
+use Rattle.std.proofs.Common.{ltb, leb, List, length, Some}
 use Rattle.std.proofs.Common.{None, is_some, IsTrue, refl, sym, ap, ◌∙◌, subst, eq-eqb, eqb-true, arith}
 use Rattle.std.specs.Prelude.{slice_set}
 use Rattle.std.proofs.lemmas.Bool.{cases_eq, cases_lt, ne_eqb}
@@ -35,10 +36,13 @@ use Rattle.nofs_state.proofs.OnBooks.Worlds.{says-maps, world_with}
 
 -- The machine's verdicts are those of the scan
 
-pub machine-inode : (d : DiskState) (k : Books) (H : List Entry1) (p : Past) → IsOpen d k H p → (i : ℕ) → uses_inode p.world i ≡ is_used_inode d.now i
-machine-inode d k H p o i = ap (λ (b : Bool). is_special i || b) (uses-inode p.world.files d.now (open-files d k H p o) i)
+pub machine-inode : (d : DiskState) (k : Books) (H : List Entry1) (p : Past) → IsOpen d k H p
+    → (i : ℕ) → uses_inode p.world i ≡ is_used_inode d.now i
+machine-inode d k H p o i =
+    ap (λ (b : Bool). is_special i || b) (uses-inode p.world.files d.now (open-files d k H p o) i)
 
-pub machine-block : (d : DiskState) (k : Books) (H : List Entry1) (p : Past) → IsOpen d k H p → (b : ℕ) → b < k.at.blocks
+pub machine-block : (d : DiskState) (k : Books) (H : List Entry1) (p : Past) → IsOpen d k H p
+    → (b : ℕ) → b < k.at.blocks
     → uses_block p.world b ≡ is_used_block d.now b
 machine-block d k H p o b low =
     let inodes : p.world.inodes ≡ (super_at d.now).inodes = o.says.inodes ∙ sym (ap (λ q. q.inodes) o.at) in
@@ -67,9 +71,11 @@ pub record Sees (W V : World) (s : Step) (used : Bool) : Type 0 where
   pub reply : reply.Seen used ≡ reply_of W s no_claims
   pub learns : Learns W s true V
 
-module _ (old new : DiskState) (k l : Books) (s : Step) (used : Bool) (is : IsDisk old) (stays : StaysButFaults old new) (at : l.at ≡ k.at)
+module _ (old new : DiskState) (k l : Books) (s : Step) (used : Bool) (is : IsDisk old) (stays : StaysButFaults old new)
+    (at : l.at ≡ k.at)
     (history : l.history ≡ k.history) (going : k.stopped ≡ false) (still : l.stopped ≡ false) where
-  module _ (caller : ℕ) (H : List Entry1) (p : Past) (inodes blocks : ℕ → Bool) (o : IsOpen old k H p) (seeing : IsSeeing s) where
+  module _ (caller : ℕ) (H : List Entry1) (p : Past) (inodes blocks : ℕ → Bool) (o : IsOpen old k H p)
+      (seeing : IsSeeing s) where
     abbrev W : World
     W = p.world
 
@@ -80,14 +86,16 @@ module _ (old new : DiskState) (k l : Books) (s : Step) (used : Bool) (is : IsDi
     e = entry caller old new s no_claims (reply.Seen used)
 
     keeps : Keeps W V
-    keeps = record { version = refl; blocks = refl; inodes = refl; mount = refl; serial = refl; files = refl; homes = refl }
+    keeps =
+        record { version = refl; blocks = refl; inodes = refl; mount = refl; serial = refl; files = refl; homes = refl }
 
     files-stay-so : files_after W.files (gives W.files s no_claims) ≡ W.files
     files-stay-so = ap (λ g. files_after W.files g) (seeing.gives W.files) ∙ files-stay W.files
 
     next-seen : Sees W V s used → Next W e V
     next-seen sees =
-        Done open_world sees.rows sees.reply (no-claim W s seeing.no_inode seeing.no_block) (sym files-stay-so) homes-are serial
+        Done open_world sees.rows sees.reply (no-claim W s seeing.no_inode seeing.no_block)
+        (sym files-stay-so) homes-are serial
         (refl, refl, refl, refl, open_world) sees.learns
       where
         open_world : W.stopped ≡ false
@@ -101,12 +109,15 @@ module _ (old new : DiskState) (k l : Books) (s : Step) (used : Bool) (is : IsDi
 
     pub follows-seen : IsTrue old.tells → Sees W V s used → Says l V → Follows old new l H p e
     follows-seen tells sees says = follows-idle old new k l H p e stays refl refl history V is tells o
-        (record { given = seeing.gives W.files; files = files-stay-so; no_flush = refl; no_fault = refl }) (next-seen sees) keeps says at still refl
+        (record { given = seeing.gives W.files; files = files-stay-so; no_flush = refl; no_fault = refl })
+        (next-seen sees) keeps says at still refl
 
-pub seen-causes : (old new : DiskState) (k l : Books) (used : Bool) → KeepsCells old new → k.stopped ≡ false → l.stopped ≡ false
+pub seen-causes : (old new : DiskState) (k l : Books) (used : Bool) → KeepsCells old new
+    → k.stopped ≡ false → l.stopped ≡ false
     → Causes old new k l (reply.Seen used)
 seen-causes old new k l used cells going still =
-    quiet-causes old new k l (reply.Seen used) cells (quiet-answer old new k (reply.Seen used) refl refl going) (still ∙ sym going) (λ t. absurd (cc t))
+    quiet-causes old new k l (reply.Seen used) cells (quiet-answer old new k (reply.Seen used) refl refl going)
+    (still ∙ sym going) (λ t. absurd (cc t))
 
 -- what a See step examines becomes known
 pub learns-seen : (W : World) (s : Step)
@@ -118,8 +129,10 @@ learns-seen W s = record {
   blocks_change = λ p ne. absurd (ne refl);
   inode_seen = λ t i e. rw e refl;
   block_seen = λ t p e. rw e refl;
-  inodes_why = λ i k. elim (either (sees_inode s i) (W.known_inodes i) k) [ inl e ↦ inr (inr (inr (named s i e))) | inr was ↦ inl was ];
-  blocks_why = λ p k. elim (either (sees_block s p) (W.known_blocks p) k) [ inl e ↦ inr (inr (inr (refl, e))) | inr was ↦ inl was ];
+  inodes_why = λ i k.
+      elim (either (sees_inode s i) (W.known_inodes i) k) [ inl e ↦ inr (inr (inr (named s i e))) | inr was ↦ inl was ];
+  blocks_why = λ p k.
+      elim (either (sees_block s p) (W.known_blocks p) k) [ inl e ↦ inr (inr (inr (refl, e))) | inr was ↦ inl was ];
 }
   where
     or-true : (b : Bool) → (b || true) ≡ true
@@ -138,7 +151,8 @@ learns-seen W s = record {
 pub set-within : (bits : List Bool) (k : ℕ) (v : Bool) → is_set (slice_set bits k v) k ≡ true → k < length bits
 set-within bits k v e = elim (cases_lt k (length bits)) [
   | inl low ↦ low
-  | inr high ↦ absurd (let past = get_or_past (slice_set bits k v) k false (let n = set-length bits k v in omega (arith, n, high)) in cc (past, e))
+  | inr high ↦ absurd (let past = get_or_past (slice_set bits k v) k false
+      (let n = set-length bits k v in omega (arith, n, high)) in cc (past, e))
 ]
 
 -- A block
@@ -161,26 +175,34 @@ pub in-range : (a b : ℕ) → a < b → ltb a b ≡ true
 in-range a b h = grind (arith, nat_tests)
 
 -- the maps with one more block
-says-block : (k : Books) (W : World) (p : ℕ) (used : Bool) → Says k W → p < k.at.blocks → length k.unknown_blocks ≡ k.at.blocks
+says-block : (k : Books) (W : World) (p : ℕ) (used : Bool) → Says k W
+    → p < k.at.blocks → length k.unknown_blocks ≡ k.at.blocks
     → length k.free_blocks ≡ k.at.blocks → used ≡ uses_block W p → Says (learned_block k p used) (with_block W p)
 says-block k W p used s low unknown free right =
-    says-maps k (learned_block k p used) W W.known_inodes (λ q. eqb q p || W.known_blocks q) s (record { at = refl; serial = refl; stopped = refl })
+    says-maps k (learned_block k p used) W W.known_inodes (λ q. eqb q p || W.known_blocks q) s
+    (record { at = refl; serial = refl; stopped = refl })
     s.known_inodes known s.free_inodes free-is s.agreement
   where
-    known : (q : ℕ) → (eqb q p || W.known_blocks q) ≡ (ltb q k.at.blocks && not (is_set (slice_set k.unknown_blocks p false) q))
+    known : (q : ℕ)
+        → (eqb q p || W.known_blocks q) ≡ (ltb q k.at.blocks && not (is_set (slice_set k.unknown_blocks p false) q))
     known q = elim (cases_eq q p) [
       | inl same ↦
-          let here : is_set (slice_set k.unknown_blocks p false) p ≡ false = set-here k.unknown_blocks p false (omega (arith, unknown, low)) in
-          subst (λ (n : ℕ). (eqb n p || W.known_blocks n) ≡ (ltb n k.at.blocks && not (is_set (slice_set k.unknown_blocks p false) n))) (sym same)
+          let here : is_set (slice_set k.unknown_blocks p false) p ≡ false =
+          set-here k.unknown_blocks p false (omega (arith, unknown, low)) in
+          subst (λ (n : ℕ). (eqb n p || W.known_blocks n)
+          ≡ (ltb n k.at.blocks && not (is_set (slice_set k.unknown_blocks p false) n))) (sym same)
           (rw (eq-eqb p p refl, in-range p k.at.blocks low, here) refl)
       | inr other ↦ rw (ne_eqb q p other, set-other k.unknown_blocks p q false other) (s.known_blocks q)
     ]
 
-    free-is : (q : ℕ) → q < k.at.blocks → is_set (slice_set k.free_blocks p (not used)) q ≡ ((eqb q p || W.known_blocks q) && not (uses_block W q))
+    free-is : (q : ℕ) → q < k.at.blocks
+        → is_set (slice_set k.free_blocks p (not used)) q ≡ ((eqb q p || W.known_blocks q) && not (uses_block W q))
     free-is q inside = elim (cases_eq q p) [
       | inl same ↦
-          let here : is_set (slice_set k.free_blocks p (not used)) p ≡ not used = set-here k.free_blocks p (not used) (omega (arith, free, low)) in
-          subst (λ (n : ℕ). is_set (slice_set k.free_blocks p (not used)) n ≡ ((eqb n p || W.known_blocks n) && not (uses_block W n))) (sym same)
+          let here : is_set (slice_set k.free_blocks p (not used)) p ≡ not used =
+          set-here k.free_blocks p (not used) (omega (arith, free, low)) in
+          subst (λ (n : ℕ). is_set (slice_set k.free_blocks p (not used)) n
+          ≡ ((eqb n p || W.known_blocks n) && not (uses_block W n))) (sym same)
           (here ∙ ap not right ∙ rw (eq-eqb p p refl) refl)
       | inr other ↦ set-other k.free_blocks p q (not used) other ∙ s.free_blocks q inside ∙ rw (ne_eqb q p other) refl
     ]
@@ -197,12 +219,21 @@ stands true false f used k e s = s ∙ ap not e
 stands false uses f used k e s = cc
 
 -- what holds over any disk, with one more block
-pub safe-block : (d : DiskState) (k : Books) (p : ℕ) (used : Bool) → IsSafe d k → InData k p used → IsSafe d (learned_block k p used)
+pub safe-block : (d : DiskState) (k : Books) (p : ℕ) (used : Bool) → IsSafe d k → InData k p used
+    → IsSafe d (learned_block k p used)
 safe-block d k p used s lies =
     let unknown = set-length k.unknown_blocks p false in
     let free = set-length k.free_blocks p (not used) in
     safe-sizes d d k (learned_block k p used) s s.at
-    (record { at = refl; serial = refl; unknown_inodes = refl; free_inodes = refl; agreement = refl; unknown_blocks = unknown; free_blocks = free }) area
+    (record {
+      at = refl;
+      serial = refl;
+      unknown_inodes = refl;
+      free_inodes = refl;
+      agreement = refl;
+      unknown_blocks = unknown;
+      free_blocks = free;
+    }) area
   where
     freed : (b : Bool) → not b ≡ true → b ≡ false
     freed true e = cc
@@ -213,37 +244,53 @@ safe-block d k p used s lies =
       | inl same ↦
           let low : p < length k.free_blocks = set-within k.free_blocks p (not used)
           (subst (λ (n : ℕ). is_set (slice_set k.free_blocks p (not used)) n ≡ true) same e) in
-          let here : is_set (slice_set k.free_blocks p (not used)) p ≡ not used = set-here k.free_blocks p (not used) low in
-          let f : used ≡ false = freed used (sym here ∙ subst (λ (n : ℕ). is_set (slice_set k.free_blocks p (not used)) n ≡ true) same e) in
+          let here : is_set (slice_set k.free_blocks p (not used)) p ≡ not used =
+          set-here k.free_blocks p (not used) low in
+          let f : used ≡ false =
+          freed used (sym here ∙ subst (λ (n : ℕ). is_set (slice_set k.free_blocks p (not used)) n ≡ true) same e) in
           subst (λ (n : ℕ). 1 + k.at.inodes / 4 ≤ n) (sym same) (lies f)
       | inr other ↦ s.in_area q (sym (set-other k.free_blocks p q (not used) other) ∙ e)
     ]
 
-module _ (old new : DiskState) (k : Books) (b : ℕ) (used : Bool) (is : IsDisk old) (safe : IsSafe old k) (stays : StaysButFaults old new)
+module _ (old new : DiskState) (k : Books) (b : ℕ) (used : Bool) (is : IsDisk old) (safe : IsSafe old k)
+    (stays : StaysButFaults old new)
     (going : k.stopped ≡ false) (low : b < k.at.blocks) where
   -- what is known of it is known, and the verdict that stands is the machine's
-  block-parts : verdict_of_block k b ≡ Some used → (is_set k.unknown_blocks b ≡ false) × (used ≡ not (is_set k.free_blocks b))
+  block-parts : verdict_of_block k b ≡ Some used
+      → (is_set k.unknown_blocks b ≡ false) × (used ≡ not (is_set k.free_blocks b))
   block-parts stood = verdict-is (is_set k.unknown_blocks b) (is_set k.free_blocks b) used stood
 
-  block-known : (H : List Entry1) (p : Past) → IsOpen old k H p → verdict_of_block k b ≡ Some used → p.world.known_blocks b ≡ true
+  block-known : (H : List Entry1) (p : Past) → IsOpen old k H p → verdict_of_block k b ≡ Some used
+      → p.world.known_blocks b ≡ true
   block-known H p o stood = o.says.known_blocks b ∙ rw (in-range b k.at.blocks low, (block-parts stood).0) refl
 
-  pub block-stands : (H : List Entry1) (p : Past) → IsOpen old k H p → verdict_of_block k b ≡ Some used → used ≡ uses_block p.world b
-  block-stands H p o stood = stands (p.world.known_blocks b) (uses_block p.world b) (is_set k.free_blocks b) used (block-known H p o stood)
+  pub block-stands : (H : List Entry1) (p : Past) → IsOpen old k H p → verdict_of_block k b ≡ Some used
+      → used ≡ uses_block p.world b
+  block-stands H p o stood =
+      stands (p.world.known_blocks b) (uses_block p.world b) (is_set k.free_blocks b) used (block-known H p o stood)
       (o.says.free_blocks b low) (block-parts stood).1
 
   -- the verdict stood
-  pub block-stood : (caller : ℕ) (H : List Entry1) (p : Past) → IsTrue old.tells → IsOpen old k H p → verdict_of_block k b ≡ Some used
+  pub block-stood : (caller : ℕ) (H : List Entry1) (p : Past) → IsTrue old.tells → IsOpen old k H p
+      → verdict_of_block k b ≡ Some used
       → Follows old new k H p (entry caller old new (step.SeeBlock b) no_claims (reply.Seen used))
   block-stood caller H p tells o stood =
       let again = learns-again p.world b (block-known H p o stood) in
-      follows-seen old new k k (step.SeeBlock b) used is stays refl refl going going caller H p p.world.known_inodes p.world.known_blocks o (sees-block b) tells
-      (record { rows = block-row p.world p.world b k.at.blocks o.says.blocks low; reply = ap reply.Seen (block-stands H p o stood); learns = again }) o.says
+      follows-seen old new k k (step.SeeBlock b) used is stays refl refl going going caller H p p.world.known_inodes
+      p.world.known_blocks o (sees-block b) tells
+      (record {
+        rows = block-row p.world p.world b k.at.blocks o.says.blocks low;
+        reply = ap reply.Seen (block-stands H p o stood);
+        learns = again;
+      }) o.says
 
   -- it was learned
-  pub block-learned : (caller : ℕ) (H : List Entry1) (p : Past) → IsTrue old.tells → IsOpen old k H p → used ≡ uses_block p.world b
-      → Follows old new (learned_block k b used) H p (entry caller old new (step.SeeBlock b) no_claims (reply.Seen used))
-  block-learned caller H p tells o right = follows-seen old new k (learned_block k b used) (step.SeeBlock b) used is stays refl refl going going caller H p
+  pub block-learned : (caller : ℕ) (H : List Entry1) (p : Past) → IsTrue old.tells → IsOpen old k H p
+      → used ≡ uses_block p.world b
+      → Follows old new (learned_block k b used) H p
+      (entry caller old new (step.SeeBlock b) no_claims (reply.Seen used))
+  block-learned caller H p tells o right =
+      follows-seen old new k (learned_block k b used) (step.SeeBlock b) used is stays refl refl going going caller H p
       p.world.known_inodes (λ q. eqb q b || p.world.known_blocks q) o (sees-block b) tells
       (record {
         rows = block-row p.world (with_block p.world b) b k.at.blocks o.says.blocks low;

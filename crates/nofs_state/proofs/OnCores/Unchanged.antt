@@ -1,5 +1,6 @@
 -- What stands goes on where cells and moment stay: over reads, and over `ready`.
-use Rattle.std.proofs.Common.{◌≡◌, ℕ, ◌+◌, ◌<◌, ◌⊎◌, inl, inr, Bool, true, List, IsTrue, refl, sym, ap, ◌∙◌, subst, arith, Contains}
+use Rattle.std.proofs.Common.{◌≡◌, ℕ, ◌+◌, ◌<◌, ◌⊎◌, inl, inr, Bool, true, List, IsTrue, refl, sym, ap, ◌∙◌, subst}
+use Rattle.std.proofs.Common.{arith, Contains}
 use Rattle.nofs_disk.specs.Disk.{DiskState, KeepsCells, KeepsPast}
 use Rattle.nofs_disk.specs.Moments.{AtEach-stays}
 use Rattle.nofs_disk.specs.Chains.{KeepsCells-trans}
@@ -55,7 +56,8 @@ module _ (old new : DiskState) (keep : Level old new) where
   moment : new.moment ≡ old.moment
   moment = keep.cells.moment
 
-  lasts-keep : (B : Image) (H : List Entry1) (M : Image) (S start : ℕ) → Lasts B H M S start old → Lasts B H M S start new
+  lasts-keep : (B : Image) (H : List Entry1) (M : Image) (S start : ℕ) → Lasts B H M S start old
+      → Lasts B H M S start new
   lasts-keep B H M S start last = record {
     size = last.size;
     first = last.first;
@@ -63,12 +65,14 @@ module _ (old new : DiskState) (keep : Level old new) where
     survives = subst (λ (n : ℕ). CellsSurvive new (mark_at B H (n + 1) M S)) (sym moment) (record {
       mark = last.survives.mark;
       size = last.survives.size ∙ sym keep.blocks;
-      explained = subst (λ (may : ℕ → List Cell). AllExplained (mark_at B H (old.moment + 1) M S) may) (sym keep.cells.may) last.survives.explained;
+      explained = subst (λ (may : ℕ → List Cell). AllExplained (mark_at B H (old.moment + 1) M S) may)
+          (sym keep.cells.may) last.survives.explained;
     });
     images = AtEach-stays (λ m X. IsAllowed B H m X) start old new keep.past moment last.images;
   }
 
-  stage-keeps : (B : Image) (H : List Entry1) (M : Image) (S start s : ℕ) → Stage B H M S start s old → Stage B H M S start s new
+  stage-keeps : (B : Image) (H : List Entry1) (M : Image) (S start s : ℕ) → Stage B H M S start s old
+      → Stage B H M S start s new
   stage-keeps B H M S start s st = record {
     lasts = lasts-keep B H M S start st.lasts;
     ready = record {
@@ -76,7 +80,8 @@ module _ (old new : DiskState) (keep : Level old new) where
       survives = (lasts-keep B H M S start st.lasts).survives;
       positive = st.ready.positive;
       fresh = λ b c lt has. subst (λ (X : Image). CellBelow s X b c) (sym now)
-          (st.ready.fresh b c (subst (λ (X : Image). b < (super_at X).blocks) now lt) (subst (λ (may : ℕ → List Cell). Contains (may b) c) keep.cells.may has));
+          (st.ready.fresh b c (subst (λ (X : Image). b < (super_at X).blocks) now lt)
+          (subst (λ (may : ℕ → List Cell). Contains (may b) c) keep.cells.may has));
     };
   }
 
@@ -121,7 +126,8 @@ module _ (old new : DiskState) (keep : Keeping old new) where
   stopped-keeps = stopped-level old new (level old new keep)
 
   -- what was written alone after the reads was written alone
-  pub order-after : (end : DiskState) (k : Books) (s : Step) (c : Claims) (r : Reply) → NoOrder new end (MeetsOpen new k) s c r
+  pub order-after : (end : DiskState) (k : Books) (s : Step) (c : Claims) (r : Reply)
+      → NoOrder new end (MeetsOpen new k) s c r
       → NoOrder old end (MeetsOpen old k) s c r
   order-after end k s c r (LeavesDisk quick cells) = LeavesDisk quick (KeepsCells-trans old new end keep.cells cells)
   order-after end k s c r (FlushesAlone is quick f) = FlushesAlone is quick (record {
@@ -139,18 +145,22 @@ module _ (old new : DiskState) (keep : Keeping old new) where
     only = record {
       moment = (let e = moment' in let m = w.only.moment in omega (arith, e, m));
       others = λ b apart. w.only.others b apart ∙ (λ j. keep.cells.may j b);
-      cells = λ b c has. subst (λ (may : ℕ → List Cell). Contains (may b) c ⊎ OneOf w.calls b c) keep.cells.may (w.only.cells b c has);
+      cells = λ b c has. subst (λ (may : ℕ → List Cell). Contains (may b) c ⊎ OneOf w.calls b c) keep.cells.may
+          (w.only.cells b c has);
       done = λ e. w.only.done e ∙ ap (λ (X : Image). image_after w.calls X) keep.cells.now;
       tried = λ e. subst (λ (X : Image). IsTried w.calls X end.now) keep.cells.now (w.only.tried e);
     };
-    one_each = λ m. w.one_each (m.0, m.1, subst (λ (b : Bool). IsTrue b) (sym keep.disk.tells) m.2, open-keeps k m.0 m.1 m.3);
+    one_each = λ m.
+        w.one_each (m.0, m.1, subst (λ (b : Bool). IsTrue b) (sym keep.disk.tells) m.2, open-keeps k m.0 m.1 m.3);
   })
 
   -- a step from there on is one from here on
-  pub goes-after : (end : DiskState) (k l : Books) (s : Step) (c : Claims) (r : Reply) → Goes new k end l s c r → Goes old k end l s c r
+  pub goes-after : (end : DiskState) (k l : Books) (s : Step) (c : Claims) (r : Reply) → Goes new k end l s c r
+      → Goes old k end l s c r
   goes-after end k l s c r g = safely-goes old end k l s c r (safely-after old new keep end k l r (goes-safely g))
       (order-after end k s c r g.order)
-      (λ tells H p o from q. g.sound (told tells) H p (either H p o) from (sounds-keep from old new keep.disk keep.past keep.cells q))
+      (λ tells H p o from q. g.sound (told tells) H p (either H p o) from
+      (sounds-keep from old new keep.disk keep.past keep.cells q))
       (λ tells caller H p o. subst (λ (n : ℕ). Follows old end l H p
       (record { caller = caller; from = n; to = end.moment; step = s; reply = r; claims = c })) moment'
       (again H p caller (g.from_open (told tells) caller H p (open-keeps k H p o))))
@@ -161,7 +171,8 @@ module _ (old new : DiskState) (keep : Keeping old new) where
       told : IsTrue old.tells → IsTrue new.tells
       told t = subst (λ (b : Bool). IsTrue b) (sym keep.disk.tells) t
 
-      either : (H : List Entry1) (p : Past) → IsOpen old k H p ⊎ IsStopped old k H p → IsOpen new k H p ⊎ IsStopped new k H p
+      either : (H : List Entry1) (p : Past) → IsOpen old k H p ⊎ IsStopped old k H p
+          → IsOpen new k H p ⊎ IsStopped new k H p
       either H p (inl o) = inl (open-keeps k H p o)
       either H p (inr o) = inr (stopped-keeps k H p o)
 
@@ -174,9 +185,13 @@ module _ (old new : DiskState) (keep : Keeping old new) where
       still H p caller f = record { none = f.none; done = f.done; next = f.next }
 
   -- no memory
-  pub goes-memory : (k : Books) (s : Step) (c : Claims) → IsSafe old k → Goes old k new k s c (reply.Refused refusal.OutOfMemory)
-  goes-memory k s c safe = safely-goes old new k k s c (reply.Refused refusal.OutOfMemory) (safely-memory old new keep k safe)
+  pub goes-memory : (k : Books) (s : Step) (c : Claims) → IsSafe old k
+      → Goes old k new k s c (reply.Refused refusal.OutOfMemory)
+  goes-memory k s c safe =
+      safely-goes old new k k s c (reply.Refused refusal.OutOfMemory) (safely-memory old new keep k safe)
       (LeavesDisk refl keep.cells)
       (λ tells H p o from q. sounds-keep from old new keep.disk keep.past keep.cells q)
-      (λ tells caller H p o. record { none = λ t. open-keeps k H p o; done = λ n f. absurd (cc); fault = λ t. absurd (cc) })
-      (λ tells caller H p o. record { none = λ t. stopped-keeps k H p o; done = λ n. absurd (cc); next = λ n. absurd (cc) })
+      (λ tells caller H p o.
+      record { none = λ t. open-keeps k H p o; done = λ n f. absurd (cc); fault = λ t. absurd (cc) })
+      (λ tells caller H p o.
+      record { none = λ t. stopped-keeps k H p o; done = λ n. absurd (cc); next = λ n. absurd (cc) })

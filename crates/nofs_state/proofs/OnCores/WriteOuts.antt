@@ -1,5 +1,6 @@
 -- What stands goes on over a write-out.
-use Rattle.std.proofs.Common.{◌≡◌, ℕ, ◌<◌, ◌≤◌, inl, inr, List, ◌∷◌, Option, None, Result, Ok, Err, IfSome, IsPermutation}
+use Rattle.std.proofs.Common.{◌≡◌, ℕ, ◌<◌, ◌≤◌, inl, inr, List, ◌∷◌, Option, None, Result, Ok, Err, IfSome}
+use Rattle.std.proofs.Common.{IsPermutation}
 use Rattle.std.proofs.Common.{[], IfOk, OnErr, OnOk, ◌↔◌, sym, ap, ◌∙◌, subst, subst₂, arith}
 use Rattle.std.proofs.lemmas.Bool.{cases_lt}
 use Rattle.nofs_disk.specs.Disk.{DiskState, IsDisk, MakesReady, Picks, Rose, WritesOut}
@@ -21,7 +22,8 @@ use Rattle.nofs_state.proofs.OnCores.Unchanged.{Keeping, open-keeps, stopped-kee
 use Rattle.nofs_state.proofs.OnBooks.Safe.{safe-over}
 
 -- there was no room for the call
-pub out-refused : {E : Type 0} (old new : DiskState) (result : Result (Unit {0}) E) → IsDisk new → MakesReady old new 1 result
+pub out-refused : {E : Type 0} (old new : DiskState) (result : Result (Unit {0}) E) → IsDisk new
+    → MakesReady old new 1 result
     → WroteOne old new (Err fault.OutOfMemory)
 out-refused old new result is ready =
     let same = ready.cells.moment in
@@ -40,28 +42,35 @@ out-refused old new result is ready =
       no_fault = tt;
     }
 
-module _ {E : Type 0} (old mid new : DiskState) (ok : Result (Unit {0}) E) (is : IsDisk new) (ready : MakesReady old mid 1 ok) where
-  added : (result : Result (Option ℕ) Failed) → WritesOut mid new result → (X : Image) → new.left old.moment X → Picks old.may old.blocks X
+module _ {E : Type 0} (old mid new : DiskState) (ok : Result (Unit {0}) E) (is : IsDisk new)
+    (ready : MakesReady old mid 1 ok) where
+  added : (result : Result (Option ℕ) Failed) → WritesOut mid new result → (X : Image) → new.left old.moment X
+      → Picks old.may old.blocks X
   added result w X left =
       let same : old.moment ≡ new.moment = sym (w.cells.moment ∙ ready.cells.moment) in
       let F : ℕ → Type 0 = λ n. new.left n X in
-      subst₂ (λ (may : ℕ → List Cell) (n : ℕ). Picks may n X) (w.cells.may ∙ ready.cells.may) (w.disk.blocks ∙ ready.disk.blocks)
+      subst₂ (λ (may : ℕ → List Cell) (n : ℕ). Picks may n X) (w.cells.may ∙ ready.cells.may)
+      (w.disk.blocks ∙ ready.disk.blocks)
       (is.at_rest X (subst F same left))
 
   module _ (result : Result (Option ℕ) Failed) (w : WritesOut mid new result) where
     no-more : (m : ℕ) (X : Image) → m < old.moment → new.left m X → old.left m X
-    no-more m X low left = ready.past.no_more m X (omega (arith, low)) (w.no_more m X (let e = ready.cells.moment in omega (arith, low, e)) left)
+    no-more m X low left = ready.past.no_more m X (omega (arith, low))
+        (w.no_more m X (let e = ready.cells.moment in omega (arith, low, e)) left)
 
     no-less : (m : ℕ) (X : Image) → m ≤ old.moment → old.left m X → new.left m X
-    no-less m X low left = w.no_less m X (let e = ready.cells.moment in omega (arith, low, e)) (ready.past.no_less m X low left)
+    no-less m X low left =
+        w.no_less m X (let e = ready.cells.moment in omega (arith, low, e)) (ready.past.no_less m X low left)
 
     was : (m : ℕ) → m ≤ old.moment → new.was m ≡ old.was m
     was m low = w.was m ∙ ready.past.was m low
 
     -- what a write-out leaves, with what it answers
     written : (out : Result (Option ℕ) OutFault) → IfOk out (λ o. (o ≡ None) ↔ (old.dirty ≡ []))
-        → IfOk out (λ o. IfSome o (λ block. IsPermutation (block ∷ new.dirty) old.dirty)) → OnErr out (new.dirty ≡ old.dirty)
-        → (out ≡ Err fault.Failed → Rose old.faults new.faults) → OnOk out (new.faults ≡ old.faults) → WroteOne old new out
+        → IfOk out (λ o. IfSome o (λ block. IsPermutation (block ∷ new.dirty) old.dirty))
+        → OnErr out (new.dirty ≡ old.dirty)
+        → (out ≡ Err fault.Failed → Rose old.faults new.faults) → OnOk out (new.faults ≡ old.faults)
+        → WroteOne old new out
     written out none some err cause no_fault = record {
       disk = IsSameDisk-trans old mid new ready.disk w.disk;
       cells = KeepsCells-trans old mid new ready.cells w.cells;
@@ -77,9 +86,12 @@ module _ {E : Type 0} (old mid new : DiskState) (ok : Result (Unit {0}) E) (is :
     }
 
   pub out-done : (block : Option ℕ) → WritesOut mid new (Ok block) → WroteOne old new (Ok block)
-  out-done block w = written (Ok block) w (Ok block)
-      (λ e. sym ready.dirty ∙ w.none.0 (ap Ok e), λ e. let t : Ok block ≡ Ok None = w.none.1 (ready.dirty ∙ e) in cc (t))
-      (subst (λ (d : List ℕ). IfSome block (λ b. IsPermutation (b ∷ new.dirty) d)) ready.dirty w.some) tt (λ e. absurd (cc (e)))
+  out-done block w = written (Ok block) w (Ok block) (
+    λ e. sym ready.dirty ∙ w.none.0 (ap Ok e),
+    λ e. let t : Ok block ≡ Ok None = w.none.1 (ready.dirty ∙ e) in cc (t),
+  )
+      (subst (λ (d : List ℕ). IfSome block (λ b. IsPermutation (b ∷ new.dirty) d)) ready.dirty w.some) tt
+      (λ e. absurd (cc (e)))
       (w.no_fault ∙ ready.no_fault)
 
   pub out-failed : (x : Failed) → WritesOut mid new (Err x) → WroteOne old new (Err fault.Failed)
@@ -93,12 +105,18 @@ module _ (old new : DiskState) (result : Result (Option ℕ) OutFault) (out : Wr
 
   keep : Keeping old before
   keep = record {
-    disk = record { blocks = out.disk.blocks; tells = out.disk.tells; holds_back = out.disk.holds_back; faults = out.disk.faults };
+    disk = record {
+      blocks = out.disk.blocks;
+      tells = out.disk.tells;
+      holds_back = out.disk.holds_back;
+      faults = out.disk.faults;
+    };
     past = record { was = out.was; no_more = λ m X low left. left; no_less = λ m X low left. left };
     cells = record { now = out.cells.now; may = out.cells.may; moment = out.cells.moment };
   }
 
-  pub at-each-out : (P : ℕ → Image → Type 0) (from : ℕ) → ((X : Image) → Picks old.may old.blocks X → P old.moment X) → AtEach P from old → AtEach P from new
+  pub at-each-out : (P : ℕ → Image → Type 0) (from : ℕ) → ((X : Image) → Picks old.may old.blocks X → P old.moment X)
+      → AtEach P from old → AtEach P from new
   at-each-out P from rest at =
       let same = out.cells.moment in
       record {
@@ -119,7 +137,8 @@ module _ (old new : DiskState) (result : Result (Option ℕ) OutFault) (out : Wr
     images = at-each-out (λ m X. IsSound X) from s.picks s.images;
   }
 
-  lasts-out : (B : Image) (H : List Entry1) (M : Image) (S start : ℕ) → ((X : Image) → Picks old.may old.blocks X → IsAllowed B H old.moment X)
+  lasts-out : (B : Image) (H : List Entry1) (M : Image) (S start : ℕ)
+      → ((X : Image) → Picks old.may old.blocks X → IsAllowed B H old.moment X)
       → AtEach (λ m X. IsAllowed B H m X) start old → Lasts B H M S start before → Lasts B H M S start new
   lasts-out B H M S start rest images l = record {
     size = l.size;
@@ -129,7 +148,8 @@ module _ (old new : DiskState) (result : Result (Option ℕ) OutFault) (out : Wr
     images = at-each-out (λ m X. IsAllowed B H m X) start rest images;
   }
 
-  pub open-out : (k : Books) (H : List Entry1) (p : Past) → ((X : Image) → Picks old.may old.blocks X → IsAllowed p.base H old.moment X) → IsOpen old k H p
+  pub open-out : (k : Books) (H : List Entry1) (p : Past)
+      → ((X : Image) → Picks old.may old.blocks X → IsAllowed p.base H old.moment X) → IsOpen old k H p
       → IsOpen new k H p
   open-out k H p rest was =
       let o : IsOpen before k H p = open-keeps old before keep k H p was in
@@ -146,7 +166,11 @@ module _ (old new : DiskState) (result : Result (Option ℕ) OutFault) (out : Wr
           lasts = lasts-out p.base H p.mark p.stamps k.history.start rest was.stage.lasts.images o.stage.lasts;
           ready = record {
             files = o.stage.ready.files;
-            survives = record { mark = o.stage.ready.survives.mark; size = o.stage.ready.survives.size; explained = o.stage.ready.survives.explained };
+            survives = record {
+              mark = o.stage.ready.survives.mark;
+              size = o.stage.ready.survives.size;
+              explained = o.stage.ready.survives.explained;
+            };
             positive = o.stage.ready.positive;
             fresh = o.stage.ready.fresh;
           };
@@ -156,12 +180,19 @@ module _ (old new : DiskState) (result : Result (Option ℕ) OutFault) (out : Wr
         no_fault = o.no_fault;
       }
 
-  pub stopped-out : (k : Books) (H : List Entry1) (p : Past) → ((X : Image) → Picks old.may old.blocks X → IsAllowed p.base H old.moment X)
+  pub stopped-out : (k : Books) (H : List Entry1) (p : Past)
+      → ((X : Image) → Picks old.may old.blocks X → IsAllowed p.base H old.moment X)
       → IsStopped old k H p → IsStopped new k H p
   stopped-out k H p rest was =
       let o : IsStopped before k H p = stopped-keeps old before keep k H p was in
-      let lasts : Lasts p.base H p.mark p.stamps k.history.start new = lasts-out p.base H p.mark p.stamps k.history.start rest was.lasts.images o.lasts in
-      record { run = record { run = o.run.run; ends = o.run.ends }; stopped = o.stopped; world_stopped = o.world_stopped; lasts = lasts }
+      let lasts : Lasts p.base H p.mark p.stamps k.history.start new =
+      lasts-out p.base H p.mark p.stamps k.history.start rest was.lasts.images o.lasts in
+      record {
+        run = record { run = o.run.run; ends = o.run.ends };
+        stopped = o.stopped;
+        world_stopped = o.world_stopped;
+        lasts = lasts;
+      }
 
   pub safe-out : (k : Books) → IsSafe old k → IsSafe new k
   safe-out k = safe-over old new k k.stopped k.history out.disk (ap super_at out.cells.now)

@@ -7,13 +7,15 @@ use Rattle.nofs_model.specs.Cells.{Cell}
 use Rattle.nofs_model.specs.Image.{Image, IsSound, cell_at}
 use Rattle.nofs_state.specs.Cores.Invariant.{Sounds}
 
-pub sounds-keep : (from : ℕ) (old new : DiskState) → IsSameDisk old new → KeepsPast old new → KeepsCells old new → Sounds from old → Sounds from new
+pub sounds-keep : (from : ℕ) (old new : DiskState) → IsSameDisk old new → KeepsPast old new → KeepsCells old new
+    → Sounds from old → Sounds from new
 sounds-keep from old new disk past cells s = record {
   picks = λ X p. s.picks X (subst₂ (λ (may : ℕ → List Cell) (n : ℕ). Picks may n X) cells.may disk.blocks p);
   images = AtEach-stays (λ m X. IsSound X) from old new past cells.moment s.images;
 }
 
-pub sounds-flush : (from : ℕ) (old new : DiskState) {result : Result (Unit {0}) Failed} → IsDisk new → Flushes old new result → Sounds from old
+pub sounds-flush : (from : ℕ) (old new : DiskState) {result : Result (Unit {0}) Failed} → IsDisk new
+    → Flushes old new result → Sounds from old
     → Sounds from new
 sounds-flush from old new is f s = record {
   picks = picks;

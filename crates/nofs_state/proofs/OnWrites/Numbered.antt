@@ -1,5 +1,6 @@
 -- Sound images stay so over the writes of a step, whichever of them failed.
-use Rattle.std.proofs.Common.{◌≡◌, ℕ, ◌+◌, ◌*◌, ◌/◌, ◌%◌, ◌^◌, ◌<◌, ◌≤◌, IsTrue, true, inl, inr, leb, leb-true, ltb, List, [], ◌∷◌, length, refl, sym, ap}
+use Rattle.std.proofs.Common.{◌≡◌, ℕ, ◌+◌, ◌*◌, ◌/◌, ◌%◌, ◌^◌, ◌<◌, ◌≤◌, IsTrue, true, inl, inr, leb, leb-true, ltb}
+use Rattle.std.proofs.Common.{List, [], ◌∷◌, length, refl, sym, ap}
 use Rattle.std.proofs.Common.{◌∙◌, subst, arith, Contains}
 use Rattle.std.proofs.lemmas.Bool.{cases_lt}
 use Rattle.nofs_disk.specs.Disk.{DiskState, IsDisk}
@@ -32,15 +33,18 @@ not-area : (X : Image) → (leb (1 + (super_at X).inodes / 4) 0) ≡ true → �
 not-area X e = let l = leb-true (1 + (super_at X).inodes / 4) 0 e in omega (arith, l)
 
 not-first : (q : Mark) (X : Image) (c : Cell) → Proper q X 0 c → ⊥
-not-first q X c (OfContent h) = not-area q.image (and-both (leb (1 + (super_at q.image).inodes / 4) 0) (ltb 0 (super_at q.image).blocks) h.area).0
-not-first q X c (OfPointers h) = not-area q.image (and-both (leb (1 + (super_at q.image).inodes / 4) 0) (ltb 0 (super_at q.image).blocks) h.area).0
+not-first q X c (OfContent h) =
+    not-area q.image (and-both (leb (1 + (super_at q.image).inodes / 4) 0) (ltb 0 (super_at q.image).blocks) h.area).0
+not-first q X c (OfPointers h) =
+    not-area q.image (and-both (leb (1 + (super_at q.image).inodes / 4) 0) (ltb 0 (super_at q.image).blocks) h.area).0
 not-first q X c (OfTable h) = let l = h.not_super in omega (arith, l)
 
 fine-first : (m : Mark) (c : Cell) → Fine m 0 c → c ≡ cell_at m.image 0
 fine-first m c (inl e) = e
 fine-first m c (inr w) = absurd (let l = w.not_super in omega (arith, l))
 
-module _ (old new : DiskState) (k : Books) (H : List Entry1) (p : Past) (e : Entry1) (V : World) (q : Mark) (is : IsDisk old) (tells : IsTrue old.tells)
+module _ (old new : DiskState) (k : Books) (H : List Entry1) (p : Past) (e : Entry1) (V : World) (q : Mark)
+    (is : IsDisk old) (tells : IsTrue old.tells)
     (safe : IsSafe old k) (o : IsOpen old k H p) (next : Next p.world e V)
     (adds : Adds (Proper q old.now) old new) (numbered : AddsNumbered p.world e.claims old new) where
   abbrev W : World
@@ -73,23 +77,30 @@ module _ (old new : DiskState) (k : Books) (H : List Entry1) (p : Past) (e : Ent
   first-was : (c : Cell) → Contains (old.may 0) c → c ≡ cell_at old.now 0
   first-was c has =
       let there = fine-first _ c (o.stage.ready.survives.explained 0 c has).0 in
-      let here = fine-first _ (cell_at old.now 0) (o.stage.ready.survives.explained 0 (cell_at old.now 0) (is.has_now 0 tells some-blocks)).0 in
+      let here = fine-first _ (cell_at old.now 0)
+      (o.stage.ready.survives.explained 0 (cell_at old.now 0) (is.has_now 0 tells some-blocks)).0 in
       there ∙ sym here
 
   first-is : (c : Cell) → WasOr (Proper q old.now) old 0 c → c ≡ cell_at old.now 0
   first-is c (inl was) = first-was c was
   first-is c (inr good) = absurd (not-first q old.now c good)
 
-  only : (Y : Image) → ((b : ℕ) → b < old.blocks → WasOr (λ n cell. CellNumbers (Numbered W e.claims) old.now n cell) old b (cell_at Y b))
+  only : (Y : Image) → ((b : ℕ)
+      → b < old.blocks → WasOr (λ n cell. CellNumbers (Numbered W e.claims) old.now n cell) old b (cell_at Y b))
       → OnlyNumbered W e.claims old.now old.may (λ b. cell_at Y b ∷ [])
-  only Y each b low c has = subst (λ (d : Cell). WasOr (λ n cell. CellNumbers (Numbered W e.claims) old.now n cell) old b d) (sole-is (cell_at Y b) c has)
+  only Y each b low c has = subst (λ (d : Cell).
+      WasOr (λ n cell. CellNumbers (Numbered W e.claims) old.now n cell) old b d) (sole-is (cell_at Y b) c has)
       (each b (within b low))
 
-  picked : (Y : Image) → length Y ≡ old.blocks → ((b : ℕ) → b < old.blocks → WasOr (Proper q old.now) old b (cell_at Y b))
-      → ((b : ℕ) → b < old.blocks → WasOr (λ n cell. CellNumbers (Numbered W e.claims) old.now n cell) old b (cell_at Y b)) → IsSound Y
+  picked : (Y : Image)
+      → length Y ≡ old.blocks → ((b : ℕ) → b < old.blocks → WasOr (Proper q old.now) old b (cell_at Y b))
+      → ((b : ℕ) → b < old.blocks
+      → WasOr (λ n cell. CellNumbers (Numbered W e.claims) old.now n cell) old b (cell_at Y b)) → IsSound Y
   picked Y len proper each =
-      let below = (law-mount-stamps W V e old.now old.now old.may (λ b. cell_at Y b ∷ []) next low-serial quarters refl fresh (only Y each)).1 in
-      law-sound ((W.mount + 1) * 2 ^ 40) old.now Y (λ b. cell_at Y b ∷ []) o.mountable low-mount (let n = mount-is in omega (arith, n))
+      let below = (law-mount-stamps W V e old.now old.now old.may
+      (λ b. cell_at Y b ∷ []) next low-serial quarters refl fresh (only Y each)).1 in
+      law-sound ((W.mount + 1) * 2 ^ 40) old.now Y (λ b. cell_at Y b ∷ []) o.mountable low-mount
+      (let n = mount-is in omega (arith, n))
       (λ b low c has. below b (subst (λ (n : ℕ). b < n) (sym blocks-are) low) c has)
       (len ∙ sym (is.whole tells)) (first-is (cell_at Y 0) (proper 0 some-blocks)) (λ b low. (0, omega arith, refl))
 

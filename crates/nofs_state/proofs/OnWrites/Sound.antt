@@ -15,9 +15,12 @@ module _ (d : DiskState) (k : Books) (H : List Entry1) (p : Past) (safe : IsSafe
   mount = ap (λ (q : SuperBlock). q.mount) o.at
 
   bound : next_stamp p.world ≤ ((super_at d.now).mount + 1) * 2 ^ 40
-  bound = let m = mount in let a = o.says.mount in let s = o.says.serial in let h = safe.serial in omega (arith, m, a, s, h)
+  bound = let m = mount in let a = o.says.mount in let s = o.says.serial in let h = safe.serial in
+      omega (arith, m, a, s, h)
 
-  pub open-sound : (Y : Image) → length Y ≡ length d.now → cell_at Y 0 ≡ cell_at d.now 0 → ((b : ℕ) → b < length Y → Contains (d.may b) (cell_at Y b))
+  pub open-sound : (Y : Image) → length Y ≡ length d.now → cell_at Y 0 ≡ cell_at d.now 0
+      → ((b : ℕ) → b < length Y → Contains (d.may b) (cell_at Y b))
       → IsSound Y
-  open-sound Y size super picks = law-sound (next_stamp p.world) d.now Y d.may o.mountable (subst (λ (n : ℕ). n < 2 ^ 24) (sym mount) safe.mount) bound
+  open-sound Y size super picks = law-sound (next_stamp p.world) d.now Y d.may o.mountable
+      (subst (λ (n : ℕ). n < 2 ^ 24) (sym mount) safe.mount) bound
       (λ b low c held. o.stage.ready.fresh b c low held) size super picks

@@ -1,5 +1,6 @@
 -- Two writes, one after the other.
-use Rattle.std.proofs.Common.{◌≡◌, ◌≢◌, ℕ, ◌<◌, ◌⊎◌, Bool, true, false, inl, inr, List, [], ◌∷◌, length, Result, Ok, Err, refl, sym, ap, ◌∙◌, subst, arith}
+use Rattle.std.proofs.Common.{◌≡◌, ◌≢◌, ℕ, ◌<◌, ◌⊎◌, Bool, true, false, inl, inr, List, [], ◌∷◌, length, Result, Ok}
+use Rattle.std.proofs.Common.{Err, refl, sym, ap, ◌∙◌, subst, arith}
 use Rattle.std.proofs.Common.{le_refl, IsTrue, Contains}
 use Rattle.std.specs.Prelude.{OnOk, OnErr, slice_set}
 use Rattle.nofs_disk.specs.Disk.{DiskState, IsDisk, IsSettled, Writes, Rose, cell_at, no_cell}
@@ -26,7 +27,8 @@ use Rattle.nofs_state.proofs.OnCores.Done.{Adds-map}
 use Rattle.nofs_state.proofs.OnBooks.Safe.{safe-over}
 
 -- other blocks stay, whatever comes of a write
-pub write-other : (old new : DiskState) (block : ℕ) (cell : Cell) (r : Result (Unit {0}) Failed) (b : ℕ) → Writes old new block cell r → b ≢ block
+pub write-other : (old new : DiskState) (block : ℕ) (cell : Cell) (r : Result (Unit {0}) Failed) (b : ℕ)
+    → Writes old new block cell r → b ≢ block
     → cell_at new.now b ≡ cell_at old.now b
 write-other old new block cell r b w ne = go r w.ok w.err
   where
@@ -34,7 +36,8 @@ write-other old new block cell r b w ne = go r w.ok w.err
     set e = ap (λ (X : Image). cell_at X b) e ∙ get_or-set_other old.now block b cell no_cell ne
 
     go : (q : Result (Unit {0}) Failed) → OnOk q (new.now ≡ slice_set old.now block cell)
-        → OnErr q ((new.now ≡ old.now) ⊎ (new.now ≡ slice_set old.now block cell)) → cell_at new.now b ≡ cell_at old.now b
+        → OnErr q ((new.now ≡ old.now) ⊎ (new.now ≡ slice_set old.now block cell))
+        → cell_at new.now b ≡ cell_at old.now b
     go (Ok u) ok err = set ok
     go (Err x) ok err = elim err [ inl same ↦ ap (λ (X : Image). cell_at X b) same | inr e ↦ set e ]
 
@@ -44,22 +47,26 @@ only-one : (old new : DiskState) (b : ℕ) (c : Cell) (r : Result (Unit {0}) Fai
 only-one old new b c r is w = record {
   moment = (let m = w.moment in omega (arith, m));
   others = λ n apart. w.others n apart.0;
-  cells = (let a : Adds (OneOf ((b, c) ∷ [])) old new = Adds-writes (OneOf ((b, c) ∷ [])) old new b c is w (inl (refl, refl)) in a.cells);
+  cells = (let a : Adds (OneOf ((b, c) ∷ [])) old new =
+      Adds-writes (OneOf ((b, c) ∷ [])) old new b c is w (inl (refl, refl)) in a.cells);
   done = done r w.ok;
   tried = tried r w.err;
 }
   where
-    done : (q : Result (Unit {0}) Failed) → OnOk q (new.now ≡ slice_set old.now b c) → has_failed q ≡ false → new.now ≡ slice_set old.now b c
+    done : (q : Result (Unit {0}) Failed) → OnOk q (new.now ≡ slice_set old.now b c)
+        → has_failed q ≡ false → new.now ≡ slice_set old.now b c
     done (Ok u) s e = s
     done (Err x) s e = absurd (cc e)
 
-    tried : (q : Result (Unit {0}) Failed) → OnErr q ((new.now ≡ old.now) ⊎ (new.now ≡ slice_set old.now b c)) → has_failed q ≡ true
+    tried : (q : Result (Unit {0}) Failed) → OnErr q ((new.now ≡ old.now) ⊎ (new.now ≡ slice_set old.now b c))
+        → has_failed q ≡ true
         → (new.now ≡ old.now) ⊎ (new.now ≡ slice_set old.now b c)
     tried (Ok u) s e = absurd (cc e)
     tried (Err x) s e = s
 
 -- and others after it
-only-more : (old mid new : DiskState) (b : ℕ) (c : Cell) (calls : List (ℕ × Cell)) (failed : Bool) → IsDisk mid → Writes old mid b c (Ok tt)
+only-more : (old mid new : DiskState) (b : ℕ) (c : Cell) (calls : List (ℕ × Cell)) (failed : Bool) → IsDisk mid
+    → Writes old mid b c (Ok tt)
     → OnlyWrites mid new calls failed → OnlyWrites old new ((b, c) ∷ calls) failed
 only-more old mid new b c calls failed is w v = record {
   moment = (let m = w.moment in let n = v.moment in omega (arith, m, n));
@@ -72,17 +79,21 @@ only-more old mid new b c calls failed is w v = record {
     one : Adds (OneOf ((b, c) ∷ [])) old mid
     one = Adds-writes (OneOf ((b, c) ∷ [])) old mid b c is w (inl (refl, refl))
 
-    back : (n : ℕ) (d : Cell) → Contains (mid.may n) d ⊎ OneOf calls n d → Contains (old.may n) d ⊎ OneOf ((b, c) ∷ calls) n d
+    back : (n : ℕ) (d : Cell) → Contains (mid.may n) d ⊎ OneOf calls n d
+        → Contains (old.may n) d ⊎ OneOf ((b, c) ∷ calls) n d
     back n d (inr later) = inr (inr later)
-    back n d (inl has) = elim (one.cells n d has) [ inl was ↦ inl was | inr it ↦ elim it [ inl here ↦ inr (inl here) | inr none ↦ absurd none ] ]
+    back n d (inl has) = elim (one.cells n d has)
+        [ inl was ↦ inl was | inr it ↦ elim it [ inl here ↦ inr (inl here) | inr none ↦ absurd none ] ]
 
     tried : (xs : List (ℕ × Cell)) → IsTried xs mid.now new.now → IsTried ((b, c) ∷ xs) old.now new.now
     tried [] none = absurd none
     tried (x ∷ xs) t = subst (λ (X : Image). IsTried (x ∷ xs) X new.now) w.ok t
 
 -- what a step that wrote so did to the device
-pub writes-cells : {old new : DiskState} {ws : List (ℕ × Cell)} {r : Result (Unit {0}) Failed} (k : Books) (s : Step) (c : Claims) → WritesAll old new ws r
-    → WritesSoMany s c (length ws) → (IsTrue old.tells → (H : List Entry1) (p : Past) → IsOpen old k H p → HasOneEach ws)
+pub writes-cells : {old new : DiskState} {ws : List (ℕ × Cell)} {r : Result (Unit {0}) Failed} (k : Books) (s : Step)
+    (c : Claims) → WritesAll old new ws r
+    → WritesSoMany s c (length ws)
+    → (IsTrue old.tells → (H : List Entry1) (p : Past) → IsOpen old k H p → HasOneEach ws)
     → WritesCells old new (MeetsOpen old k) s c (has_failed r)
 writes-cells {old} {new} {ws} {r} k s c w count each = record {
   row = ws;
@@ -98,8 +109,10 @@ writes-cells {old} {new} {ws} {r} k s c w count each = record {
     whole (Ok u) all e = all
     whole (Err x) all e = absurd (cc e)
 
--- nothing was made durable: a block that might hold two cells, and that none of the calls wrote, may hold both still, so the device is not settled
-pub settles-nothing : {old new : DiskState} {calls : List (ℕ × Cell)} {failed : Bool} → OnlyWrites old new calls failed → (b : ℕ) (c d : Cell)
+-- nothing was made durable: a block that might hold two cells, and that none of the calls wrote, may hold both still,
+-- so the device is not settled
+pub settles-nothing : {old new : DiskState} {calls : List (ℕ × Cell)} {failed : Bool} → OnlyWrites old new calls failed
+    → (b : ℕ) (c d : Cell)
     → IsApart calls b → b < new.blocks → Contains (old.may b) c → Contains (old.may b) d → c ≢ d → IsSettled new → ⊥
 settles-nothing {old} {new} w b c d apart low has also differ settled =
     let one : Contains (new.may b) c = subst (λ (l : List Cell). Contains l c) (sym (w.others b apart)) has in
@@ -107,11 +120,13 @@ settles-nothing {old} {new} w b c d apart low has also differ settled =
     differ (settled b c low one ∙ sym (settled b d low two))
 
 -- each block gets one cell where each cell is that of one image
-pub one-each : (ws : List (ℕ × Cell)) (Y : Image) → ((b : ℕ) (c : Cell) → OneOf ws b c → c ≡ cell_at Y b) → HasOneEach ws
+pub one-each : (ws : List (ℕ × Cell)) (Y : Image)
+    → ((b : ℕ) (c : Cell) → OneOf ws b c → c ≡ cell_at Y b) → HasOneEach ws
 one-each ws Y each b c d x y = each b c x ∙ sym (each b d y)
 
 -- the first failed
-pub first-fails : (old new : DiskState) (b : ℕ) (c : Cell) (ws : List (ℕ × Cell)) (x : Failed) → IsDisk new → Writes old new b c (Err x)
+pub first-fails : (old new : DiskState) (b : ℕ) (c : Cell) (ws : List (ℕ × Cell)) (x : Failed) → IsDisk new
+    → Writes old new b c (Err x)
     → WritesAll old new ((b, c) ∷ ws) (Err x)
 first-fails old new b c ws x is w = record {
   calls = (b, c) ∷ [];
@@ -126,7 +141,8 @@ first-fails old new b c ws x is w = record {
 }
 
 -- one write, whatever comes of it
-pub one-write : (old new : DiskState) (b : ℕ) (c : Cell) (r : Result (Unit {0}) Failed) → IsDisk new → Writes old new b c r → WritesAll old new ((b, c) ∷ []) r
+pub one-write : (old new : DiskState) (b : ℕ) (c : Cell) (r : Result (Unit {0}) Failed) → IsDisk new
+    → Writes old new b c r → WritesAll old new ((b, c) ∷ []) r
 one-write old new b c (Err x) is w = first-fails old new b c [] x is w
 one-write old new b c (Ok done) is w = record {
   calls = (b, c) ∷ [];
@@ -141,7 +157,8 @@ one-write old new b c (Ok done) is w = record {
 }
 
 -- the first is done, and then the others, whatever comes of them
-pub then-others : (old mid new : DiskState) (b : ℕ) (c : Cell) (ws : List (ℕ × Cell)) (r : Result (Unit {0}) Failed) → IsDisk mid → Writes old mid b c (Ok tt)
+pub then-others : (old mid new : DiskState) (b : ℕ) (c : Cell) (ws : List (ℕ × Cell)) (r : Result (Unit {0}) Failed)
+    → IsDisk mid → Writes old mid b c (Ok tt)
     → WritesAll mid new ws r → WritesAll old new ((b, c) ∷ ws) r
 then-others old mid new b c ws r is_mid w v = record {
   calls = (b, c) ∷ v.calls;
@@ -161,7 +178,8 @@ then-others old mid new b c ws r is_mid w v = record {
     all (Ok u) s = ap (λ (xs : List (ℕ × Cell)). (b, c) ∷ xs) s
     all (Err x) s = tt
 
-    ok : (q : Result (Unit {0}) Failed) → OnOk q (new.now ≡ image_after ws mid.now) → OnOk q (new.now ≡ image_after ws (slice_set old.now b c))
+    ok : (q : Result (Unit {0}) Failed) → OnOk q (new.now ≡ image_after ws mid.now)
+        → OnOk q (new.now ≡ image_after ws (slice_set old.now b c))
     ok (Ok u) s = s ∙ ap (λ (X : Image). image_after ws X) w.ok
     ok (Err x) s = tt
 
@@ -170,17 +188,22 @@ then-others old mid new b c ws r is_mid w v = record {
     err (Err x) s = Rose-within old.faults mid.faults new.faults new.faults w.disk.faults s (le_refl new.faults)
 
 -- so where the mount stops at a fault
-pub stores-first : {old mid new : DiskState} {k l : Books} {b : ℕ} {c : Cell} {ws : List (ℕ × Cell)} {r : Result (Unit {0}) Refusal} → IsDisk mid
+pub stores-first : {old mid new : DiskState} {k l : Books} {b : ℕ} {c : Cell} {ws : List (ℕ × Cell)}
+    {r : Result (Unit {0}) Refusal} → IsDisk mid
     → Writes old mid b c (Ok tt) → Stores mid k new l ws r → Stores old k new l ((b, c) ∷ ws) r
 stores-first is w (Stored v same e) = Stored (then-others _ _ _ _ _ _ _ is w v) same e
 stores-first is w (NotStored x v same e) = NotStored x (then-others _ _ _ _ _ _ _ is w v) same e
 
 -- the first failed, and the mount is stopped
-pub stores-none : {old new : DiskState} {k l : Books} {b : ℕ} {c : Cell} {ws : List (ℕ × Cell)} {x : Failed} {why : Refusal} → IsDisk new
-    → Writes old new b c (Err x) → l ≡ stopped_books k → why ≡ refusal.WriteFault → Stores old k new l ((b, c) ∷ ws) (Err why)
+pub stores-none : {old new : DiskState} {k l : Books} {b : ℕ} {c : Cell} {ws : List (ℕ × Cell)} {x : Failed}
+    {why : Refusal} → IsDisk new
+    → Writes old new b c (Err x) → l ≡ stopped_books k
+    → why ≡ refusal.WriteFault → Stores old k new l ((b, c) ∷ ws) (Err why)
 stores-none is w stopped e = NotStored _ (first-fails _ _ _ _ _ _ is w) stopped (ap Err e)
 
 -- the maps and numbers stay those of the disk, where no write is of the superblock
-pub safe-writes : (old new : DiskState) (k : Books) (ws : List (ℕ × Cell)) (r : Result (Unit {0}) Failed) (stop : Bool) → WritesAll old new ws r
+pub safe-writes : (old new : DiskState) (k : Books) (ws : List (ℕ × Cell)) (r : Result (Unit {0}) Failed) (stop : Bool)
+    → WritesAll old new ws r
     → IsApart ws 0 → IsSafe old k → IsSafe new (record k { stopped = stop })
-safe-writes old new k ws r stop w apart = safe-over old new k stop k.history w.adds.disk (supers old.now new.now (w.others 0 apart))
+safe-writes old new k ws r stop w apart =
+    safe-over old new k stop k.history w.adds.disk (supers old.now new.now (w.others 0 apart))

@@ -1,5 +1,6 @@
 -- A cell of zeros has no pointer.
-use Rattle.std.proofs.Common.{◌≡◌, ℕ, zero, suc, ◌+◌, ◌*◌, ◌≤◌, true, inl, inr, List, length, drop, replicate, refl, ap, ◌∙◌, arith}
+use Rattle.std.proofs.Common.{◌≡◌, ℕ, zero, suc, ◌+◌, ◌*◌, ◌≤◌, true, inl, inr, List, length, drop, replicate, refl, ap}
+use Rattle.std.proofs.Common.{◌∙◌, arith}
 use Rattle.std.specs.Prelude.{slice_index}
 use Rattle.std.proofs.lemmas.Bool.{cases_lt}
 use Rattle.std.proofs.lemmas.List.{drop-replicate, get_or-replicate, get_or_past, length-drop, length-replicate}
@@ -29,13 +30,16 @@ zeros-null m j = rw (number-zero 8 (16 * j) m, number-zero 8 (16 * j + 8) m) ref
 -- nor do the bytes past the end
 past-zero : (n at : ℕ) (xs : List ℕ) → length xs ≤ at → number_at n at xs ≡ 0
 unfolding number_at
-past-zero n at xs past = little-zero 0 n (drop at xs) (λ k. get_or_past (drop at xs) k 0 (let l = length-drop at xs in omega (arith, l, past)))
+past-zero n at xs past = little-zero 0 n (drop at xs)
+    (λ k. get_or_past (drop at xs) k 0 (let l = length-drop at xs in omega (arith, l, past)))
 
 pub past-null : (xs : List ℕ) (j : ℕ) → length xs ≡ 1024 → 64 ≤ j → is_null (pointer_at xs j) ≡ true
 unfolding pointer_at pointer_in
-past-null xs j long far = rw (past-zero 8 (16 * j) xs (omega (arith, long, far)), past-zero 8 (16 * j + 8) xs (omega (arith, long, far))) refl
+past-null xs j long far =
+    rw (past-zero 8 (16 * j) xs (omega (arith, long, far)), past-zero 8 (16 * j + 8) xs (omega (arith, long, far))) refl
 
-pub past-same : (xs ys : List ℕ) (j : ℕ) → length xs ≡ 1024 → length ys ≡ 1024 → 64 ≤ j → pointer_at xs j ≡ pointer_at ys j
+pub past-same : (xs ys : List ℕ) (j : ℕ)
+    → length xs ≡ 1024 → length ys ≡ 1024 → 64 ≤ j → pointer_at xs j ≡ pointer_at ys j
 unfolding pointer_at pointer_in
 past-same xs ys j long also far = rw (
   past-zero 8 (16 * j) xs (omega (arith, long, far)),

@@ -1,7 +1,8 @@
 -- How many elements of the machine's world are used, free, and not known.
 use Rattle.std.specs.Prelude.{◌≡◌, ℕ, suc, ◌&&◌}
 use Rattle.nofs_history.specs.Search.{count_below}
-use Rattle.nofs_history.specs.World.{World, free_blocks, free_inodes, unverified_blocks, unverified_inodes, uses_block, uses_inode}
+use Rattle.nofs_history.specs.World.{World, free_blocks, free_inodes, unverified_blocks, unverified_inodes, uses_block}
+use Rattle.nofs_history.specs.World.{uses_inode}
 use Rattle.nofs_state.specs.declared.books.maps.Counts.{Counts}
 
 -- how many inodes are known and used

@@ -1,5 +1,6 @@
 -- What the maps of a mount say of the machine's world.
-use Rattle.std.specs.Prelude.{◌≡◌, ℕ, ◌+◌, ◌-◌, ◌*◌, ◌/◌, ◌^◌, ◌<◌, ◌≤◌, Bool, true, false, ◌&&◌, not, List, [], length, Some, None, is_some, replicate}
+use Rattle.std.specs.Prelude.{◌≡◌, ℕ, ◌+◌, ◌-◌, ◌*◌, ◌/◌, ◌^◌, ◌<◌, ◌≤◌, Bool, true, false, ◌&&◌, not, List, [], length}
+use Rattle.std.specs.Prelude.{Some, None, is_some, replicate}
 use Rattle.std.specs.Prelude.{nat_le, nat_lt, slice_set}
 use Rattle.nofs_bits.specs.Bits.{is_set}
 use Rattle.nofs_history.specs.HistoryState.{HistoryState}
@@ -88,7 +89,11 @@ claimed_inode k i = record { inode = i; generation = k.at.mount * 2 ^ 40 + k.ser
 
 -- and leaves of the books
 abbrev pub made_books : Books → ℕ → Books
-made_books k i = record k { free_inodes = slice_set k.free_inodes (i - 1) false; agreement = slice_set k.agreement (i - 1) (Some true); serial = k.serial + 1 }
+made_books k i = record k {
+  free_inodes = slice_set k.free_inodes (i - 1) false;
+  agreement = slice_set k.agreement (i - 1) (Some true);
+  serial = k.serial + 1;
+}
 
 -- the books with another history
 abbrev pub with_history : Books → HistoryState → Books

@@ -1,5 +1,6 @@
 -- Which elements are used, by the disk and by the maps, and what a map learns of one.
-use Rattle.std.specs.Prelude.{◌≡◌, ℕ, ◌+◌, ◌-◌, ◌/◌, ◌≤◌, Bool, false, not, List, Option, Some, None, if◌then◌else◌, ◌==◌, nat_lt, IsTrue, Result, Ok, Err}
+use Rattle.std.specs.Prelude.{◌≡◌, ℕ, ◌+◌, ◌-◌, ◌/◌, ◌≤◌, Bool, false, not, List, Option, Some, None, if◌then◌else◌}
+use Rattle.std.specs.Prelude.{◌==◌, nat_lt, IsTrue, Result, Ok, Err}
 use Rattle.std.specs.Prelude.{IfOk, OnErr, length, slice_set}
 use Rattle.nofs_bits.specs.Bits.{is_set}
 use Rattle.nofs_disk.specs.declared.Failed.{Failed}
@@ -17,7 +18,8 @@ pub record CanCheck (d : DiskState) (k : Books) : Type 0 where
   pub known : length k.agreement ≡ k.at.inodes
 
 -- the answer is this one of the image, where the disk tells and what is known is true
-pub record Judges (old new : DiskState) (known : List (Option Bool)) (answer : Image → Bool) (result : Result Bool Failed) : Type 0 where
+pub record Judges (old new : DiskState) (known : List (Option Bool)) (answer : Image → Bool)
+    (result : Result Bool Failed) : Type 0 where
   pub stays : StaysButFaults old new
   pub found : IfOk result (λ a. IsTrue old.tells → AreTrue old.now known → a ≡ answer old.now)
   pub cause : OnErr result (Rose old.faults new.faults)
@@ -38,7 +40,8 @@ verdict_of_inode k i = if is_set k.unknown_inodes (i - 1) then None else Some (n
 
 -- the books after a block is found to be used or not
 abbrev pub learned_block : Books → ℕ → Bool → Books
-learned_block k p used = record k { unknown_blocks = slice_set k.unknown_blocks p false; free_blocks = slice_set k.free_blocks p (not used) }
+learned_block k p used =
+    record k { unknown_blocks = slice_set k.unknown_blocks p false; free_blocks = slice_set k.free_blocks p (not used) }
 
 -- so for an inode: one above 2 is used where it is agreed
 abbrev pub learned_inode : Books → ℕ → Bool → Books
@@ -53,20 +56,26 @@ abbrev pub InData : Books → ℕ → Bool → Type 0
 InData k p used = used ≡ false → 1 + k.at.inodes / 4 ≤ p
 
 -- an element is verified: its verdict stood, is learned from the disk, or could not be read
-pub data Verifies (old : DiskState) (k : Books) (new : DiskState) (l : Books) (stood : Option Bool) (learned : Bool → Books) (answer : Image → Bool)
+pub data Verifies (old : DiskState) (k : Books) (new : DiskState) (l : Books) (stood : Option Bool)
+    (learned : Bool → Books) (answer : Image → Bool)
     (Fits : Bool → Type 0) (result : Result Bool Failed) : Type 0 where
-  Stood : (used : Bool) → stood ≡ Some used → StaysButFaults old new → l ≡ k → result ≡ Ok used → Verifies old k new l stood learned answer Fits result
-  Learned : (used : Bool) → stood ≡ None → Judges old new k.agreement answer (Ok used) → Fits used → l ≡ learned used → result ≡ Ok used
+  Stood : (used : Bool) → stood ≡ Some used → StaysButFaults old new → l ≡ k → result ≡ Ok used
       → Verifies old k new l stood learned answer Fits result
-  Unread : (x : Failed) → Judges old new k.agreement answer (Err x) → l ≡ k → result ≡ Err x → Verifies old k new l stood learned answer Fits result
+  Learned : (used : Bool) → stood ≡ None → Judges old new k.agreement answer (Ok used) → Fits used → l ≡ learned used
+      → result ≡ Ok used
+      → Verifies old k new l stood learned answer Fits result
+  Unread : (x : Failed) → Judges old new k.agreement answer (Err x) → l ≡ k → result ≡ Err x
+      → Verifies old k new l stood learned answer Fits result
 
 -- that a block is
 abbrev pub VerifiesBlock : DiskState → Books → DiskState → Books → ℕ → Result Bool Failed → Type 0
-VerifiesBlock old k new l p = Verifies old k new l (verdict_of_block k p) (learned_block k p) (λ X. is_used_block X p) (InData k p)
+VerifiesBlock old k new l p =
+    Verifies old k new l (verdict_of_block k p) (learned_block k p) (λ X. is_used_block X p) (InData k p)
 
 -- that an inode is
 abbrev pub VerifiesInode : DiskState → Books → DiskState → Books → ℕ → Result Bool Failed → Type 0
-VerifiesInode old k new l i = Verifies old k new l (verdict_of_inode k i) (learned_inode k i) (λ X. is_used_inode X i) (λ used. Unit {0})
+VerifiesInode old k new l i =
+    Verifies old k new l (verdict_of_inode k i) (learned_inode k i) (λ X. is_used_inode X i) (λ used. Unit {0})
 
 -- a verdict is offered: the one that stood stays, and else it is learned
 pub data OffersVerdict (k l : Books) (stood : Option Bool) (learned : Bool → Books) (used result : Bool) : Type 0 where

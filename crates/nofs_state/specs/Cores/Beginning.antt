@@ -21,4 +21,10 @@ pub record HasBegun (d : DiskState) (it : SuperBlock) (k : Books) : Type 0 where
 
 -- what proofs know of it: the disk is its base and its mark, and the world is the first one
 abbrev pub first_past : DiskState → ℕ → Past
-first_past d first = record { base = d.now; first = first; mark = d.now; stamps = (super_at d.now).mount * 2 ^ 40 + first; world = world_of d.now first }
+first_past d first = record {
+  base = d.now;
+  first = first;
+  mark = d.now;
+  stamps = (super_at d.now).mount * 2 ^ 40 + first;
+  world = world_of d.now first;
+}

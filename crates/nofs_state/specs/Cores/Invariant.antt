@@ -14,14 +14,14 @@ use Rattle.nofs_crashlaw.specs.Histories.Stage.{Lasts, Stage}
 use Rattle.nofs_state.specs.Books.Maps.{Says}
 use Rattle.nofs_state.specs.declared.books.maps.Books.{Books}
 
--- what the next mount asks: every image that picks from what may be left is sound, and so is each that a crash may have left
--- at a moment from this one on
+-- what the next mount asks: every image that picks from what may be left is sound, and so is each that a crash may have
+-- left at a moment from this one on
 pub record Sounds (from : ℕ) (d : DiskState) : Type 0 where
   pub picks : (X : Image) → Picks d.may d.blocks X → IsSound X
   pub images : AtEach (λ m X. IsSound X) from d
 
--- what only proofs know of a mount: the disk as its flush left it, with the raised number, its first serial, the disk that the last flush left with a
--- bound above its stamps, and the machine's world
+-- what only proofs know of a mount: the disk as its flush left it, with the raised number, its first serial, the disk
+-- that the last flush left with a bound above its stamps, and the machine's world
 pub record Past : Type 0 where
   pub base : Image
   pub first : ℕ

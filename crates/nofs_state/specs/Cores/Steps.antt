@@ -1,5 +1,6 @@
 -- What a step leaves: the contract of each step function.
-use Rattle.std.specs.Prelude.{◌≡◌, ◌⊎◌, ℕ, zero, suc, ◌+◌, ◌<◌, ◌≤◌, true, false, List, [], ◌∷◌, ◌++◌, length, Bool, IsTrue, None}
+use Rattle.std.specs.Prelude.{◌≡◌, ◌⊎◌, ℕ, zero, suc, ◌+◌, ◌<◌, ◌≤◌, true, false, List, [], ◌∷◌, ◌++◌, length, Bool}
+use Rattle.std.specs.Prelude.{IsTrue, None}
 use mathlib.Core.List.{IsPrefix}
 use Rattle.nofs_disk.specs.Disk.{DiskState, IsSameDisk, KeepsCells, KeepsPast, Rose}
 use Rattle.nofs_model.specs.Image.{Files, Path, InRecord, Under, path_of}
@@ -24,7 +25,8 @@ use Rattle.nofs_state.specs.declared.books.maps.Books.{Books}
 
 -- the entry of a step, from one state of the disk to the next
 abbrev pub entry : ℕ → DiskState → DiskState → Step → Claims → Reply → Entry1
-entry caller old new s c r = record { caller = caller; from = old.moment; to = new.moment; step = s; reply = r; claims = c }
+entry caller old new s c r =
+    record { caller = caller; from = old.moment; to = new.moment; step = s; reply = r; claims = c }
 
 -- the same mount, with another world and perhaps another mark
 pub record SameMount (p q : Past) : Type 0 where
@@ -41,7 +43,8 @@ pub record Moves (p : Past) (e : Entry1) (q : Past) : Type 0 where
 pub record Follows (old new : DiskState) (l : Books) (H : List Entry1) (p : Past) (e : Entry1) : Type 0 where
   -- where memory was wanting there is no entry
   pub none : is_out_of_memory e.reply ≡ true → IsOpen new l H p
-  pub done : is_out_of_memory e.reply ≡ false → is_write_fault e.reply ≡ false → (q : Past) × Moves p e q × IsOpen new l (H ++ e ∷ []) q
+  pub done : is_out_of_memory e.reply ≡ false → is_write_fault e.reply ≡ false → (q : Past) × Moves p e q
+      × IsOpen new l (H ++ e ∷ []) q
   pub fault : is_write_fault e.reply ≡ true → (q : Past) × Moves p e q × IsStopped new l (H ++ e ∷ []) q
 
 -- a stopped mount answers Stopped alone
@@ -121,14 +124,17 @@ pub record WritesCells (old new : DiskState) (Told : Type 0) (s : Step) (c : Cla
   pub whole : failed ≡ false → calls ≡ row
   pub only : OnlyWrites old new calls failed
 
--- NO STEP ORDERS ITS WRITES. Over any disk a step leaves the device, or makes writes alone, or, where it is a Flush, one flush alone
+-- NO STEP ORDERS ITS WRITES. Over any disk a step leaves the device, or makes writes alone, or, where it is a Flush,
+-- one flush alone
 pub data NoOrder (old new : DiskState) (Told : Type 0) (s : Step) (c : Claims) (r : Reply) : Type 0 where
   LeavesDisk : makes_calls r ≡ false → KeepsCells old new → NoOrder old new Told s c r
   WritesAlone : makes_calls r ≡ true → WritesCells old new Told s c (is_write_fault r) → NoOrder old new Told s c r
-  FlushesAlone : is_flush s ≡ true → takes_time r ≡ true → OnlyFlushes old new (is_write_fault r) → NoOrder old new Told s c r
+  FlushesAlone : is_flush s ≡ true → takes_time r ≡ true → OnlyFlushes old new (is_write_fault r)
+      → NoOrder old new Told s c r
 
 -- a step from one state of a core to the next, with what it claims and answers
-pub record Goes (old : DiskState) (k : Books) (new : DiskState) (l : Books) (s : Step) (c : Claims) (r : Reply) : Type 0 where
+pub record Goes (old : DiskState) (k : Books) (new : DiskState) (l : Books) (s : Step) (c : Claims)
+    (r : Reply) : Type 0 where
   pub disk : IsSameDisk old new
   pub past : KeepsPast old new
   pub later : old.moment ≤ new.moment
@@ -137,8 +143,10 @@ pub record Goes (old : DiskState) (k : Books) (new : DiskState) (l : Books) (s :
   pub safe : IsSafe new l
   pub at : l.at ≡ k.at
   pub history : l.history ≡ k.history
-  pub sound : IsTrue old.tells → (H : List Entry1) (p : Past) → IsOpen old k H p ⊎ IsStopped old k H p → (from : ℕ) → Sounds from old → Sounds from new
-  pub from_open : IsTrue old.tells → (caller : ℕ) (H : List Entry1) (p : Past) → IsOpen old k H p → Follows old new l H p (entry caller old new s c r)
+  pub sound : IsTrue old.tells → (H : List Entry1) (p : Past) → IsOpen old k H p ⊎ IsStopped old k H p
+      → (from : ℕ) → Sounds from old → Sounds from new
+  pub from_open : IsTrue old.tells → (caller : ℕ) (H : List Entry1) (p : Past) → IsOpen old k H p
+      → Follows old new l H p (entry caller old new s c r)
   pub from_stopped : IsTrue old.tells → (caller : ℕ) (H : List Entry1) (p : Past) → IsStopped old k H p
       → StaysStopped old new l H p (entry caller old new s c r)
 
@@ -153,8 +161,17 @@ pub record IsSafeStep (old : DiskState) (k : Books) (new : DiskState) (l : Books
   pub safe : IsSafe new l
 
 -- each step that goes as the machine's is one
-pub goes-safely : {old new : DiskState} {k l : Books} {s : Step} {c : Claims} {r : Reply} → Goes old k new l s c r → IsSafeStep old k new l r
-goes-safely g = record { disk = g.disk; past = g.past; later = g.later; cause = g.cause; safe = g.safe; at = g.at; history = g.history }
+pub goes-safely : {old new : DiskState} {k l : Books} {s : Step} {c : Claims} {r : Reply} → Goes old k new l s c r
+    → IsSafeStep old k new l r
+goes-safely g = record {
+  disk = g.disk;
+  past = g.past;
+  later = g.later;
+  cause = g.cause;
+  safe = g.safe;
+  at = g.at;
+  history = g.history;
+}
 
 -- a refusal that tells of the files, the maps or the step, and not of a device or of memory
 abbrev pub is_plain : Refusal → Bool

@@ -1,12 +1,14 @@
 -- What a write-out of a mount's device leaves.
-use Rattle.std.specs.Prelude.{◌≡◌, ◌↔◌, ℕ, ◌<◌, ◌≤◌, [], ◌∷◌, Option, None, Result, Err, IfOk, IfSome, OnOk, OnErr, IsPermutation}
+use Rattle.std.specs.Prelude.{◌≡◌, ◌↔◌, ℕ, ◌<◌, ◌≤◌, [], ◌∷◌, Option, None, Result, Err, IfOk, IfSome, OnOk, OnErr}
+use Rattle.std.specs.Prelude.{IsPermutation}
 use Rattle.nofs_disk.specs.Disk.{DiskState, IsSameDisk, KeepsCells, Picks, Rose}
 use Rattle.nofs_disk.specs.declared.OutFault.{OutFault}
 use Rattle.nofs_disk.specs.declared.OutFault.TheVariants.{Failed}
 use Rattle.nofs_model.specs.Image.{Image}
 
--- At most one block is written out. No moment passes, each cell and what may be left of it stays, and each image that a crash may leave now
--- picks from that. It failed only where the count of faults rose, and there is no block exactly where none is dirty
+-- At most one block is written out. No moment passes, each cell and what may be left of it stays, and each image that a
+-- crash may leave now picks from that. It failed only where the count of faults rose, and there is no block exactly
+-- where none is dirty
 pub record WroteOne (old new : DiskState) (result : Result (Option ℕ) OutFault) : Type 0 where
   pub disk : IsSameDisk old new
   pub cells : KeepsCells old new

@@ -1,5 +1,6 @@
 -- Which blocks stand in some slots of an inode, read slot by slot, and what is known of them once they are free.
-use Rattle.std.specs.Prelude.{◌≡◌, ℕ, ◌+◌, ◌/◌, ◌<◌, ◌≤◌, ◌⊎◌, Bool, true, ◌&&◌, ◌||◌, not, List, [], ◌∷◌, length, IsTrue, Result, IfErr, OnOk, slice_set}
+use Rattle.std.specs.Prelude.{◌≡◌, ℕ, ◌+◌, ◌/◌, ◌<◌, ◌≤◌, ◌⊎◌, Bool, true, ◌&&◌, ◌||◌, not, List, [], ◌∷◌, length}
+use Rattle.std.specs.Prelude.{IsTrue, Result, IfErr, OnOk, slice_set}
 use Rattle.nofs_bits.specs.Bits.{is_set}
 use Rattle.nofs_disk.specs.Disk.{DiskState, StaysButFaults, Rose}
 use Rattle.nofs_model.specs.Cells.{Pointer, SuperBlock}
@@ -28,16 +29,19 @@ with_all bits (b ∷ bs) = with_all (slice_set bits b true) bs
 abbrev pub MarkFails : DiskState → DiskState → Refusal → Type 0
 MarkFails old new why = (why ≡ refusal.OutOfMemory) ⊎ ((why ≡ refusal.ReadFault) × Rose old.faults new.faults)
 
-pub record Marks (old new : DiskState) (at : SuperBlock) (i slot : ℕ) (bits bits2 : List Bool) (last : LastRead) (result : Result (Unit {0}) Refusal) : Type 0
+pub record Marks (old new : DiskState) (at : SuperBlock) (i slot : ℕ) (bits bits2 : List Bool) (last : LastRead)
+    (result : Result (Unit {0}) Refusal) : Type 0
   where
     pub stays : StaysButFaults old new
-    pub marked_as : OnOk result ((a : PathAnswer) × (IsTrue old.tells → a ≡ find old.now i (path_of slot)) × InArea at a × (bits2 ≡ marked a bits))
+    pub marked_as : OnOk result ((a : PathAnswer) × (IsTrue old.tells → a ≡ find old.now i (path_of slot)) × InArea at a
+        × (bits2 ≡ marked a bits))
     pub kept : OnOk result (IsLast new last)
     pub refused : IfErr result (MarkFails old new)
 
 -- the block of a slot among some
 abbrev pub IsBlockAmong : Image → ℕ → ℕ → ℕ → ℕ → Type 0
-IsBlockAmong X i from to q = (k : ℕ) × (x : Pointer) × (from ≤ k) × (k < to) × (find X i (path_of k) ≡ answer.Holds x) × (x.block ≡ q)
+IsBlockAmong X i from to q = (k : ℕ) × (x : Pointer) × (from ≤ k) × (k < to)
+    × (find X i (path_of k) ≡ answer.Holds x) × (x.block ≡ q)
 
 -- some slots were gone through: their blocks are marked, and no others beside those that were
 pub record Marked (X : Image) (told : Bool) (at : SuperBlock) (i from to : ℕ) (bits bits2 : List Bool) : Type 0 where
@@ -45,7 +49,8 @@ pub record Marked (X : Image) (told : Bool) (at : SuperBlock) (i from to : ℕ) 
   pub area : (q : ℕ) → is_set bits2 q ≡ true → (is_set bits q ≡ true) ⊎ (1 + at.inodes / 4 ≤ q)
   pub keeps : (q : ℕ) → is_set bits q ≡ true → is_set bits2 q ≡ true
   pub sound : IsTrue told → (q : ℕ) → is_set bits2 q ≡ true → (is_set bits q ≡ true) ⊎ IsBlockAmong X i from to q
-  pub whole : IsTrue told → (k : ℕ) (x : Pointer) → from ≤ k → k < to → find X i (path_of k) ≡ answer.Holds x → is_set bits2 x.block ≡ true
+  pub whole : IsTrue told → (k : ℕ) (x : Pointer) → from ≤ k → k < to → find X i (path_of k) ≡ answer.Holds x
+      → is_set bits2 x.block ≡ true
 
 pub record MarksAll (old new : DiskState) (at : SuperBlock) (i from to : ℕ) (bits bits2 : List Bool) (last : LastRead)
     (result : Result (Unit {0}) Refusal) : Type 0 where

@@ -27,7 +27,8 @@ OpenFails old new k i g refusal.Stale = IsTrue old.tells → AreTrue old.now k.a
 OpenFails old new k i g refusal.ReadFault = Rose old.faults new.faults
 OpenFails old new k i g _ = ⊥
 
-pub record Opens (old new : DiskState) (k : Books) (i g : ℕ) (last : LastRead) (result : Result Opened Refusal) : Type 0 where
+pub record Opens (old new : DiskState) (k : Books) (i g : ℕ) (last : LastRead)
+    (result : Result Opened Refusal) : Type 0 where
   pub stays : StaysButFaults old new
   pub known : IfOk result (IsOpened new k.at i g)
   pub current : IfOk result (λ it. IsTrue old.tells → AreTrue old.now k.agreement → is_current old.now i g ≡ true)

@@ -1,5 +1,6 @@
 -- The writes of one step.
-use Rattle.std.specs.Prelude.{◌≡◌, ◌≢◌, ℕ, ◌+◌, ◌*◌, ◌<◌, ◌⊎◌, List, [], ◌∷◌, length, Bool, true, false, Result, Ok, Err, OnOk, OnErr, Contains, slice_set}
+use Rattle.std.specs.Prelude.{◌≡◌, ◌≢◌, ℕ, ◌+◌, ◌*◌, ◌<◌, ◌⊎◌, List, [], ◌∷◌, length, Bool, true, false, Result, Ok}
+use Rattle.std.specs.Prelude.{Err, OnOk, OnErr, Contains, slice_set}
 use mathlib.Core.List.{IsPrefix}
 use Rattle.nofs_disk.specs.Disk.{DiskState, IsSettled, Rose, cell_at}
 use Rattle.nofs_disk.specs.Adds.{Adds}
@@ -31,8 +32,8 @@ IsTried [] old new = ⊥
 IsTried (w ∷ []) old new = (new ≡ old) ⊎ (new ≡ slice_set old w.0 w.1)
 IsTried (w ∷ (v ∷ ws)) old new = IsTried (v ∷ ws) (slice_set old w.0 w.1) new
 
--- NO ORDER. These cells were written, one call a cell, and a call that failed was the last. Nothing else was asked of the device that takes
--- time, and nothing was made durable
+-- NO ORDER. These cells were written, one call a cell, and a call that failed was the last. Nothing else was asked of
+-- the device that takes time, and nothing was made durable
 pub record OnlyWrites (old new : DiskState) (calls : List (ℕ × Cell)) (failed : Bool) : Type 0 where
   -- each write raises the moment by 2, as each flush does
   pub moment : new.moment ≡ old.moment + 2 * length calls
@@ -76,6 +77,8 @@ abbrev pub stopped_books : Books → Books
 stopped_books k = record k { stopped = true }
 
 -- all is written, or the mount is stopped
-pub data Stores (old : DiskState) (k : Books) (new : DiskState) (l : Books) (ws : List (ℕ × Cell)) (result : Result (Unit {0}) Refusal) : Type 0 where
+pub data Stores (old : DiskState) (k : Books) (new : DiskState) (l : Books) (ws : List (ℕ × Cell))
+    (result : Result (Unit {0}) Refusal) : Type 0 where
   Stored : WritesAll old new ws (Ok tt) → l ≡ k → result ≡ Ok tt → Stores old k new l ws result
-  NotStored : (x : Failed) → WritesAll old new ws (Err x) → l ≡ stopped_books k → result ≡ Err refusal.WriteFault → Stores old k new l ws result
+  NotStored : (x : Failed) → WritesAll old new ws (Err x) → l ≡ stopped_books k → result ≡ Err refusal.WriteFault
+      → Stores old k new l ws result

@@ -1,5 +1,6 @@
 -- One pointer of a slot: where it stands, and what changing it does.
-use Rattle.std.specs.Prelude.{◌≡◌, ℕ, ◌+◌, ◌-◌, ◌*◌, ◌/◌, ◌%◌, [], ◌∷◌, if◌then◌else◌, ◌==◌, IsTrue, Result, OnErr, OnOk}
+use Rattle.std.specs.Prelude.{◌≡◌, ℕ, ◌+◌, ◌-◌, ◌*◌, ◌/◌, ◌%◌, [], ◌∷◌, if◌then◌else◌, ◌==◌, IsTrue, Result, OnErr}
+use Rattle.std.specs.Prelude.{OnOk}
 use Rattle.nofs_disk.specs.declared.Failed.{Failed}
 use Rattle.nofs_disk.specs.Disk.{DiskState, cell_at}
 use Rattle.nofs_disk.specs.Pointer.{put_pointer}
@@ -11,7 +12,8 @@ use Rattle.nofs_state.specs.declared.books.maps.Books.{Books}
 use Rattle.nofs_state.specs.declared.writes.pointers.SlotCells.{SlotCells}
 use Rattle.nofs_state.specs.declared.writes.pointers.Spot.{Spot}
 
--- pointer n of a record among the 64 places of 16 bytes of its cell: a record has 16 places, and its pointers begin at the sixth
+-- pointer n of a record among the 64 places of 16 bytes of its cell: a record has 16 places, and its pointers begin at
+-- the sixth
 abbrev pub record_number : ℕ → ℕ → ℕ
 record_number i n = 16 * ((i - 1) % 4) + 6 + n
 
@@ -23,7 +25,8 @@ spot_at cells i (Under (InRecord n) j) = record {
   cell = if n == 9 then cells.top else cells.leaf;
   number = j;
 }
-spot_at cells i (Under (Under a j) q) = record { block = (pointer_at cells.top.payload j).block; cell = cells.leaf; number = q }
+spot_at cells i (Under (Under a j) q) =
+    record { block = (pointer_at cells.top.payload j).block; cell = cells.leaf; number = q }
 
 -- the cell with that pointer, and all else as it was
 pub record IsPointed (spot : Spot) (to : Pointer) (cell : Cell) : Type 0 where
@@ -31,8 +34,10 @@ pub record IsPointed (spot : Spot) (to : Pointer) (cell : Cell) : Type 0 where
   pub payload : cell.payload ≡ put_pointer (16 * spot.number) to spot.cell.payload
   pub pointer : pointer_at cell.payload spot.number ≡ to
 
--- One write of that cell. Where it succeeds, the disk has the cell with that one pointer changed; where it fails, the mount is stopped
-pub record SetsPointer (old : DiskState) (k : Books) (new : DiskState) (l : Books) (spot : Spot) (to : Pointer) (result : Result (Unit {0}) Failed)
+-- One write of that cell. Where it succeeds, the disk has the cell with that one pointer changed; where it fails, the
+-- mount is stopped
+pub record SetsPointer (old : DiskState) (k : Books) (new : DiskState) (l : Books) (spot : Spot) (to : Pointer)
+    (result : Result (Unit {0}) Failed)
     : Type 0 where
   pub cell : Cell
   pub pointed : IsPointed spot to cell

@@ -17,4 +17,5 @@ pub record RecordIn (old : Cell) (i : ℕ) (r : Record) (new : Cell) : Type 0 wh
 
 -- no row refuses the step
 abbrev pub RowsPass : DiskState → Books → Step → Type 0
-RowsPass d k s = IsTrue d.tells → (H : List Entry1) (p : Past) → IsOpen d k H p → (V : World) → first_of (rows p.world V s) ≡ None
+RowsPass d k s = IsTrue d.tells → (H : List Entry1) (p : Past) → IsOpen d k H p
+    → (V : World) → first_of (rows p.world V s) ≡ None

@@ -1,7 +1,7 @@
 //! The blocks that a step frees.
 //!
-//! Promise: contracts see them as a map with a place for each block of the disk. The list holds just those that were found, so that
-//! freeing them takes time that goes with their number, and not with the disk's.
+//! Promise: contracts see them as a map with a place for each block of the disk. The list holds just those that were
+//! found, so that freeing them takes time that goes with their number, and not with the disk's.
 ghost use Rattle.std.specs.Prelude.{◌≡◌, ◌<◌, All, false, true, length, replicate, slice_set, OnErr, OnOk};
 ghost use Rattle.nofs_state.specs.Inodes.Blocks.{BlocksFreed, with_all};
 ghost use Rattle.nofs_state.specs.Books.Verdicts.{learned_block};

@@ -64,7 +64,8 @@ impl Books {
     pub fn settle_block(&mut self, block: u64, used: bool) -> bool
         requires unknown { block < length self.old.unknown_blocks }
         requires free { block < length self.old.free_blocks }
-        ensures { OffersVerdict self.old self.new (verdict_of_block self.old block) (learned_block self.old block) used result }
+        ensures { OffersVerdict self.old self.new (verdict_of_block self.old block)
+            (learned_block self.old block) used result }
     {
         let stands = self.verdict_of_block(block);
         if stands.is_none() {
@@ -79,7 +80,8 @@ impl Books {
         requires unknown { inode - 1 < length self.old.unknown_inodes }
         requires free { inode - 1 < length self.old.free_inodes }
         requires agreed { inode - 1 < length self.old.agreement }
-        ensures { OffersVerdict self.old self.new (verdict_of_inode self.old inode) (learned_inode self.old inode) used result }
+        ensures { OffersVerdict self.old self.new (verdict_of_inode self.old inode)
+            (learned_inode self.old inode) used result }
     {
         let stands = self.verdict_of_inode(inode);
         if stands.is_none() {

@@ -18,7 +18,8 @@ use nofs_model::is_slot;
 /// `Failed` where a read failed.
 pub(crate) fn check_inode<D: Disk>(disk: &mut D, books: &Books, inode: u32) -> Result<bool, Failed>
     requires { CanCheck (D.state disk.old) books.now }
-    ensures { Judges (D.state disk.old) (D.state disk.new) books.now.agreement (λ X. owners.is_used_inode X inode) result }
+    ensures { Judges (D.state disk.old) (D.state disk.new) books.now.agreement
+        (λ X. owners.is_used_inode X inode) result }
 {
     if is_special(inode) {
         return Ok(true);
@@ -40,7 +41,8 @@ fn is_special(inode: u32) -> bool
 pub(crate) fn check_block<D: Disk>(disk: &mut D, books: &Books, block: u64) -> Result<bool, Failed>
     requires books { CanCheck (D.state disk.old) books.now }
     requires block { block < books.now.at.blocks }
-    ensures used { Judges (D.state disk.old) (D.state disk.new) books.now.agreement (λ X. owners.is_used_block X block) result }
+    ensures used { Judges (D.state disk.old) (D.state disk.new) books.now.agreement
+        (λ X. owners.is_used_block X block) result }
     ensures data { IfOk result (λ used. used ≡ false → 1 + books.now.at.inodes / 4 ≤ block) }
 {
     if block <= books.at.inodes / 4 {
@@ -53,7 +55,8 @@ pub(crate) fn check_block<D: Disk>(disk: &mut D, books: &Books, block: u64) -> R
 fn has_owner<D: Disk>(disk: &mut D, books: &Books, block: u64) -> Result<bool, Failed>
     requires books { CanCheck (D.state disk.old) books.now }
     requires block { block < books.now.at.blocks }
-    ensures { Judges (D.state disk.old) (D.state disk.new) books.now.agreement (λ X. is_some (owners.owner X block)) result }
+    ensures { Judges (D.state disk.old) (D.state disk.new) books.now.agreement
+        (λ X. is_some (owners.owner X block)) result }
 {
     let mut last = LastRead::NONE;
     match read_block(disk, block, &mut last) {
@@ -69,7 +72,8 @@ fn has_owner<D: Disk>(disk: &mut D, books: &Books, block: u64) -> Result<bool, F
 // Whether the slot that this tag names has the block, and its inode is agreed.
 fn is_owned<D: Disk>(disk: &mut D, books: &Books, block: u64, tag: &Tag) -> Result<bool, Failed>
     requires { CanCheck (D.state disk.old) books.now }
-    ensures { Judges (D.state disk.old) (D.state disk.new) books.now.agreement (λ X. is_some (owners.owner_by X block (Some tag.now))) result }
+    ensures { Judges (D.state disk.old) (D.state disk.new) books.now.agreement
+        (λ X. is_some (owners.owner_by X block (Some tag.now))) result }
 {
     if !is_slot(tag.slot) {
         return Ok(false);

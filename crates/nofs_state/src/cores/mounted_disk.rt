@@ -31,7 +31,8 @@ impl<D: Disk + Drop> Core<D> {
         ensures disk { result.disk ≡ disk }
         ensures safe { IsSafe (D.state disk) result.books }
         ensures begun { HasBegun (D.state disk) at result.books }
-        ensures open { IsTrue (D.state disk).tells → IsSettled (D.state disk) → IsTrue (image.is_mountable (D.state disk).now)
+        ensures open { IsTrue (D.state disk).tells → IsSettled (D.state disk)
+            → IsTrue (image.is_mountable (D.state disk).now)
             → 0 < at.mount * 2 ^ 40 + first → image.IsBelow (at.mount * 2 ^ 40 + first) (D.state disk).now
             → IsOpen (D.state disk) result.books [] (first_past (D.state disk) first) }
     {
@@ -60,7 +61,14 @@ impl<D: Disk + Drop> Core<D> {
         ensures books { self.new.books ≡ with_history self.old.books (record {
           start = self.old.books.history.start;
           entries = self.old.books.history.entries
-              ++ record { caller = caller; from = from; to = (D.state self.old.disk).moment; step = step; reply = reply; claims = claims } ∷ [];
+              ++ record {
+                caller = caller;
+                from = from;
+                to = (D.state self.old.disk).moment;
+                step = step;
+                reply = reply;
+                claims = claims;
+              } ∷ [];
           spare = self.old.books.history.spare - 1;
         }) }
     {
@@ -75,7 +83,8 @@ impl<D: Disk + Drop> Core<D> {
         });
     }
 
-    /// Writes out one block that the device kept back, and names it; `None` where there is none. It makes room for one call first.
+    /// Writes out one block that the device kept back, and names it; `None` where there is none. It makes room for one
+    /// call first.
     pub fn write_out(&mut self) -> Result<Option<u64>, OutFault>
         ensures books { self.new.books ≡ self.old.books }
         ensures out { WroteOne (D.state self.old.disk) (D.state self.new.disk) result }

@@ -17,7 +17,8 @@ impl<D: Disk + Drop> Core<D> {
     pub fn verify_block(&mut self, block: u64) -> Result<bool, Failed>
         requires safe { IsSafe (D.state self.old.disk) self.old.books }
         requires block { block < self.old.books.at.blocks }
-        ensures { VerifiesBlock (D.state self.old.disk) self.old.books (D.state self.new.disk) self.new.books block result }
+        ensures { VerifiesBlock (D.state self.old.disk) self.old.books
+            (D.state self.new.disk) self.new.books block result }
     {
         match self.books.verdict_of_block(block) {
             Some(used) => Ok(used),
@@ -35,7 +36,8 @@ impl<D: Disk + Drop> Core<D> {
         requires safe { IsSafe (D.state self.old.disk) self.old.books }
         requires from_one { 1 ≤ inode }
         requires within { inode ≤ self.old.books.at.inodes }
-        ensures { VerifiesInode (D.state self.old.disk) self.old.books (D.state self.new.disk) self.new.books inode result }
+        ensures { VerifiesInode (D.state self.old.disk) self.old.books
+            (D.state self.new.disk) self.new.books inode result }
     {
         match self.books.verdict_of_inode(inode) {
             Some(used) => Ok(used),
@@ -48,7 +50,8 @@ impl<D: Disk + Drop> Core<D> {
         requires safe { IsSafe (D.state self.old.disk) self.old.books }
         requires block { block < self.old.books.at.blocks }
         requires unknown { verdict_of_block self.old.books block ≡ None }
-        ensures { VerifiesBlock (D.state self.old.disk) self.old.books (D.state self.new.disk) self.new.books block result }
+        ensures { VerifiesBlock (D.state self.old.disk) self.old.books
+            (D.state self.new.disk) self.new.books block result }
     {
         let used = check_block(&mut self.disk, &self.books, block)?;
         self.books.learn_block(block, used);
@@ -61,7 +64,8 @@ impl<D: Disk + Drop> Core<D> {
         requires from_one { 1 ≤ inode }
         requires within { inode ≤ self.old.books.at.inodes }
         requires unknown { verdict_of_inode self.old.books inode ≡ None }
-        ensures { VerifiesInode (D.state self.old.disk) self.old.books (D.state self.new.disk) self.new.books inode result }
+        ensures { VerifiesInode (D.state self.old.disk) self.old.books
+            (D.state self.new.disk) self.new.books inode result }
     {
         let used = check_inode(&mut self.disk, &self.books, inode)?;
         self.books.learn_inode(inode, used);

@@ -24,7 +24,8 @@ fn stop(books: &mut Books) -> Refusal
 pub fn write_one<D: Disk + Drop>(core: &mut Core<D>, block: u64, cell: &Cell) -> Result<(), Refusal>
     requires block { block < (D.state core.old.disk).blocks }
     requires spare { 1 ≤ (D.state core.old.disk).spare }
-    ensures { Stores (D.state core.old.disk) core.old.books (D.state core.new.disk) core.new.books ((block, cell.now) ∷ []) result }
+    ensures { Stores (D.state core.old.disk) core.old.books (D.state core.new.disk) core.new.books
+        ((block, cell.now) ∷ []) result }
 {
     match core.disk.write(block, cell) {
         Ok(()) => Ok(()),
@@ -47,7 +48,8 @@ pub fn write_two<D: Disk + Drop>(
     requires first { block < (D.state core.old.disk).blocks }
     requires second { other < (D.state core.old.disk).blocks }
     requires spare { 2 ≤ (D.state core.old.disk).spare }
-    ensures { Stores (D.state core.old.disk) core.old.books (D.state core.new.disk) core.new.books ((block, cell.now) ∷ (other, second.now) ∷ []) result }
+    ensures { Stores (D.state core.old.disk) core.old.books (D.state core.new.disk) core.new.books
+        ((block, cell.now) ∷ (other, second.now) ∷ []) result }
 {
     match core.disk.write(block, cell) {
         Ok(()) => write_one(core, other, second),

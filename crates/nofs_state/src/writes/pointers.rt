@@ -87,8 +87,8 @@ fn write_spot<D: Disk>(disk: &mut D, block: u64, cell: &Cell) -> Result<(), Fail
 }
 
 impl<D: Disk + Drop> Core<D> {
-    /// Changes the pointer of a slot of an inode. The cells are those on the way to the slot, as the disk has them, and the block
-    /// above the slot is one of the disk. It takes no memory.
+    /// Changes the pointer of a slot of an inode. The cells are those on the way to the slot, as the disk has them, and
+    /// the block above the slot is one of the disk. It takes no memory.
     ///
     /// # Errors
     ///
@@ -105,8 +105,10 @@ impl<D: Disk + Drop> Core<D> {
         requires block { (spot_at cells.now inode (path_of slot)).block < (D.state self.old.disk).blocks }
         requires spare { 1 ≤ (D.state self.old.disk).spare }
         requires told { IsTrue (D.state self.old.disk).tells
-            → (spot_at cells.now inode (path_of slot)).cell ≡ cell_at (D.state self.old.disk).now (spot_at cells.now inode (path_of slot)).block }
-        ensures { SetsPointer (D.state self.old.disk) self.old.books (D.state self.new.disk) self.new.books (spot_at cells.now inode (path_of slot)) to result }
+            → (spot_at cells.now inode (path_of slot)).cell ≡ cell_at (D.state self.old.disk).now
+            (spot_at cells.now inode (path_of slot)).block }
+        ensures { SetsPointer (D.state self.old.disk) self.old.books (D.state self.new.disk) self.new.books
+            (spot_at cells.now inode (path_of slot)) to result }
     {
         let spot = spot_at(cells, inode, place_of(slot));
         let cell = pointed(&spot, to);

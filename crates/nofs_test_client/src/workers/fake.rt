@@ -116,7 +116,11 @@ impl Batches for Told<Fake> {
 
     type Evidence = Odds;
 
-    ghost looked = { λ odds. record { kind = odds.kind; items = odds.items.items; verdict = λ at. nat_eq (get_or odds.items.items at 0 % 2) 1 } };
+    ghost looked = { λ odds. record {
+      kind = odds.kind;
+      items = odds.items.items;
+      verdict = λ at. nat_eq (get_or odds.items.items at 0 % 2) 1;
+    } };
 
     ghost owns = { λ fake odds. Unit {0} };
 

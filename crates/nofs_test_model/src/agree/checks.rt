@@ -66,7 +66,8 @@ fn set_known(known: &mut Known, inodes: u64, inode: u32)
     }
 }
 
-/// Whether the check that keeps what it finds answers for each inode whether it is among these, and what it finds is told from then on.
+/// Whether the check that keeps what it finds answers for each inode whether it is among these, and what it finds is
+/// told from then on.
 pub(crate) fn learns(alloc: Global, disk: &mut MemDisk, names: &[u32]) -> Result<bool, AllocError> {
     let Some(at) = read_numbers(disk) else {
         return Ok(false);

@@ -31,10 +31,14 @@ fn step_after(
     evidence: &Evidence<MemDisk>,
     step: Step,
 ) -> Reply
-    requires { IsEarlier (memory_state mount.old.found.value) (memory_state evidence.now.core.value.disk) evidence.now.core.value.books
-        mount.old.first mount.old.core.books.history.start mount.old.core.books.at mount.old.core.books.history.entries }
-    ensures { IsEarlier (memory_state mount.new.found.value) (memory_state evidence.now.core.value.disk) evidence.now.core.value.books
-        mount.new.first mount.new.core.books.history.start mount.new.core.books.at mount.new.core.books.history.entries }
+    requires { IsEarlier (memory_state mount.old.found.value)
+        (memory_state evidence.now.core.value.disk) evidence.now.core.value.books
+        mount.old.first mount.old.core.books.history.start mount.old.core.books.at
+        mount.old.core.books.history.entries }
+    ensures { IsEarlier (memory_state mount.new.found.value)
+        (memory_state evidence.now.core.value.disk) evidence.now.core.value.books
+        mount.new.first mount.new.core.books.history.start mount.new.core.books.at
+        mount.new.core.books.history.entries }
 {
     let _ = evidence;
     mount.step(alloc, 1, step)
@@ -46,10 +50,14 @@ fn claim(
     mount: &mut Mount<MemDisk>,
     evidence: &Evidence<MemDisk>,
 ) -> Result<bool, AllocError>
-    requires { IsEarlier (memory_state mount.old.found.value) (memory_state evidence.now.core.value.disk) evidence.now.core.value.books
-        mount.old.first mount.old.core.books.history.start mount.old.core.books.at mount.old.core.books.history.entries }
-    ensures { IsEarlier (memory_state mount.new.found.value) (memory_state evidence.now.core.value.disk) evidence.now.core.value.books
-        mount.new.first mount.new.core.books.history.start mount.new.core.books.at mount.new.core.books.history.entries }
+    requires { IsEarlier (memory_state mount.old.found.value)
+        (memory_state evidence.now.core.value.disk) evidence.now.core.value.books
+        mount.old.first mount.old.core.books.history.start mount.old.core.books.at
+        mount.old.core.books.history.entries }
+    ensures { IsEarlier (memory_state mount.new.found.value)
+        (memory_state evidence.now.core.value.disk) evidence.now.core.value.books
+        mount.new.first mount.new.core.books.history.start mount.new.core.books.at
+        mount.new.core.books.history.entries }
 {
     let step = put_step(alloc, 18)?;
     step_after(alloc, mount, evidence, Step::SeeBlock { block: 24 });
@@ -58,8 +66,10 @@ fn claim(
 
 // Commits what was found, where that is a free block: whether it stands as used then.
 fn settle(alloc: Global, mount: &mut Mount<MemDisk>, evidence: &Evidence<MemDisk>) -> Option<bool>
-    requires { IsEarlier (memory_state mount.old.found.value) (memory_state evidence.now.core.value.disk) evidence.now.core.value.books
-        mount.old.first mount.old.core.books.history.start mount.old.core.books.at mount.old.core.books.history.entries }
+    requires { IsEarlier (memory_state mount.old.found.value)
+        (memory_state evidence.now.core.value.disk) evidence.now.core.value.books
+        mount.old.first mount.old.core.books.history.start mount.old.core.books.at
+        mount.old.core.books.history.entries }
 {
     if evidence.verdicts.len() != 1 {
         return None;

@@ -41,7 +41,8 @@ pub(crate) fn reading_of(block: u64, cell: &Cell) -> BlockReading {
     }
 }
 
-// Whether a stamp or generation stands at this place: in a record the generation, and those of four links and ten pointers.
+// Whether a stamp or generation stands at this place: in a record the generation, and those of four links and ten
+// pointers.
 fn has_number_at(reading: BlockReading, place: usize) -> bool {
     match reading {
         BlockReading::Table => place % 256 == 0 || (place % 256 >= 40 && place % 16 == 8),

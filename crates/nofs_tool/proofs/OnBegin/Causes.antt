@@ -1,10 +1,12 @@
 -- Why a device was not formatted or mounted: from what format and mount say.
-use Rattle.std.proofs.Common.{◌≡◌, ◌≢◌, inl, inr, ℕ, ◌<◌, ◌≤◌, Option, Ok, Err, IsTrue, refl, sym, ap, ◌∙◌, subst, arith}
+use Rattle.std.proofs.Common.{◌≡◌, ◌≢◌, inl, inr, ℕ, ◌<◌, ◌≤◌, Option, Ok, Err, IsTrue, refl, sym, ap, ◌∙◌, subst}
+use Rattle.std.proofs.Common.{arith}
 use Rattle.std.specs.Prelude.{is_none}
 use Rattle.nofs_disk.specs.Adds.{Adds}
 use Rattle.nofs_disk.specs.Disk.{DiskState, cell_at}
 use Rattle.nofs_disk.specs.declared.tag.Cell.{Cell}
-use Rattle.nofs_super.specs.Format.{FormatEnds, IsFormatRefused, IsFormatted, IsFreshCell, formatted_cell, fresh_super, super_cell}
+use Rattle.nofs_super.specs.Format.{FormatEnds, IsFormatRefused, IsFormatted, IsFreshCell, formatted_cell, fresh_super}
+use Rattle.nofs_super.specs.Format.{super_cell}
 use Rattle.nofs_super.specs.Geometry.{IsGeometry, is_geometry, is_geometry-parts}
 use Rattle.nofs_super.specs.Spelling.{check_super-payload}
 use Rattle.nofs_super.specs.Super.{check_super}
@@ -18,11 +20,13 @@ use Rattle.nofs_tool.specs.Begin.Mounts.{IsMountRefusal, IsUnformatted, IsUnmoun
 use Rattle.nofs_tool.specs.Begin.Mounts.{status_of}
 
 -- the superblock's fault is one of the table
-by-table : (old new : DiskState) (why : MountFault) → BeginFails old new why → why ≢ fault.WriteFault → why ≢ fault.ReadFault → why ≢ fault.OutOfMemory
+by-table : (old new : DiskState) (why : MountFault) → BeginFails old new why
+    → why ≢ fault.WriteFault → why ≢ fault.ReadFault → why ≢ fault.OutOfMemory
     → IsMountRefusal old why
 by-table old new why b write read memory some tells = sym ((b.refused write).1.table read memory some tells)
 
-refused-by : (old new : DiskState) (why : MountFault) (cause : Cause) → BeginFails old new why → why ≢ fault.WriteFault → why ≢ fault.ReadFault
+refused-by : (old new : DiskState) (why : MountFault) (cause : Cause) → BeginFails old new why
+    → why ≢ fault.WriteFault → why ≢ fault.ReadFault
     → why ≢ fault.OutOfMemory → status_of cause ≡ 4 → IsUnmounted old new cause
 refused-by old new why cause b write read memory is = record {
   caused = record { later = b.disk.faults; device = λ e. absurd (let s = ap status_of e in omega (arith, s, is)) };
@@ -30,7 +34,8 @@ refused-by old new why cause b write read memory is = record {
   table = λ e. (why, by-table old new why b write read memory);
 }
 
-pub unmounted_by : (old new : DiskState) (why : MountFault) → BeginFails old new why → IsUnmounted old new (mount_cause why)
+pub unmounted_by : (old new : DiskState) (why : MountFault) → BeginFails old new why
+    → IsUnmounted old new (mount_cause why)
 unmounted_by old new fault.ReadFault b = record {
   caused = record { later = b.disk.faults; device = λ e. (b.refused (λ h. cc h)).1.read refl };
   unwritten = λ e. absurd (omega (arith, e));
@@ -46,16 +51,23 @@ unmounted_by old new fault.OutOfMemory b = record {
   unwritten = λ e. absurd (omega (arith, e));
   table = λ e. absurd (omega (arith, e));
 }
-unmounted_by old new (fault.BadMagic x) b = refused-by old new (fault.BadMagic x) _ b (λ h. cc h) (λ h. cc h) (λ h. cc h) refl
-unmounted_by old new (fault.BadVersion x) b = refused-by old new (fault.BadVersion x) _ b (λ h. cc h) (λ h. cc h) (λ h. cc h) refl
-unmounted_by old new (fault.BadGeometry x y) b = refused-by old new (fault.BadGeometry x y) _ b (λ h. cc h) (λ h. cc h) (λ h. cc h) refl
-unmounted_by old new (fault.DeviceTooSmall x) b = refused-by old new (fault.DeviceTooSmall x) _ b (λ h. cc h) (λ h. cc h) (λ h. cc h) refl
-unmounted_by old new (fault.MountsSpent x) b = refused-by old new (fault.MountsSpent x) _ b (λ h. cc h) (λ h. cc h) (λ h. cc h) refl
-unmounted_by old new (fault.BadRest x) b = refused-by old new (fault.BadRest x) _ b (λ h. cc h) (λ h. cc h) (λ h. cc h) refl
+unmounted_by old new (fault.BadMagic x) b =
+    refused-by old new (fault.BadMagic x) _ b (λ h. cc h) (λ h. cc h) (λ h. cc h) refl
+unmounted_by old new (fault.BadVersion x) b =
+    refused-by old new (fault.BadVersion x) _ b (λ h. cc h) (λ h. cc h) (λ h. cc h) refl
+unmounted_by old new (fault.BadGeometry x y) b =
+    refused-by old new (fault.BadGeometry x y) _ b (λ h. cc h) (λ h. cc h) (λ h. cc h) refl
+unmounted_by old new (fault.DeviceTooSmall x) b =
+    refused-by old new (fault.DeviceTooSmall x) _ b (λ h. cc h) (λ h. cc h) (λ h. cc h) refl
+unmounted_by old new (fault.MountsSpent x) b =
+    refused-by old new (fault.MountsSpent x) _ b (λ h. cc h) (λ h. cc h) (λ h. cc h) refl
+unmounted_by old new (fault.BadRest x) b =
+    refused-by old new (fault.BadRest x) _ b (λ h. cc h) (λ h. cc h) (λ h. cc h) refl
 
 module _ (blocks inodes : ℕ) (old new : DiskState) (later : old.faults ≤ new.faults) where
   -- the numbers were refused
-  numbers-refused : (why : FormatFault) (cause : Cause) → IsFormatRefused blocks inodes why old new → status_of cause ≡ 4
+  numbers-refused : (why : FormatFault) (cause : Cause) → IsFormatRefused blocks inodes why old new
+      → status_of cause ≡ 4
       → IsUnformatted old new blocks inodes cause
   numbers-refused why cause f is = record {
     caused = record { later = later; device = λ e. absurd (let s = ap status_of e in omega (arith, s, is)) };
@@ -64,7 +76,8 @@ module _ (blocks inodes : ℕ) (old new : DiskState) (later : old.faults ≤ new
     accepted = λ e. absurd (omega (arith, e, is));
   }
 
-  pub unformatted-by : (why : FormatFault) → FormatEnds blocks inodes old new (Err why) → IsUnformatted old new blocks inodes (format_cause why)
+  pub unformatted-by : (why : FormatFault) → FormatEnds blocks inodes old new (Err why)
+      → IsUnformatted old new blocks inodes (format_cause why)
   unformatted-by format.WriteFault f = record {
     caused = record { later = later; device = λ e. f.cause };
     unwritten = λ e. absurd (omega (arith, e));

@@ -10,12 +10,15 @@ use Rattle.nofs_model.proofs.OnSound.Formats.{formatted-law}
 use Rattle.nofs_tool.specs.Session.Whole.{IsMet}
 
 -- a format leaves a disk on which the premises are met, where it tells
-pub formatted_met : (blocks inodes : ℕ) (old new : DiskState) → IsFormatted blocks inodes old new → Adds (IsFreshCell blocks inodes) old new
-    → (IsTrue old.tells → (b : ℕ) → b < blocks → cell_at new.now b ≡ formatted_cell blocks inodes b) → IsTrue old.tells → IsMet new
+pub formatted_met : (blocks inodes : ℕ) (old new : DiskState) → IsFormatted blocks inodes old new
+    → Adds (IsFreshCell blocks inodes) old new
+    → (IsTrue old.tells → (b : ℕ) → b < blocks → cell_at new.now b ≡ formatted_cell blocks inodes b)
+    → IsTrue old.tells → IsMet new
 unfolding is_geometry
 formatted_met blocks inodes old new f adds cells tells = record {
   tells = subst IsTrue (sym adds.disk.tells) tells;
-  sound = λ X picks. formatted-law X blocks inodes (subst (λ n. IsGeometry n blocks inodes) (sym (picks.len ∙ adds.disk.blocks)) numbers)
+  sound = λ X picks. formatted-law X blocks inodes
+      (subst (λ n. IsGeometry n blocks inodes) (sym (picks.len ∙ adds.disk.blocks)) numbers)
       (λ b low. (f.settled b (cell_at X b) (in_disk b low) (picks.each b (in_disk b low))) ∙ cells tells b low);
 }
   where

@@ -1,5 +1,6 @@
 -- The steps of caller 0, the files that it reads, and the line of a drill.
-use Rattle.std.proofs.Common.{◌≡◌, ℕ, ◌+◌, ◌==◌, Bool, true, false, not, List, [], ◌∷◌, ◌++◌, length, map, drop, cond, Result, Ok, Err, Some, None, refl, sym}
+use Rattle.std.proofs.Common.{◌≡◌, ℕ, ◌+◌, ◌==◌, Bool, true, false, not, List, [], ◌∷◌, ◌++◌, length, map, drop, cond}
+use Rattle.std.proofs.Common.{Result, Ok, Err, Some, None, refl, sym}
 use Rattle.std.proofs.Common.{ap, ◌∙◌, subst, arith, append_assoc, append-nil, length-append}
 use Rattle.std.specs.Prelude.{filter, IfOk, IsErrAnd}
 use Rattle.std.specs.declared.option.Option.{Option}
@@ -19,12 +20,14 @@ use Rattle.nofs_shared.specs.Mount.Entries.{AddsStep}
 use Rattle.nofs_serve.specs.Session.{TeamMade, TeamServed}
 use Rattle.nofs_serve.proofs.OnSession.{team-unserved}
 use Rattle.nofs_tool.specs.declared.drill.reads.FileRead.{FileRead}
-use Rattle.nofs_tool.specs.Drill.{AddsOwn, AreRead, AreReadings, FollowsAnswer, IsDrillFollowed, IsFileRead, IsLookedUp, IsOneStep, IsReadFollowed, ReadsBy}
+use Rattle.nofs_tool.specs.Drill.{AddsOwn, AreRead, AreReadings, FollowsAnswer, IsDrillFollowed, IsFileRead, IsLookedUp}
+use Rattle.nofs_tool.specs.Drill.{IsOneStep, IsReadFollowed, ReadsBy}
 use Rattle.nofs_tool.specs.Drill.{drill_session, found_in, gets_from, is_reading}
 use Rattle.nofs_tool.proofs.OnSession.Serve.{adds-others, sweeps-shorter}
 
 -- an entry of caller 0 is its last step
-own-more : (es : List Entry1) (e : Entry1) → is_by 0 e ≡ true → steps_by 0 (es ++ e ∷ []) ≡ steps_by 0 es ++ done_of e ∷ []
+own-more : (es : List Entry1) (e : Entry1) → is_by 0 e ≡ true → steps_by 0 (es ++ e ∷ []) ≡ steps_by 0 es
+    ++ done_of e ∷ []
 own-more [] e own = go (is_by 0 e) own
   where
     go : (b : Bool) → b ≡ true → map done_of (cond b (e ∷ []) []) ≡ done_of e ∷ []
@@ -38,7 +41,8 @@ own-more (x ∷ es) e own = go (is_by 0 x) (own-more es e own)
     go true same = λ i. done_of x ∷ same i
     go false same = same
 
-pub adds-own : (s : Step) (r : Reply) (H K : List Entry1) → AddsStep 0 s r H K → is_out_of_memory r ≡ false → AddsOwn ((s, r) ∷ []) H K
+pub adds-own : (s : Step) (r : Reply) (H K : List Entry1) → AddsStep 0 s r H K
+    → is_out_of_memory r ≡ false → AddsOwn ((s, r) ∷ []) H K
 adds-own s r H K a given =
     let (x, whole, caller_is, step_is, reply_is) = a.one given in
     let own : is_by 0 x ≡ true = ap (λ (c : ℕ). c == 0) caller_is in
@@ -77,30 +81,39 @@ only-both H K L first next =
     let (b, later, others) = next in
     (a ++ b, adds-both a b H K L adds later, readings-both a b readings others)
 
-pub only : {T E : Type 0} (Is : T → List Made → Type 0) (result : Result T E) (H K : List Entry1) → ReadsBy Is result H K → OnlyReads H K
+pub only : {T E : Type 0} (Is : T → List Made → Type 0) (result : Result T E) (H K : List Entry1)
+    → ReadsBy Is result H K → OnlyReads H K
 only Is result H K r = (r.made, r.adds, r.readings)
 
 -- where it failed no more is said
-pub only-failed : {T E : Type 0} (Is : T → List Made → Type 0) (result : Result T E) (P : E → Type 0) (H K : List Entry1) → IsErrAnd result P
+pub only-failed : {T E : Type 0} (Is : T → List Made → Type 0) (result : Result T E) (P : E → Type 0)
+    (H K : List Entry1) → IsErrAnd result P
     → OnlyReads H K → ReadsBy Is result H K
 only-failed Is (Ok t) P H K failed r = absurd failed
-only-failed Is (Err e) P H K failed r = let (made, adds, readings) = r in record { made = made; adds = adds; readings = readings; read = tt }
+only-failed Is (Err e) P H K failed r = let (made, adds, readings) = r in
+    record { made = made; adds = adds; readings = readings; read = tt }
 
 -- one step of caller 0
-pub one-asked : {E : Type 0} (s : Step) (r : Reply) (H K : List Entry1) → is_reading s ≡ true → AddsStep 0 s r H K → is_out_of_memory r ≡ false
+pub one-asked : {E : Type 0} (s : Step) (r : Reply) (H K : List Entry1) → is_reading s ≡ true → AddsStep 0 s r H K
+    → is_out_of_memory r ≡ false
     → ReadsBy {T = Reply} {E = E} (IsOneStep s) (Ok r) H K
-one-asked s r H K reading a given = record { made = (s, r) ∷ []; adds = adds-own s r H K a given; readings = (reading, tt); read = refl }
+one-asked s r H K reading a given =
+    record { made = (s, r) ∷ []; adds = adds-own s r H K a given; readings = (reading, tt); read = refl }
 
-pub none-asked : {E : Type 0} (s : Step) (r : Reply) (e : E) (H K : List Entry1) → AddsStep 0 s r H K → is_out_of_memory r ≡ true
+pub none-asked : {E : Type 0} (s : Step) (r : Reply) (e : E) (H K : List Entry1) → AddsStep 0 s r H K
+    → is_out_of_memory r ≡ true
     → ReadsBy {T = Reply} {E = E} (IsOneStep s) (Err e) H K
 none-asked s r e H K a wanting = let (made, adds, readings) =
     only-same H K (a.none wanting) in record { made = made; adds = adds; readings = readings; read = tt }
 
-one-added : {E : Type 0} (s : Step) (r : Reply) (H K : List Entry1) → ReadsBy {T = Reply} {E = E} (IsOneStep s) (Ok r) H K → AddsOwn ((s, r) ∷ []) H K
+one-added : {E : Type 0} (s : Step) (r : Reply) (H K : List Entry1)
+    → ReadsBy {T = Reply} {E = E} (IsOneStep s) (Ok r) H K → AddsOwn ((s, r) ∷ []) H K
 one-added s r H K one = subst (λ (m : List Made). AddsOwn m H K) one.read one.adds
 
-one-reading : {E : Type 0} (s : Step) (r : Reply) (H K : List Entry1) → ReadsBy {T = Reply} {E = E} (IsOneStep s) (Ok r) H K → is_reading s ≡ true
-one-reading s r H K one = let all : AreReadings ((s, r) ∷ []) = subst (λ (m : List Made). AreReadings m) one.read one.readings in all.0
+one-reading : {E : Type 0} (s : Step) (r : Reply) (H K : List Entry1)
+    → ReadsBy {T = Reply} {E = E} (IsOneStep s) (Ok r) H K → is_reading s ≡ true
+one-reading s r H K one =
+    let all : AreReadings ((s, r) ∷ []) = subst (λ (m : List Made). AreReadings m) one.read one.readings in all.0
 
 -- one more slot was read
 gets-snoc : (f : Found) (k : ℕ) (rs : List Reply) (r : Reply)
@@ -119,15 +132,19 @@ gets-readings f k (r ∷ rs) = (refl, gets-readings f (k + 1) rs)
 pub only-gets : (f : Found) (rs : List Reply) (H K : List Entry1) → AddsOwn (gets_from f 0 rs) H K → OnlyReads H K
 only-gets f rs H K adds = (gets_from f 0 rs, adds, gets-readings f 0 rs)
 
-pub adds-get : {E : Type 0} (f : Found) (k : ℕ) (rs new : List Reply) (r : Reply) (H K L : List Entry1) → new ≡ rs ++ r ∷ [] → length rs ≡ k
-    → AddsOwn (gets_from f 0 rs) H K → ReadsBy {T = Reply} {E = E} (IsOneStep (step.Get f.inode f.generation k)) (Ok r) K L → AddsOwn (gets_from f 0 new) H L
+pub adds-get : {E : Type 0} (f : Found) (k : ℕ) (rs new : List Reply) (r : Reply) (H K L : List Entry1)
+    → new ≡ rs ++ r ∷ [] → length rs ≡ k
+    → AddsOwn (gets_from f 0 rs) H K → ReadsBy {T = Reply} {E = E} (IsOneStep (step.Get f.inode f.generation k))
+    (Ok r) K L → AddsOwn (gets_from f 0 new) H L
 adds-get f k rs new r H K L is long so_far one =
     let at : k ≡ 0 + length rs = omega (arith, long) in
     let last : (step.Get f.inode f.generation k, r) ≡ (step.Get f.inode f.generation (0 + length rs), r) = ap
     (λ (n : ℕ). (step.Get f.inode f.generation n, r)) at in
-    let whole : gets_from f 0 rs ++ (step.Get f.inode f.generation k, r) ∷ [] ≡ gets_from f 0 new = ap (λ (m : Made). gets_from f 0 rs ++ m ∷ []) last
+    let whole : gets_from f 0 rs ++ (step.Get f.inode f.generation k, r) ∷ [] ≡ gets_from f 0 new =
+    ap (λ (m : Made). gets_from f 0 rs ++ m ∷ []) last
     ∙ (sym (gets-snoc f 0 rs r) ∙ ap (gets_from f 0) (sym is)) in
-    subst (λ (m : List Made). AddsOwn m H L) whole (adds-both (gets_from f 0 rs) ((step.Get f.inode f.generation k, r) ∷ []) H K L so_far
+    subst (λ (m : List Made). AddsOwn m H L) whole
+    (adds-both (gets_from f 0 rs) ((step.Get f.inode f.generation k, r) ∷ []) H K L so_far
     (one-added (step.Get f.inode f.generation k) r K L one))
 
 pub adds-init : (f : Found) (rs : List Reply) (H : List Entry1) → rs ≡ [] → AddsOwn (gets_from f 0 rs) H H
@@ -135,19 +152,25 @@ adds-init f rs H is = subst (λ (l : List Reply). AddsOwn (gets_from f 0 l) H H)
 
 -- the name that was looked up
 pub look-named : {E : Type 0} (d g : ℕ) (n m : List ℕ) (r : Reply) (H K : List Entry1) → n ≡ m
-    → ReadsBy {T = Reply} {E = E} (IsOneStep (step.Look d g n)) (Ok r) H K → ReadsBy {T = Reply} {E = E} (IsOneStep (step.Look d g m)) (Ok r) H K
-look-named {E} d g n m r H K is one = subst (λ (l : List ℕ). ReadsBy {T = Reply} {E = E} (IsOneStep (step.Look d g l)) (Ok r) H K) is one
+    → ReadsBy {T = Reply} {E = E} (IsOneStep (step.Look d g n)) (Ok r) H K
+    → ReadsBy {T = Reply} {E = E} (IsOneStep (step.Look d g m)) (Ok r) H K
+look-named {E} d g n m r H K is one =
+    subst (λ (l : List ℕ). ReadsBy {T = Reply} {E = E} (IsOneStep (step.Look d g l)) (Ok r) H K) is one
 
 pub long-more : (rs new : List Reply) (r : Reply) (k : ℕ) → new ≡ rs ++ r ∷ [] → length rs ≡ k → length new ≡ k + 1
 long-more rs new r k is long = let n = ap length is in let m = length-append rs (r ∷ []) in omega (arith, n, m, long)
 
 -- this step was made, and then what follows from its reply
-abbrev pub Leads : {A : Type 0} → (Reply → Option A) → (A → Option FileRead → List Made → Type 0) → Step → Option FileRead → List Made → Type 0
-Leads f Next s read made = (q : Reply) × (rest : List Made) × (made ≡ (s, q) ∷ rest) × FollowsAnswer Next (f q) read rest
+abbrev pub Leads : {A : Type 0} → (Reply → Option A) → (A → Option FileRead → List Made → Type 0)
+    → Step → Option FileRead → List Made → Type 0
+Leads f Next s read made = (q : Reply) × (rest : List Made) × (made ≡ (s, q) ∷ rest)
+    × FollowsAnswer Next (f q) read rest
 
 -- a step of caller 0 after which nothing is asked for
-pub reads-end : {A E : Type 0} (f : Reply → Option A) (Next : A → Option FileRead → List Made → Type 0) (s : Step) (r : Reply) (H K : List Entry1)
-    → ReadsBy {T = Reply} {E = E} (IsOneStep s) (Ok r) H K → f r ≡ None → ReadsBy {T = Option FileRead} {E = E} (Leads f Next s) (Ok None) H K
+pub reads-end : {A E : Type 0} (f : Reply → Option A) (Next : A → Option FileRead → List Made → Type 0) (s : Step)
+    (r : Reply) (H K : List Entry1)
+    → ReadsBy {T = Reply} {E = E} (IsOneStep s) (Ok r) H K
+    → f r ≡ None → ReadsBy {T = Option FileRead} {E = E} (Leads f Next s) (Ok None) H K
 reads-end f Next s r H K one none = record {
   made = (s, r) ∷ [];
   adds = one-added s r H K one;
@@ -156,8 +179,10 @@ reads-end f Next s r H K one none = record {
 }
 
 -- and one after which it goes on
-pub reads-more : {A E : Type 0} (f : Reply → Option A) (Next : A → Option FileRead → List Made → Type 0) (s : Step) (r : Reply) (H K L : List Entry1)
-    (it : A) (made : Result (Option FileRead) E) → ReadsBy {T = Reply} {E = E} (IsOneStep s) (Ok r) H K → f r ≡ Some it → ReadsBy (Next it) made K L
+pub reads-more : {A E : Type 0} (f : Reply → Option A) (Next : A → Option FileRead → List Made → Type 0) (s : Step)
+    (r : Reply) (H K L : List Entry1)
+    (it : A) (made : Result (Option FileRead) E) → ReadsBy {T = Reply} {E = E} (IsOneStep s) (Ok r) H K → f r ≡ Some it
+    → ReadsBy (Next it) made K L
     → ReadsBy (Leads f Next s) made H L
 reads-more {A} {E} f Next s r H K L it made one some more = record {
   made = (s, r) ∷ more.made;
@@ -166,7 +191,8 @@ reads-more {A} {E} f Next s r H K L it made one some more = record {
   read = go made more.read;
 }
   where
-    go : (m : Result (Option FileRead) E) → IfOk m (λ read. Next it read more.made) → IfOk m (λ read. Leads f Next s read ((s, r) ∷ more.made))
+    go : (m : Result (Option FileRead) E) → IfOk m (λ read. Next it read more.made)
+        → IfOk m (λ read. Leads f Next s read ((s, r) ∷ more.made))
     go (Ok read) next = (r, more.made, refl, subst (λ o. FollowsAnswer Next o read more.made) (sym some) next)
     go (Err e) next = tt
 
@@ -174,33 +200,43 @@ reads-more {A} {E} f Next s r H K L it made one some more = record {
 looked : {E : Type 0} (d g : ℕ) (name : List ℕ) (o : Option Found) (H K : List Entry1)
     → ReadsBy {T = Option Found} {E = E} (IsLookedUp d g name) (Ok o) H K
     → (r : Reply) × ReadsBy {T = Reply} {E = E} (IsOneStep (step.Look d g name)) (Ok r) H K × (o ≡ found_in r)
-looked d g name o H K x = let (r, is, found) = x.read in (r, record { made = x.made; adds = x.adds; readings = x.readings; read = is }, found)
+looked d g name o H K x = let (r, is, found) = x.read in
+    (r, record { made = x.made; adds = x.adds; readings = x.readings; read = is }, found)
 
-pub look-end : {E : Type 0} (Next : Found → Option FileRead → List Made → Type 0) (d g : ℕ) (name : List ℕ) (o : Option Found) (H K : List Entry1)
+pub look-end : {E : Type 0} (Next : Found → Option FileRead → List Made → Type 0) (d g : ℕ) (name : List ℕ)
+    (o : Option Found) (H K : List Entry1)
     → ReadsBy {T = Option Found} {E = E} (IsLookedUp d g name) (Ok o) H K → o ≡ None
     → ReadsBy {T = Option FileRead} {E = E} (Leads found_in Next (step.Look d g name)) (Ok None) H K
 look-end {E} Next d g name o H K x none =
     let one = looked {E = E} d g name o H K x in
     reads-end found_in Next (step.Look d g name) one.0 H K one.1 (sym one.2 ∙ none)
 
-pub look-more : {E : Type 0} (Next : Found → Option FileRead → List Made → Type 0) (d g : ℕ) (name : List ℕ) (o : Option Found) (it : Found)
-    (made : Result (Option FileRead) E) (H K L : List Entry1) → ReadsBy {T = Option Found} {E = E} (IsLookedUp d g name) (Ok o) H K → o ≡ Some it
+pub look-more : {E : Type 0} (Next : Found → Option FileRead → List Made → Type 0) (d g : ℕ) (name : List ℕ)
+    (o : Option Found) (it : Found)
+    (made : Result (Option FileRead) E) (H K L : List Entry1)
+    → ReadsBy {T = Option Found} {E = E} (IsLookedUp d g name) (Ok o) H K → o ≡ Some it
     → ReadsBy (Next it) made K L → ReadsBy (Leads found_in Next (step.Look d g name)) made H L
 look-more {E} Next d g name o it made H K L x some more =
     let one = looked {E = E} d g name o H K x in
     reads-more found_in Next (step.Look d g name) one.0 H K L it made one.1 (sym one.2 ∙ some) more
 
 -- less is said of the same steps
-pub reads-as : {T U E : Type 0} (Is : T → List Made → Type 0) (Says : U → List Made → Type 0) (t : T) (u : U) (H K : List Entry1)
-    → ReadsBy {T = T} {E = E} Is (Ok t) H K → ((made : List Made) → Is t made → Says u made) → ReadsBy {T = U} {E = E} Says (Ok u) H K
-reads-as Is Says t u H K r says = record { made = r.made; adds = r.adds; readings = r.readings; read = says r.made r.read }
+pub reads-as : {T U E : Type 0} (Is : T → List Made → Type 0) (Says : U → List Made → Type 0) (t : T) (u : U)
+    (H K : List Entry1)
+    → ReadsBy {T = T} {E = E} Is (Ok t) H K → ((made : List Made) → Is t made → Says u made)
+    → ReadsBy {T = U} {E = E} Says (Ok u) H K
+reads-as Is Says t u H K r says =
+    record { made = r.made; adds = r.adds; readings = r.readings; read = says r.made r.read }
 
 -- the file of a user was read, and kept at the end of these
-abbrev pub Pushed : {T E : Type 0} → ℕ → Result T E → List Entry1 → List Entry1 → List (Option FileRead) → List (Option FileRead) → Type 0
-Pushed user result H K old new = ReadsBy (λ _ made. (read : Option FileRead) × (new ≡ old ++ read ∷ []) × IsFileRead user read made) result H K
+abbrev pub Pushed : {T E : Type 0} → ℕ → Result T E → List Entry1 → List Entry1 → List (Option FileRead)
+    → List (Option FileRead) → Type 0
+Pushed user result H K old new =
+    ReadsBy (λ _ made. (read : Option FileRead) × (new ≡ old ++ read ∷ []) × IsFileRead user read made) result H K
 
 pub four-read : {T E : Type 0} (a b c d : T) (H H1 H2 H3 H4 : List Entry1) (l l1 l2 l3 l4 : List (Option FileRead))
-    → Pushed {T = T} {E = E} 1 (Ok a) H H1 l l1 → Pushed {T = T} {E = E} 2 (Ok b) H1 H2 l1 l2 → Pushed {T = T} {E = E} 3 (Ok c) H2 H3 l2 l3
+    → Pushed {T = T} {E = E} 1 (Ok a) H H1 l l1 → Pushed {T = T} {E = E} 2 (Ok b) H1 H2 l1 l2
+    → Pushed {T = T} {E = E} 3 (Ok c) H2 H3 l2 l3
     → Pushed {T = T} {E = E} 4 (Ok d) H3 H4 l3 l4
     → l ≡ [] → (made : List Made) × AddsOwn made H H4 × AreReadings made × AreRead 1 l4 made
 four-read a b c d H H1 H2 H3 H4 l l1 l2 l3 l4 one two three four empty =
@@ -221,22 +257,30 @@ four-read a b c d H H1 H2 H3 H4 l l1 l2 l3 l4 one two three four empty =
       m1 ++ (m2 ++ (m3 ++ (m4 ++ []))),
       adds-both m1 (m2 ++ (m3 ++ (m4 ++ []))) H H1 H4 one.adds rest,
       readings-both m1 (m2 ++ (m3 ++ (m4 ++ []))) one.readings (readings-both m2 (m3 ++ (m4 ++ [])) two.readings all),
-      subst (λ (x : List (Option FileRead)). AreRead 1 x (m1 ++ (m2 ++ (m3 ++ (m4 ++ []))))) (sym whole)
-          (m1, m2 ++ (m3 ++ (m4 ++ [])), refl, r1, (m2, m3 ++ (m4 ++ []), refl, r2, (m3, m4 ++ [], refl, r3, (m4, [], refl, r4, refl)))),
+      subst (λ (x : List (Option FileRead)). AreRead 1 x (m1 ++ (m2 ++ (m3 ++ (m4 ++ []))))) (sym whole) (
+        m1,
+        m2 ++ (m3 ++ (m4 ++ [])),
+        refl,
+        r1,
+        (m2, m3 ++ (m4 ++ []), refl, r2, (m3, m4 ++ [], refl, r3, (m4, [], refl, r4, refl))),
+      ),
     )
 
 -- the flush of caller 0
 abbrev pub Flushes : Bool → List Entry1 → List Entry1 → Type 0
-Flushes closed seen H = (flush : Reply) × AddsStep 0 (step.Flush 0 0) flush seen H × (closed ≡ not (is_out_of_memory flush))
+Flushes closed seen H = (flush : Reply) × AddsStep 0 (step.Flush 0 0) flush seen H
+    × (closed ≡ not (is_out_of_memory flush))
 
 flush-told : (b : Bool) → not (not b) ≡ false → b ≡ false
 flush-told true e = e
 flush-told false e = refl
 
 -- memory was wanting on the way, and nothing said
-pub read-short : {T E : Type 0} (Is : T → List Made → Type 0) (reads : Result T E) (out closed : Bool) (served seen H entries : List Entry1)
+pub read-short : {T E : Type 0} (Is : T → List Made → Type 0) (reads : Result T E) (out closed : Bool)
+    (served seen H entries : List Entry1)
     (text : Option (List ℕ))
-    → entries ≡ H → text ≡ None → ReadsBy Is reads served seen → Flushes closed seen H → IsReadFollowed out served text entries
+    → entries ≡ H → text ≡ None → ReadsBy Is reads served seen → Flushes closed seen H
+    → IsReadFollowed out served text entries
 read-short Is reads out closed served seen H entries text ends said read close =
     let (flush, closes, is) = close in
     record {
@@ -254,8 +298,10 @@ read-short Is reads out closed served seen H entries text ends said read close =
     }
 
 -- it was not
-pub read-whole : (made : List Made) (reads : List (Option FileRead)) (out closed : Bool) (served seen H entries : List Entry1) (text : Option (List ℕ))
-    → entries ≡ H → out ≡ false → closed ≡ true → AddsOwn made served seen → AreReadings made → AreRead 1 reads made → Flushes closed seen H
+pub read-whole : (made : List Made) (reads : List (Option FileRead)) (out closed : Bool)
+    (served seen H entries : List Entry1) (text : Option (List ℕ))
+    → entries ≡ H → out ≡ false → closed ≡ true → AddsOwn made served seen → AreReadings made → AreRead 1 reads made
+    → Flushes closed seen H
     → IsReadFollowed out served text entries
 read-whole made reads out closed served seen H entries text ends whole done adds readings read close =
     let (flush, closes, is) = close in
@@ -274,12 +320,15 @@ read-whole made reads out closed served seen H entries text ends whole done adds
     }
 
 -- and a team was at work before
-pub drill-follows : (start steps : ℕ) (at : SuperBlock) (out : Bool) (lines : List (List Line)) (scripts : List (List Command)) (before served H : List Entry1)
-    (text : Option (List ℕ)) → scripts ≡ drill_session start steps → before ≡ [] → TeamServed scripts at.inodes at.blocks out lines before served
+pub drill-follows : (start steps : ℕ) (at : SuperBlock) (out : Bool) (lines : List (List Line))
+    (scripts : List (List Command)) (before served H : List Entry1)
+    (text : Option (List ℕ)) → scripts ≡ drill_session start steps
+    → before ≡ [] → TeamServed scripts at.inodes at.blocks out lines before served
     → IsReadFollowed out served text H → IsDrillFollowed start steps at text H
 drill-follows start steps at out lines scripts before served H text same empty t r =
     let first : TeamMade scripts at.inodes at.blocks out lines (λ c. steps_by c served) = subst
-    (λ (h : List Entry1). TeamMade scripts at.inodes at.blocks out lines (λ c. steps_by c (drop (length h) served))) empty t.made in
+    (λ (h : List Entry1). TeamMade scripts at.inodes at.blocks out lines
+    (λ c. steps_by c (drop (length h) served))) empty t.made in
     let named : TeamMade (drill_session start steps) at.inodes at.blocks out lines (λ c. steps_by c served) = subst
     (λ (s : List (List Command)). TeamMade s at.inodes at.blocks out lines (λ c. steps_by c served)) same first in
     record {
@@ -307,7 +356,8 @@ drill-follows start steps at out lines scripts before served H text same empty t
     }
 
 -- nobody was served, and nothing said
-pub drill-unserved : (start steps : ℕ) (at : SuperBlock) (text : Option (List ℕ)) (H : List Entry1) → H ≡ [] → text ≡ None
+pub drill-unserved : (start steps : ℕ) (at : SuperBlock) (text : Option (List ℕ)) (H : List Entry1)
+    → H ≡ [] → text ≡ None
     → IsDrillFollowed start steps at text H
 drill-unserved start steps at text H none said =
     drill-follows start steps at true [] (drill_session start steps) [] [] H text refl refl

@@ -13,7 +13,8 @@ use Rattle.nofs_tool.specs.Upgrade.{IsRefusedUpgrade, UpgradeEnds}
 use Rattle.nofs_tool.proofs.OnRuns.Faults.{faults-rose}
 
 -- a mount that served, and whose text was written
-pub written-ends : (found new : DiskState) (sink_old sink_new : SinkState) (first status : ℕ) (ran : HistoryState) (h : Option HistoryState)
+pub written-ends : (found new : DiskState) (sink_old sink_new : SinkState) (first status : ℕ) (ran : HistoryState)
+    (h : Option HistoryState)
     → h ≡ Some ran
     → ∥ Finished found new first ran ∥₁
     → (status ≡ 0) ⊎ (status ≡ 3) ⊎ (status ≡ 5) ⊎ (status ≡ 7)
@@ -45,8 +46,10 @@ not-refused status (inr (inr (inl a))) e = omega (arith, a, e)
 not-refused status (inr (inr (inr a))) e = omega (arith, a, e)
 
 -- a mount on a device whose faults were counted before
-pub mounted-ends : {Refused : Type 0} (old found new : DiskState) (sink_old sink_new : SinkState) (status : ℕ) (h : Option HistoryState)
-    → old.faults ≤ found.faults → MountEnds found new sink_old sink_new status h → SessionEnds Refused old new sink_old sink_new status h
+pub mounted-ends : {Refused : Type 0} (old found new : DiskState) (sink_old sink_new : SinkState) (status : ℕ)
+    (h : Option HistoryState)
+    → old.faults ≤ found.faults → MountEnds found new sink_old sink_new status h
+    → SessionEnds Refused old new sink_old sink_new status h
 mounted-ends old found new sink_old sink_new status h later m = record {
   named = widened m.named;
   device = λ e. ((m.device e).0, (let r = (m.device e).1 in omega (arith, later, r)));
@@ -57,7 +60,8 @@ mounted-ends old found new sink_old sink_new status h later m = record {
 
 module _ {D : Type 0} (state : D → DiskState) where
   -- a run at a mount, whose disk was handed back when its text was written
-  pub run-ends : (found ran last : D) (sink_old sink_new : SinkState) (first status : ℕ) (history : HistoryState) (h : Option HistoryState)
+  pub run-ends : (found ran last : D) (sink_old sink_new : SinkState) (first status : ℕ) (history : HistoryState)
+      (h : Option HistoryState)
       → last ≡ ran → h ≡ Some history
       → ∥ Finished (state found) (state ran) first history ∥₁
       → (status ≡ 0) ⊎ (status ≡ 3) ⊎ (status ≡ 5) ⊎ (status ≡ 7)
@@ -67,10 +71,12 @@ module _ {D : Type 0} (state : D → DiskState) where
       → MountEnds (state found) (state last) sink_old sink_new status h
   run-ends found ran last sink_old sink_new first status history h same stood ends named device faulty sink =
       subst (λ d. MountEnds (state found) (state d) sink_old sink_new status h) (sym same)
-      (written-ends (state found) (state ran) sink_old sink_new first status history h stood ends named device faulty sink)
+      (written-ends (state found)
+      (state ran) sink_old sink_new first status history h stood ends named device faulty sink)
 
   -- the mount found the device as it was
-  pub old-ends : {Refused : Type 0} (old found ran last : D) (sink_old sink_new : SinkState) (first status : ℕ) (history : HistoryState)
+  pub old-ends : {Refused : Type 0} (old found ran last : D) (sink_old sink_new : SinkState) (first status : ℕ)
+      (history : HistoryState)
       (h : Option HistoryState) → found ≡ old → last ≡ ran → h ≡ Some history
       → ∥ Finished (state found) (state ran) first history ∥₁
       → (status ≡ 0) ⊎ (status ≡ 3) ⊎ (status ≡ 5) ⊎ (status ≡ 7)
@@ -84,7 +90,8 @@ module _ {D : Type 0} (state : D → DiskState) where
       (run-ends found ran last sink_old sink_new first status history h same stood ends named device faulty sink))
 
 -- an upgrade has no history, and one that was refused leaves the device as it says
-pub upgrade-keeps : {D : Type 0} (state : D → DiskState) (disk last : D) (sink_old sink_new : SinkState) (status : ℕ) (h : Option HistoryState) → h ≡ None
+pub upgrade-keeps : {D : Type 0} (state : D → DiskState) (disk last : D) (sink_old sink_new : SinkState) (status : ℕ)
+    (h : Option HistoryState) → h ≡ None
     → UpgradeEnds (state disk) (state last) sink_old sink_new status
     → KeepsDevice (IsRefusedUpgrade (state disk) (state last)) (Some Upgrade) disk last status h
 upgrade-keeps state disk last sink_old sink_new status h none ends = let named = ends.named in record {

@@ -1,5 +1,6 @@
 -- Where all is known, the counts of the machine are those of the full scan of the disk.
-use Rattle.std.proofs.Common.{◌≡◌, ◌≢◌, Option, Some, None, Result, Ok, Err, ℕ, zero, suc, ◌+◌, ◌<◌, Bool, true, false, ◌&&◌, cond, not, List, [], map, refl}
+use Rattle.std.proofs.Common.{◌≡◌, ◌≢◌, Option, Some, None, Result, Ok, Err, ℕ, zero, suc, ◌+◌, ◌<◌, Bool, true, false}
+use Rattle.std.proofs.Common.{◌&&◌, cond, not, List, [], map, refl}
 use Rattle.std.proofs.Common.{sym, ap, ◌∙◌, subst, arith}
 use Rattle.std.specs.Prelude.{IfOk, IfSome}
 use Rattle.std.specs.Result.{result_ok}
@@ -31,36 +32,52 @@ use Rattle.nofs_tool.proofs.OnSession.Whole.{open-still, shows-past, whole-scan}
 count-none : (P : ℕ → Bool) (n : ℕ) → ((m : ℕ) → m < n → P m ≡ false) → count_below P n ≡ 0
 unfolding count_below
 count-none P zero none = refl
-count-none P (suc n) none = (λ j. cond (none n (omega arith) j) (1 + count_below P n) (count_below P n)) ∙ count-none P n (λ m lt. none m (omega (arith, lt)))
+count-none P (suc n) none = (λ j. cond (none n (omega arith) j) (1 + count_below P n) (count_below P n))
+    ∙ count-none P n (λ m lt. none m (omega (arith, lt)))
 
 known-is : (a b c : Bool) → a ≡ true → b ≡ c → (a && b) ≡ c
 known-is true b c e f = f
 known-is false b c e f = absurd (cc e)
 
-pub world-counted : (at : SuperBlock) (W : World) (X : Image) (c : Counts) → CountsInodes W c → CountsBlocks W c → ShowsDisk at W X → IsWholeScan W X
+pub world-counted : (at : SuperBlock) (W : World) (X : Image) (c : Counts) → CountsInodes W c → CountsBlocks W c
+    → ShowsDisk at W X → IsWholeScan W X
     → CountsDisk X c
 world-counted at W X c i b shows whole =
-    let inodes : W.inodes ≡ (super_at X).inodes = shows.inodes ∙ sym (ap (λ (s : SuperBlock). s.inodes) shows.numbers) in
-    let blocks : W.blocks ≡ (super_at X).blocks = shows.blocks ∙ sym (ap (λ (s : SuperBlock). s.blocks) shows.numbers) in
+    let inodes : W.inodes ≡ (super_at X).inodes =
+    shows.inodes ∙ sym (ap (λ (s : SuperBlock). s.inodes) shows.numbers) in
+    let blocks : W.blocks ≡ (super_at X).blocks =
+    shows.blocks ∙ sym (ap (λ (s : SuperBlock). s.blocks) shows.numbers) in
     let used : (n : ℕ) → uses_inode W (suc n) ≡ is_used_inode X (suc n) = λ n. shows.used_inodes (suc n) in
-    let known : (n : ℕ) → n < W.inodes → W.known_inodes (suc n) ≡ true = λ n low. whole.known_inodes (suc n) (omega arith) (omega (arith, low, inodes)) in
-    let block_used : (p : ℕ) → p < W.blocks → uses_block W p ≡ is_used_block X p = λ p low. whole.used_blocks p (omega (arith, low, blocks)) in
-    let block_known : (p : ℕ) → p < W.blocks → W.known_blocks p ≡ true = λ p low. whole.known_blocks p (omega (arith, low, blocks)) in
+    let known : (n : ℕ) → n < W.inodes → W.known_inodes (suc n) ≡ true =
+    λ n low. whole.known_inodes (suc n) (omega arith) (omega (arith, low, inodes)) in
+    let block_used : (p : ℕ) → p < W.blocks → uses_block W p ≡ is_used_block X p =
+    λ p low. whole.used_blocks p (omega (arith, low, blocks)) in
+    let block_known : (p : ℕ) → p < W.blocks → W.known_blocks p ≡ true =
+    λ p low. whole.known_blocks p (omega (arith, low, blocks)) in
     record {
-      inodes_used = i.used ∙ (count-same (λ n. W.known_inodes (suc n) && uses_inode W (suc n)) (λ n. is_used_inode X (suc n)) W.inodes
+      inodes_used = i.used
+          ∙ (count-same (λ n. W.known_inodes (suc n) && uses_inode W (suc n)) (λ n. is_used_inode X (suc n)) W.inodes
           (λ n low. known-is _ _ _ (known n low) (used n)) ∙ ap (count_below (λ n. is_used_inode X (suc n))) inodes);
-      inodes_free = i.free ∙ (count-same (λ n. W.known_inodes (suc n) && not (uses_inode W (suc n))) (λ n. not (is_used_inode X (suc n))) W.inodes
-          (λ n low. known-is _ _ _ (known n low) (ap not (used n))) ∙ ap (count_below (λ n. not (is_used_inode X (suc n)))) inodes);
-      inodes_unchecked = i.unchecked ∙ count-none (λ n. not (W.known_inodes (suc n))) W.inodes (λ n low. ap not (known n low));
+      inodes_free = i.free ∙ (count-same (λ n. W.known_inodes (suc n) && not (uses_inode W (suc n)))
+          (λ n. not (is_used_inode X (suc n))) W.inodes
+          (λ n low. known-is _ _ _ (known n low) (ap not (used n)))
+          ∙ ap (count_below (λ n. not (is_used_inode X (suc n)))) inodes);
+      inodes_unchecked =
+          i.unchecked ∙ count-none (λ n. not (W.known_inodes (suc n))) W.inodes (λ n low. ap not (known n low));
       blocks_used = b.used ∙ (count-same (λ p. W.known_blocks p && uses_block W p) (λ p. is_used_block X p) W.blocks
-          (λ p low. known-is _ _ _ (block_known p low) (block_used p low)) ∙ ap (count_below (λ p. is_used_block X p)) blocks);
-      blocks_free = b.free ∙ (count-same (λ p. W.known_blocks p && not (uses_block W p)) (λ p. not (is_used_block X p)) W.blocks
-          (λ p low. known-is _ _ _ (block_known p low) (ap not (block_used p low))) ∙ ap (count_below (λ p. not (is_used_block X p))) blocks);
-      blocks_unchecked = b.unchecked ∙ count-none (λ p. not (W.known_blocks p)) W.blocks (λ p low. ap not (block_known p low));
+          (λ p low. known-is _ _ _ (block_known p low) (block_used p low))
+          ∙ ap (count_below (λ p. is_used_block X p)) blocks);
+      blocks_free =
+          b.free ∙ (count-same (λ p. W.known_blocks p && not (uses_block W p)) (λ p. not (is_used_block X p)) W.blocks
+          (λ p low. known-is _ _ _ (block_known p low) (ap not (block_used p low)))
+          ∙ ap (count_below (λ p. not (is_used_block X p))) blocks);
+      blocks_unchecked =
+          b.unchecked ∙ count-none (λ p. not (W.known_blocks p)) W.blocks (λ p low. ap not (block_known p low));
     }
 
 -- the counts of a mount at its end
-pub scan-counted : (found before d : DiskState) (first first_before : ℕ) (k_before k : Books) (lines : List (List Line)) (c : Counts)
+pub scan-counted : (found before d : DiskState) (first first_before : ℕ) (k_before k : Books)
+    (lines : List (List Line)) (c : Counts)
     → ∥ IsMount found before first_before k_before ∥₁ → ∥ IsMount found d first k ∥₁
     → IsSessionRun [] k_before.at.inodes k_before.at.blocks false lines k.history.entries
     → ((W : World) → Says k W → CountsInodes W c × CountsBlocks W c)
@@ -78,15 +95,20 @@ scan-counted found before d first first_before k_before k lines c stood stands r
     world-counted (raised (super_at found.now)) s.past.world d.now c n.0 n.1 shows whole) ∣₁))
 
 -- the line of the counts that were taken, and what is known of them
-pub counts-told : {E : Type 0} (T : Counts → Type 0) (made : Result (List ℕ) E) (text : Option (List ℕ)) (c : Counts) → text ≡ result_ok made
+pub counts-told : {E : Type 0} (T : Counts → Type 0) (made : Result (List ℕ) E) (text : Option (List ℕ)) (c : Counts)
+    → text ≡ result_ok made
     → IfOk made (λ t. t ≡ counts_line c) → T c → IfSome text (λ t. (x : Counts) × (t ≡ counts_line x) × T x)
-counts-told T (Ok t) text c is line known = subst (λ (o : Option (List ℕ)). IfSome o (λ t. (x : Counts) × (t ≡ counts_line x) × T x)) (sym is) (c, line, known)
-counts-told T (Err e) text c is line known = subst (λ (o : Option (List ℕ)). IfSome o (λ t. (x : Counts) × (t ≡ counts_line x) × T x)) (sym is) tt
+counts-told T (Ok t) text c is line known =
+    subst (λ (o : Option (List ℕ)). IfSome o (λ t. (x : Counts) × (t ≡ counts_line x) × T x)) (sym is) (c, line, known)
+counts-told T (Err e) text c is line known =
+    subst (λ (o : Option (List ℕ)). IfSome o (λ t. (x : Counts) × (t ≡ counts_line x) × T x)) (sym is) tt
 
 -- a scan that was told
-pub scan-done : (found last : DiskState) (text : Option (List ℕ)) (ran : HistoryState) (h : Option HistoryState) (old new : SinkState) → h ≡ Some ran
+pub scan-done : (found last : DiskState) (text : Option (List ℕ)) (ran : HistoryState) (h : Option HistoryState)
+    (old new : SinkState) → h ≡ Some ran
     → has_fault ran.entries ≡ false → text ≢ None → IfSome text (AppendsAll old new)
-    → IfSome text (λ t. (c : Counts) × (t ≡ counts_line c) × ∥ (IsMet found → has_fault ran.entries ≡ false → CountsDisk last.now c) ∥₁)
+    → IfSome text (λ t. (c : Counts) × (t ≡ counts_line c)
+    × ∥ (IsMet found → has_fault ran.entries ≡ false → CountsDisk last.now c) ∥₁)
     → IsScanned found last h old new
 scan-done found last None ran h old new some ok is a b = absurd (is refl)
 scan-done found last (Some t) ran h old new some ok is a told =
@@ -95,6 +117,8 @@ scan-done found last (Some t) ran h old new some ok is a told =
     (ok, (c, subst (AppendsAll old new) line a, ∥∥₁_elim counts ∥∥₁_prop (λ f. ∣ (λ q. f q ok) ∣₁)))
 
 -- a run of no users
-pub none-run : {W : Type 0} (ws : List W) (f : W → List Command) (inodes blocks : ℕ) (out : Bool) (lines : List (List Line)) (H : List Entry1) → ws ≡ []
+pub none-run : {W : Type 0} (ws : List W) (f : W → List Command) (inodes blocks : ℕ) (out : Bool)
+    (lines : List (List Line)) (H : List Entry1) → ws ≡ []
     → IsSessionRun (map f ws) inodes blocks out lines H → IsSessionRun [] inodes blocks out lines H
-none-run {W} ws f inodes blocks out lines H none run = subst (λ (l : List W). IsSessionRun (map f l) inodes blocks out lines H) none run
+none-run {W} ws f inodes blocks out lines H none run =
+    subst (λ (l : List W). IsSessionRun (map f l) inodes blocks out lines H) none run

@@ -1,5 +1,6 @@
 -- Each element that the sweeps of a session have examined is known to the machine at its end.
-use Rattle.std.proofs.Common.{◌≡◌, ◌⊎◌, inl, inr, ℕ, zero, suc, ◌-◌, ◌<◌, ◌≤◌, Bool, true, false, ◌||◌, List, [], ◌∷◌, ◌++◌, length, get_or, map, Some, None}
+use Rattle.std.proofs.Common.{◌≡◌, ◌⊎◌, inl, inr, ℕ, zero, suc, ◌-◌, ◌<◌, ◌≤◌, Bool, true, false, ◌||◌, List, [], ◌∷◌}
+use Rattle.std.proofs.Common.{◌++◌, length, get_or, map, Some, None}
 use Rattle.std.proofs.Common.{if◌then◌else◌, cond, ne_eqb, refl, sym, ap, ◌∙◌, subst, arith}
 use Rattle.std.specs.Prelude.{filter, nat_lt, nat_le, ◌==◌}
 use Rattle.std.proofs.lemmas.Bool.{eq-eqb, le-ltb, lt-leb}
@@ -45,7 +46,8 @@ block-in : (p n : ℕ) → p < n → nat_le n p ≡ false
 block-in p n low = lt-leb n p low
 
 -- one step
-next-goes : (W : World) (e : Entry1) (V : World) → Next W e V → W.stopped ≡ false → is_fault e.reply ≡ false → GoesOn W (λ s. e.step ≡ s) V
+next-goes : (W : World) (e : Entry1) (V : World) → Next W e V
+    → W.stopped ≡ false → is_fault e.reply ≡ false → GoesOn W (λ s. e.step ≡ s) V
 next-goes W e V (AfterFault s r c same) going ok = absurd (cc (s, going))
 next-goes W e V (ByRow why s f r c k st l) going ok = record {
   going = st;
@@ -53,7 +55,8 @@ next-goes W e V (ByRow why s f r c k st l) going ok = record {
   blocks = k.blocks;
   keeps_inodes = l.inodes_stay;
   keeps_blocks = l.blocks_stay;
-  sees_inodes = λ i is low high. absurd (no-row ((i == 0) || nat_lt W.inodes i) refusal.BadRange why (inode-in i W.inodes low high)
+  sees_inodes = λ i is low high.
+      absurd (no-row ((i == 0) || nat_lt W.inodes i) refusal.BadRange why (inode-in i W.inodes low high)
       (subst (λ (s : Step). first_of (rows W V s) ≡ Some why) is f));
   sees_blocks = λ p is low. absurd (no-row (nat_le W.blocks p) refusal.BadRange why (block-in p W.blocks low)
       (subst (λ (s : Step). first_of (rows W V s) ≡ Some why) is f));
@@ -64,8 +67,10 @@ next-goes W e V (Done s f r c fs hs se vs l) going ok = record {
   blocks = vs.1;
   keeps_inodes = l.inodes_stay;
   keeps_blocks = l.blocks_stay;
-  sees_inodes = λ i is low high. l.inode_seen refl i (subst (λ (s : Step). sees_inode s i ≡ true) (sym is) (eq-eqb i i refl));
-  sees_blocks = λ p is low. l.block_seen refl p (subst (λ (s : Step). sees_block s p ≡ true) (sym is) (eq-eqb p p refl));
+  sees_inodes =
+      λ i is low high. l.inode_seen refl i (subst (λ (s : Step). sees_inode s i ≡ true) (sym is) (eq-eqb i i refl));
+  sees_blocks =
+      λ p is low. l.block_seen refl p (subst (λ (s : Step). sees_block s p ≡ true) (sym is) (eq-eqb p p refl));
 }
 next-goes W e V (ByRead s f r c k st l) going ok = absurd (let x = ap is_fault r in cc (x, ok))
 next-goes W e V (ByWrite s f m r c k st l) going ok = absurd (let x = ap is_fault r in cc (x, ok))
@@ -80,7 +85,8 @@ no-fault true c e = absurd (cc e)
 no-fault false c e = (refl, e)
 
 -- a run in which no call of the device failed
-pub run-goes : (es : List Entry1) (start : ℕ) (W V : World) → Run start W es V → W.stopped ≡ false → has_fault es ≡ false → GoesOn W (HasStep es) V
+pub run-goes : (es : List Entry1) (start : ℕ) (W V : World) → Run start W es V
+    → W.stopped ≡ false → has_fault es ≡ false → GoesOn W (HasStep es) V
 run-goes [] start W V same going ok = record {
   going = ap (λ (q : World). q.stopped) same ∙ going;
   inodes = ap (λ (q : World). q.inodes) same;
@@ -111,7 +117,8 @@ run-goes (e ∷ es) start W V r going ok =
     }
 
 -- the flush of the whole disk has no row: it was made, where no call failed
-flushed-next : (W : World) (e : Entry1) (V : World) → Next W e V → W.stopped ≡ false → is_fault e.reply ≡ false → e.step ≡ step.Flush 0 0
+flushed-next : (W : World) (e : Entry1) (V : World) → Next W e V
+    → W.stopped ≡ false → is_fault e.reply ≡ false → e.step ≡ step.Flush 0 0
     → e.reply ≡ reply.Flushed
 flushed-next W e V (AfterFault s r c same) going ok is = absurd (cc (s, going))
 flushed-next W e V (ByRow why s f r c k st l) going ok is = absurd
@@ -121,7 +128,8 @@ flushed-next W e V (ByRead s f r c k st l) going ok is = absurd (let x = ap is_f
 flushed-next W e V (ByWrite s f m r c k st l) going ok is = absurd (let x = ap is_fault r in cc (x, ok))
 
 -- so was one that ended a run
-pub flushed-last : (es : List Entry1) (start : ℕ) (W V : World) (e : Entry1) → Run start W (es ++ e ∷ []) V → W.stopped ≡ false
+pub flushed-last : (es : List Entry1) (start : ℕ) (W V : World) (e : Entry1) → Run start W (es ++ e ∷ []) V
+    → W.stopped ≡ false
     → has_fault (es ++ e ∷ []) ≡ false
     → e.step ≡ step.Flush 0 0 → e.reply ≡ reply.Flushed
 flushed-last [] start W V e r going ok is = flushed-next W e r.0 r.4 going (no-fault (is_fault e.reply) false ok).0 is
@@ -130,13 +138,16 @@ flushed-last (x ∷ es) start W V e r going ok is =
     flushed-last es x.to r.0 V e r.5 (next-goes W x r.0 r.4 going none.0).going none.1 is
 
 -- the steps of one caller are steps of the history
-by-caller : (c : ℕ) (es : List Entry1) (k : ℕ) (d : Step) → k < length (map made_step (steps_by c es)) → HasStep es (get_or (map made_step (steps_by c es)) k d)
+by-caller : (c : ℕ) (es : List Entry1) (k : ℕ) (d : Step) → k < length (map made_step (steps_by c es))
+    → HasStep es (get_or (map made_step (steps_by c es)) k d)
 by-caller c [] k d low = absurd (omega (arith, low))
 by-caller c (e ∷ es) k d low = go (λ n here. by-caller c es n d here) (is_by c e) k low
   where
-    go : ((n : ℕ) → n < length (map made_step (steps_by c es)) → HasStep es (get_or (map made_step (steps_by c es)) n d)) → (b : Bool) (n : ℕ)
+    go : ((n : ℕ) → n < length (map made_step (steps_by c es))
+        → HasStep es (get_or (map made_step (steps_by c es)) n d)) → (b : Bool) (n : ℕ)
         → n < length (map made_step (map done_of (cond b (e ∷ filter (is_by c) es) (filter (is_by c) es))))
-        → HasStep (e ∷ es) (get_or (map made_step (map done_of (cond b (e ∷ filter (is_by c) es) (filter (is_by c) es)))) n d)
+        → HasStep (e ∷ es)
+        (get_or (map made_step (map done_of (cond b (e ∷ filter (is_by c) es) (filter (is_by c) es)))) n d)
     go more true zero low = inl refl
     go more true (suc n) low = inr (more n (omega (arith, low)))
     go more false n low = inr (more n low)
@@ -153,12 +164,15 @@ get-map f (x ∷ xs) (suc k) d low = get-map f xs k d (omega (arith, low))
 
 module _ (served : List Entry1) where
   -- these elements were examined by one caller, in order
-  in-order : (c : ℕ) (see : ℕ → Step) (elements : List ℕ) (k : ℕ) → map made_step (steps_by c served) ≡ map see elements → k < length elements
+  in-order : (c : ℕ) (see : ℕ → Step) (elements : List ℕ) (k : ℕ) → map made_step (steps_by c served) ≡ map see elements
+      → k < length elements
       → HasStep served (see (get_or elements k 0))
   in-order c see elements k is low =
       let d : Step = step.SeeInode 0 in
-      let here : k < length (map made_step (steps_by c served)) = subst (λ (l : List Step). k < length l) (sym is) (low-map see elements k low) in
-      subst (HasStep served) (ap (λ (l : List Step). get_or l k d) is ∙ get-map see elements k d low) (by-caller c served k d here)
+      let here : k < length (map made_step (steps_by c served)) =
+      subst (λ (l : List Step). k < length l) (sym is) (low-map see elements k low) in
+      subst (HasStep served) (ap (λ (l : List Step). get_or l k d) is ∙ get-map see elements k d low)
+      (by-caller c served k d here)
 
   pub inodes-seen : (inodes i : ℕ)
       → Sweeps (λ place item. item ≡ place) Inode 0 inodes false [] (steps_by INODE_SWEEPER served) → 1 ≤ i → i ≤ inodes
@@ -189,7 +203,8 @@ has-more [] fs s has = absurd has
 has-more (e ∷ es) fs s (inl now) = inl now
 has-more (e ∷ es) fs s (inr later) = inr (has-more es fs s later)
 
-pub has-added : (caller : ℕ) (t s : Step) (r : Reply) (H K : List Entry1) → AddsStep caller t r H K → HasStep H s → HasStep K s
+pub has-added : (caller : ℕ) (t s : Step) (r : Reply) (H K : List Entry1) → AddsStep caller t r H K
+    → HasStep H s → HasStep K s
 has-added caller t s r H K a has = go (is_out_of_memory r) refl
   where
     go : (b : Bool) → is_out_of_memory r ≡ b → HasStep K s

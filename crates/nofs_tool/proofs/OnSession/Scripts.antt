@@ -11,7 +11,8 @@ use Rattle.nofs_tool.specs.Session.Serve.{IsFollowed, IsSessionRun}
 use Rattle.nofs_tool.proofs.OnSession.Serve.{run-closed}
 
 -- nobody was served, and nothing said
-pub unserved-follows : (scripts : List (List Command)) (at : SuperBlock) (text : Option (List ℕ)) (H : List Entry1) → H ≡ [] → text ≡ None
+pub unserved-follows : (scripts : List (List Command)) (at : SuperBlock) (text : Option (List ℕ)) (H : List Entry1)
+    → H ≡ [] → text ≡ None
     → IsFollowed scripts at text H
 unserved-follows scripts at text H none said = record {
   short = true;
@@ -19,13 +20,16 @@ unserved-follows scripts at text H none said = record {
   follows = (
     [],
     run-closed scripts at.inodes at.blocks true false [] [] [] H (reply.Refused refusal.OutOfMemory) refl
-        (team-unserved scripts at.inodes at.blocks true [] [] [] refl refl) (record { none = λ e. none; one = λ e. cc }) refl,
+        (team-unserved scripts at.inodes at.blocks true [] [] [] refl refl)
+        (record { none = λ e. none; one = λ e. cc }) refl,
   );
 }
 
 -- a team was served, and where memory was wanting nothing said
-pub served-follows : (session scripts : List (List Command)) (at : SuperBlock) (out : Bool) (lines : List (List Line)) (all H : List Entry1)
-    (text : Option (List ℕ)) → scripts ≡ session → H ≡ all → (out ≡ true → text ≡ None) → IsSessionRun scripts at.inodes at.blocks out lines all
+pub served-follows : (session scripts : List (List Command)) (at : SuperBlock) (out : Bool) (lines : List (List Line))
+    (all H : List Entry1)
+    (text : Option (List ℕ)) → scripts ≡ session → H ≡ all → (out ≡ true → text ≡ None)
+    → IsSessionRun scripts at.inodes at.blocks out lines all
     → IsFollowed session at text H
 served-follows session scripts at out lines all H text same is said run =
     let named : IsSessionRun session at.inodes at.blocks out lines all =
@@ -33,5 +37,6 @@ served-follows session scripts at out lines all H text same is said run =
     record {
       short = out;
       early = said;
-      follows = (lines, subst (λ (h : List Entry1). IsSessionRun session at.inodes at.blocks out lines h) (sym is) named);
+      follows =
+          (lines, subst (λ (h : List Entry1). IsSessionRun session at.inodes at.blocks out lines h) (sym is) named);
     }

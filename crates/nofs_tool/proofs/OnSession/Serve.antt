@@ -1,5 +1,6 @@
 -- Plans of a session, what its run leaves, and its text by the lines that its users came to.
-use Rattle.std.proofs.Common.{◌≡◌, ◌≢◌, ℕ, ◌+◌, ◌<◌, ◌≤◌, Bool, true, false, ◌||◌, not, List, [], ◌∷◌, ◌++◌, length, drop, get_or, map, flat_map, Result, Ok}
+use Rattle.std.proofs.Common.{◌≡◌, ◌≢◌, ℕ, ◌+◌, ◌<◌, ◌≤◌, Bool, true, false, ◌||◌, not, List, [], ◌∷◌, ◌++◌, length}
+use Rattle.std.proofs.Common.{drop, get_or, map, flat_map, Result, Ok}
 use Rattle.std.proofs.Common.{Err, cond, ne_eqb, refl, sym, ap, ◌∙◌, subst, arith, append_assoc}
 use Rattle.std.specs.Prelude.{filter, All, IfOk, IfSome}
 use Rattle.std.specs.Result.{result_ok}
@@ -31,26 +32,31 @@ use Rattle.nofs_tool.specs.Session.Serve.{IsSessionRun}
 
 module _ {W : Type 0} (f : W → List Command) where
   -- one more plan, for the first of the scripts that are left
-  pub plans-more : (ws : List W) (w : W) (old new session : List (List Command)) → 0 < length old → f w ≡ get_or old 0 (f w) → new ≡ remove old 0
+  pub plans-more : (ws : List W) (w : W) (old new session : List (List Command)) → 0 < length old
+      → f w ≡ get_or old 0 (f w) → new ≡ remove old 0
       → map f ws ++ old ≡ session → map f (ws ++ w ∷ []) ++ new ≡ session
   plans-more ws w [] new session low first rest e = absurd (omega (arith, low))
   plans-more ws w (x ∷ xs) new session low first rest e =
       let whole : f w ∷ new ≡ x ∷ xs = λ i. first i ∷ rest i in
-      ap (λ t. t ++ new) (map_push f ws w) ∙ (append_assoc (map f ws) (f w ∷ []) new ∙ (ap (λ t. map f ws ++ t) whole ∙ e))
+      ap (λ t. t ++ new) (map_push f ws w)
+      ∙ (append_assoc (map f ws) (f w ∷ []) new ∙ (ap (λ t. map f ws ++ t) whole ∙ e))
 
   all-of-map : (ws : List W) → AllByRecursion AreWellFormed (map f ws) → AllByRecursion (λ w. AreWellFormed (f w)) ws
   all-of-map [] a = tt
   all-of-map (w ∷ ws) a = (a.0, all-of-map ws a.1)
 
-  pub plans-formed : (ws : List W) (session : List (List Command)) → IsSession session → map f ws ≡ session → All (λ w. AreWellFormed (f w)) ws
-  plans-formed ws session s e = All-from_recursion (λ w. AreWellFormed (f w)) ws (all-of-map ws (subst (AllByRecursion AreWellFormed) (sym e) s.formed))
+  pub plans-formed : (ws : List W) (session : List (List Command)) → IsSession session
+      → map f ws ≡ session → All (λ w. AreWellFormed (f w)) ws
+  plans-formed ws session s e = All-from_recursion (λ w. AreWellFormed (f w)) ws
+      (all-of-map ws (subst (AllByRecursion AreWellFormed) (sym e) s.formed))
 
   pub plans-few : (ws : List W) (session : List (List Command)) → IsSession session → map f ws ≡ session
       → length ws ≤ MOST_USERS
   plans-few ws session s e = let n = ap length e in let m = length-scripts f ws in omega (arith, n, m, s.few)
 
 -- where less is told to be whole
-pub sweeps-shorter : (Item : ℕ → ℕ → Type 0) (kind : ElementKind) (count : ℕ) (out short : Bool) (made : List Made) → (short ≡ false → out ≡ false)
+pub sweeps-shorter : (Item : ℕ → ℕ → Type 0) (kind : ElementKind) (count : ℕ) (out short : Bool) (made : List Made)
+    → (short ≡ false → out ≡ false)
     → Sweeps Item kind 0 count out [] made → Sweeps Item kind 0 count short [] made
 sweeps-shorter Item kind count out short made less s = record {
   elements = s.elements;
@@ -65,17 +71,22 @@ twice true e = e
 twice false e = refl
 
 -- a team's steps, and then the flush
-pub run-closed : (scripts : List (List Command)) (inodes blocks : ℕ) (out closed : Bool) (lines : List (List Line)) (before served all : List Entry1)
-    (flush : Reply) → before ≡ [] → TeamServed scripts inodes blocks out lines before served → AddsStep 0 (step.Flush 0 0) flush served all
+pub run-closed : (scripts : List (List Command)) (inodes blocks : ℕ) (out closed : Bool) (lines : List (List Line))
+    (before served all : List Entry1)
+    (flush : Reply) → before ≡ [] → TeamServed scripts inodes blocks out lines before served
+    → AddsStep 0 (step.Flush 0 0) flush served all
     → closed ≡ not (is_out_of_memory flush) → IsSessionRun scripts inodes blocks (out || not closed) lines all
 run-closed scripts inodes blocks out closed lines before served all flush empty t adds is =
     let made : TeamMade scripts inodes blocks out lines (λ c. steps_by c served) = subst
-    (λ (h : List Entry1). TeamMade scripts inodes blocks out lines (λ c. steps_by c (drop (length h) served))) empty t.made in
+    (λ (h : List Entry1). TeamMade scripts inodes blocks out lines
+    (λ c. steps_by c (drop (length h) served))) empty t.made in
     let team : TeamMade scripts inodes blocks (out || not closed) lines (λ c. steps_by c served) = record {
       begun = made.begun;
       served = λ e. made.served (neither out (not closed) e).0;
-      inodes_seen = sweeps-shorter _ _ inodes out (out || not closed) _ (λ e. (neither out (not closed) e).0) made.inodes_seen;
-      blocks_seen = sweeps-shorter _ _ blocks out (out || not closed) _ (λ e. (neither out (not closed) e).0) made.blocks_seen;
+      inodes_seen =
+          sweeps-shorter _ _ inodes out (out || not closed) _ (λ e. (neither out (not closed) e).0) made.inodes_seen;
+      blocks_seen =
+          sweeps-shorter _ _ blocks out (out || not closed) _ (λ e. (neither out (not closed) e).0) made.blocks_seen;
       others = made.others;
     } in
     record {
@@ -101,7 +112,8 @@ filter-more c (x ∷ es) e other = go (is_by c x) (filter-more c es e other)
     go true same = λ i. done_of x ∷ same i
     go false same = same
 
-pub adds-others : (caller c : ℕ) (s : Step) (r : Reply) (H K : List Entry1) → AddsStep caller s r H K → c ≢ caller → steps_by c K ≡ steps_by c H
+pub adds-others : (caller c : ℕ) (s : Step) (r : Reply) (H K : List Entry1) → AddsStep caller s r H K
+    → c ≢ caller → steps_by c K ≡ steps_by c H
 adds-others caller c s r H K a apart = go (is_out_of_memory r) refl
   where
     go : (b : Bool) → is_out_of_memory r ≡ b → steps_by c K ≡ steps_by c H
@@ -111,13 +123,16 @@ adds-others caller c s r H K a apart = go (is_out_of_memory r) refl
         let other : is_by c x ≡ false = ne_eqb x.caller c (λ q. apart (sym q ∙ caller_is)) in
         ap (steps_by c) whole ∙ filter-more c H x other
 
-module _ (follow : LinesFollow) (served all : List Entry1) (same : (c : ℕ) → 1 ≤ c → steps_by c all ≡ steps_by c served) where
-  text-from : (c : ℕ) (scripts : List (List Command)) (lines : List (List Line)) → 1 ≤ c → UsersServed c scripts lines (λ k. steps_by k served)
+module _ (follow : LinesFollow) (served all : List Entry1)
+    (same : (c : ℕ) → 1 ≤ c → steps_by c all ≡ steps_by c served) where
+  text-from : (c : ℕ) (scripts : List (List Command)) (lines : List (List Line))
+      → 1 ≤ c → UsersServed c scripts lines (λ k. steps_by k served)
       → flat_map (λ l. flat_map text_of l) lines ≡ flat_map text_of (session_lines c scripts all)
   text-from c [] lines low s = ap (flat_map (λ l. flat_map text_of l)) s
   text-from c (script ∷ scripts) lines low s =
       let (said, others, whole, driven, rest) = s in
-      let own : lines_of script (map made_reply (steps_by c all)) ≡ said = ap (λ m. lines_of script (map made_reply m)) (same c low)
+      let own : lines_of script (map made_reply (steps_by c all)) ≡ said =
+      ap (λ m. lines_of script (map made_reply m)) (same c low)
       ∙ follow script (steps_by c served) said driven in
       ap (flat_map (λ l. flat_map text_of l)) whole
       ∙ (ap (λ t. flat_map text_of said ++ t) (text-from (c + 1) scripts others (omega arith) rest)
@@ -126,33 +141,47 @@ module _ (follow : LinesFollow) (served all : List Entry1) (same : (c : ℕ) →
     where
       flat_map-both : (xs ys : List Line) → flat_map text_of (xs ++ ys) ≡ flat_map text_of xs ++ flat_map text_of ys
       flat_map-both [] ys = refl
-      flat_map-both (x ∷ xs) ys = ap (λ t. text_of x ++ t) (flat_map-both xs ys) ∙ sym (append_assoc (text_of x) (flat_map text_of xs) (flat_map text_of ys))
+      flat_map-both (x ∷ xs) ys = ap (λ t. text_of x ++ t) (flat_map-both xs ys)
+          ∙ sym (append_assoc (text_of x) (flat_map text_of xs) (flat_map text_of ys))
 
   -- what the users said is the session's text
-  pub session-said : (scripts : List (List Command)) (lines : List (List Line)) → UsersServed 1 scripts lines (λ k. steps_by k served)
+  pub session-said : (scripts : List (List Command)) (lines : List (List Line))
+      → UsersServed 1 scripts lines (λ k. steps_by k served)
       → flat_map (λ l. flat_map text_of l) lines ≡ session_text scripts all
   unfolding session_text
   session-said scripts lines s = text-from 1 scripts lines (omega arith) s
 
 -- the text of a session that was served
-pub session-told : (scripts : List (List Command)) (inodes blocks : ℕ) (lines : List (List Line)) (all : List Entry1) (text : List ℕ) → LinesFollow
-    → IsSessionRun scripts inodes blocks false lines all → text ≡ flat_map (λ l. flat_map text_of l) lines → text ≡ session_text scripts all
+pub session-told : (scripts : List (List Command)) (inodes blocks : ℕ) (lines : List (List Line)) (all : List Entry1)
+    (text : List ℕ) → LinesFollow
+    → IsSessionRun scripts inodes blocks false lines all → text ≡ flat_map (λ l. flat_map text_of l) lines
+    → text ≡ session_text scripts all
 session-told scripts inodes blocks lines all text follow run is = is
     ∙ session-said follow run.served all
-    (λ c low. adds-others 0 c (step.Flush 0 0) run.flush run.served all run.closes (λ e. absurd (omega (arith, low, e)))) scripts lines (run.team.served refl)
+    (λ c low. adds-others 0 c (step.Flush 0 0) run.flush run.served all run.closes
+    (λ e. absurd (omega (arith, low, e)))) scripts lines (run.team.served refl)
 
-text-told : {E : Type 0} (scripts : List (List Command)) (inodes blocks : ℕ) (lines : List (List Line)) (all : List Entry1) (made : Result (List ℕ) E)
-    → LinesFollow → IsSessionRun scripts inodes blocks false lines all → IfOk made (λ t. t ≡ flat_map (λ l. flat_map text_of l) lines)
-    → IfSome (result_ok made) (λ t. (x : List (List Line)) × IsSessionRun scripts inodes blocks false x all × (t ≡ session_text scripts all))
-text-told scripts inodes blocks lines all (Ok t) follow run is = (lines, run, session-told scripts inodes blocks lines all t follow run is)
+text-told : {E : Type 0} (scripts : List (List Command)) (inodes blocks : ℕ) (lines : List (List Line))
+    (all : List Entry1) (made : Result (List ℕ) E)
+    → LinesFollow → IsSessionRun scripts inodes blocks false lines all
+    → IfOk made (λ t. t ≡ flat_map (λ l. flat_map text_of l) lines)
+    → IfSome (result_ok made)
+    (λ t. (x : List (List Line)) × IsSessionRun scripts inodes blocks false x all × (t ≡ session_text scripts all))
+text-told scripts inodes blocks lines all (Ok t) follow run is =
+    (lines, run, session-told scripts inodes blocks lines all t follow run is)
 text-told scripts inodes blocks lines all (Err e) follow run is = tt
 
 -- and where memory was not wanting
-pub session-ends : {E : Type 0} (session scripts : List (List Command)) (inodes blocks : ℕ) (out : Bool) (lines users : List (List Line))
-    (all entries : List Entry1) (made : Result (List ℕ) E) (text : Option (List ℕ)) → scripts ≡ session → out ≡ false → users ≡ lines → entries ≡ all
-    → text ≡ result_ok made → LinesFollow → IsSessionRun scripts inodes blocks out lines all → IfOk made (λ t. t ≡ flat_map (λ l. flat_map text_of l) users)
-    → IfSome text (λ t. (x : List (List Line)) × IsSessionRun session inodes blocks false x entries × (t ≡ session_text session entries))
-session-ends session scripts inodes blocks out lines users all entries made text same whole said ends is follow run told =
+pub session-ends : {E : Type 0} (session scripts : List (List Command)) (inodes blocks : ℕ) (out : Bool)
+    (lines users : List (List Line))
+    (all entries : List Entry1) (made : Result (List ℕ) E) (text : Option (List ℕ))
+    → scripts ≡ session → out ≡ false → users ≡ lines → entries ≡ all
+    → text ≡ result_ok made → LinesFollow → IsSessionRun scripts inodes blocks out lines all
+    → IfOk made (λ t. t ≡ flat_map (λ l. flat_map text_of l) users)
+    → IfSome text (λ t. (x : List (List Line)) × IsSessionRun session inodes blocks false x entries
+    × (t ≡ session_text session entries))
+session-ends session scripts inodes blocks out lines users all entries made text same whole said ends is
+    follow run told =
     let run_session : IsSessionRun session inodes blocks out lines all =
     subst (λ (s : List (List Command)). IsSessionRun s inodes blocks out lines all) same run in
     let run_whole : IsSessionRun session inodes blocks false lines all =
@@ -162,6 +191,7 @@ session-ends session scripts inodes blocks out lines users all entries made text
     run_whole in
     let told_lines : IfOk made (λ t. t ≡ flat_map (λ l. flat_map text_of l) lines) = subst
     (λ (u : List (List Line)). IfOk made (λ t. t ≡ flat_map (λ l. flat_map text_of l) u)) said told in
-    subst (λ (o : Option (List ℕ)). IfSome o (λ t. (x : List (List Line)) × IsSessionRun session inodes blocks false x entries ×
+    subst (λ (o : Option (List ℕ)). IfSome o
+    (λ t. (x : List (List Line)) × IsSessionRun session inodes blocks false x entries ×
     (t ≡ session_text session entries)))
     (sym is) (text-told session inodes blocks lines entries made follow run_ends told_lines)

@@ -1,5 +1,6 @@
 -- At the end of a session in which no call of the device failed the machine's verdicts are those of the disk.
-use Rattle.std.proofs.Common.{◌≡◌, ℕ, ◌-◌, ◌/◌, ◌<◌, Bool, true, false, ◌||◌, not, leb, List, [], ◌∷◌, ◌++◌, is_some, ◌⊎◌, inl, inr, refl, sym, ap, ◌∙◌}
+use Rattle.std.proofs.Common.{◌≡◌, ℕ, ◌-◌, ◌/◌, ◌<◌, Bool, true, false, ◌||◌, not, leb, List, [], ◌∷◌, ◌++◌, is_some}
+use Rattle.std.proofs.Common.{◌⊎◌, inl, inr, refl, sym, ap, ◌∙◌}
 use Rattle.std.proofs.Common.{subst, arith}
 use Rattle.nofs_disk.specs.Disk.{DiskState, IsSettled}
 use Rattle.nofs_super.specs.Raise.{raised}
@@ -45,11 +46,13 @@ or-none true b e = refl
 or-none false b e = e
 
 -- where no call of the device failed, the mount is not stopped
-still-going : (es : List Entry1) (moment end : ℕ) (stopped last : Bool) → Forms moment stopped es end last → has_fault es ≡ false → last ≡ stopped
+still-going : (es : List Entry1) (moment end : ℕ) (stopped last : Bool) → Forms moment stopped es end last
+    → has_fault es ≡ false → last ≡ stopped
 still-going [] moment end stopped last f ok = f.1
 still-going (e ∷ es) moment end stopped last f ok =
     let none = no-fault (is_fault e.reply) (has_fault es) ok in
-    still-going es e.to end (stopped || is_write_fault e.reply) last f.1 none.1 ∙ or-none stopped (is_write_fault e.reply) (not-write e.reply none.0)
+    still-going es e.to end (stopped || is_write_fault e.reply) last f.1 none.1
+    ∙ or-none stopped (is_write_fault e.reply) (not-write e.reply none.0)
 
 same-world : (W V : World) → V ≡ W → SameState W V
 same-world W V e = record {
@@ -66,15 +69,18 @@ not-both false true e = absurd (cc e)
 not-both false false e = refl
 
 module _ (found d : DiskState) (first : ℕ) (k : Books) (m : IsMount found d first k) where
-  pub open-still : (p : Past) → has_fault k.history.entries ≡ false → IsOpen d k k.history.entries p ⊎ IsStopped d k k.history.entries p
+  pub open-still : (p : Past) → has_fault k.history.entries ≡ false → IsOpen d k k.history.entries p
+      ⊎ IsStopped d k k.history.entries p
       → IsOpen d k k.history.entries p
   open-still p ok (inl o) = o
-  open-still p ok (inr s) = absurd (let going = still-going k.history.entries k.history.start d.moment false k.stopped m.forms ok in let stopped =
+  open-still p ok (inr s) = absurd
+      (let going = still-going k.history.entries k.history.start d.moment false k.stopped m.forms ok in let stopped =
       s.stopped in cc (going, stopped))
 
   -- so does a world in which all is known say what the disk says
   good : (p : Past) → IsOpen d k k.history.entries p
-      → IsGood (record p.world { known_inodes = λ i. true; known_blocks = λ p. true }) (λ i. true) (λ i. not (is_special i || is_some (p.world.files i)))
+      → IsGood (record p.world { known_inodes = λ i. true; known_blocks = λ p. true }) (λ i. true)
+      (λ i. not (is_special i || is_some (p.world.files i)))
       (λ p. true)
       (λ b. not (leb b (p.world.inodes / 4) || is_some (p.world.homes b))) d.now
   good p o = law-good (record p.world { known_inodes = λ i. true; known_blocks = λ p. true }) d.now (record {
@@ -84,12 +90,14 @@ module _ (found d : DiskState) (first : ℕ) (k : Books) (m : IsMount found d fi
     mount = o.says.mount ∙ sym (ap (λ (s : SuperBlock). s.mount) o.at);
   }) (subst (λ (F : Files). FilesMatch F d.now) (sym o.files) o.stage.ready.files) o.homes
 
-  pub shows-past : (q : IsSoundDisk found) → has_fault k.history.entries ≡ false → ShowsDisk (raised (super_at found.now)) (m.stands q).past.world d.now
+  pub shows-past : (q : IsSoundDisk found)
+      → has_fault k.history.entries ≡ false → ShowsDisk (raised (super_at found.now)) (m.stands q).past.world d.now
   shows-past q ok =
       let s = m.stands q in
       let o = open-still s.past ok s.now in
       let g = good s.past o in
-      let blocks : s.past.world.blocks ≡ (raised (super_at found.now)).blocks = o.says.blocks ∙ ap (λ (x : SuperBlock). x.blocks) s.raised in
+      let blocks : s.past.world.blocks ≡ (raised (super_at found.now)).blocks =
+      o.says.blocks ∙ ap (λ (x : SuperBlock). x.blocks) s.raised in
       record {
         numbers = o.at ∙ s.raised;
         inodes = o.says.inodes ∙ ap (λ (x : SuperBlock). x.inodes) s.raised;
@@ -106,8 +114,10 @@ module _ (found d : DiskState) (first : ℕ) (k : Books) (m : IsMount found d fi
       let past = shows-past q ok in
       let base : s.past.base ≡ c.base = s.base ∙ sym c.base_was in
       let begins : world_of s.past.base s.past.first ≡ world_of c.base first = λ j. world_of (base j) (s.serial j) in
-      let same : SameState s.past.world c.world = law-one-run k.history.entries k.history.start k.history.start (world_of s.past.base s.past.first)
-      (world_of c.base first) s.past.world c.world (same-world (world_of s.past.base s.past.first) (world_of c.base first) (sym begins)) o.run.run c.run in
+      let same : SameState s.past.world c.world =
+      law-one-run k.history.entries k.history.start k.history.start (world_of s.past.base s.past.first)
+      (world_of c.base first) s.past.world c.world
+      (same-world (world_of s.past.base s.past.first) (world_of c.base first) (sym begins)) o.run.run c.run in
       record {
         numbers = past.numbers;
         inodes = same.inodes ∙ past.inodes;
@@ -117,18 +127,23 @@ module _ (found d : DiskState) (first : ℕ) (k : Books) (m : IsMount found d fi
       }
 
   pub mount-finishes : Finished found d first k.history
-  mount-finishes = record { ends = mount-ends found d first k m; shows = λ q ok. shows-disk q ok ((mount-ends found d first k m).contents q) }
+  mount-finishes = record {
+    ends = mount-ends found d first k m;
+    shows = λ q ok. shows-disk q ok ((mount-ends found d first k m).contents q);
+  }
 
 world-going : (B : Image) (first : ℕ) → (world_of B first).stopped ≡ false
 unfolding world_of
 world-going B first = refl
 
 -- the sweeps have seen all: each element was examined before the last flush
-module _ (at : SuperBlock) (served H : List Entry1) (flush : Reply) (closes : AddsStep 0 (step.Flush 0 0) flush served H)
+module _ (at : SuperBlock) (served H : List Entry1) (flush : Reply)
+    (closes : AddsStep 0 (step.Flush 0 0) flush served H)
     (inodes_seen : Sweeps (λ place item. item ≡ place) Inode 0 at.inodes false [] (steps_by INODE_SWEEPER served))
     (blocks_seen : Sweeps (λ place item. item ≡ at.blocks - 1 - place) Block 0 at.blocks false []
     (steps_by BLOCK_SWEEPER served)) where
-  pub whole-by : (start first : ℕ) (B : Image) (V : World) (X : Image) → Run start (world_of B first) H V → has_fault H ≡ false → ShowsDisk at V X
+  pub whole-by : (start first : ℕ) (B : Image) (V : World) (X : Image) → Run start (world_of B first) H V
+      → has_fault H ≡ false → ShowsDisk at V X
       → IsWholeScan V X
   whole-by start first B V X r ok shows =
       let g = run-goes H start (world_of B first) V r (world-going B first) ok in
@@ -144,22 +159,28 @@ module _ (at : SuperBlock) (served H : List Entry1) (flush : Reply) (closes : Ad
             (inodes-seen served at.inodes i inodes_seen low (omega (arith, high, inodes))))
             low (omega (arith, high, inodes, same_inodes, at_inodes));
         known_blocks = λ p low. g.sees_blocks p
-            (has-added 0 (step.Flush 0 0) (step.SeeBlock p) flush served H closes (blocks-seen served at.blocks p blocks_seen (omega (arith, low, blocks))))
+            (has-added 0 (step.Flush 0 0) (step.SeeBlock p) flush served H closes
+            (blocks-seen served at.blocks p blocks_seen (omega (arith, low, blocks))))
             (omega (arith, low, blocks, same_blocks, at_blocks));
         used_inodes = λ i low high. shows.used_inodes i;
         used_blocks = λ p low. shows.used_blocks p (omega (arith, low, blocks));
       }
 
-pub whole-scan : (scripts : List (List Command)) (at : SuperBlock) (lines : List (List Line)) (H : List Entry1) (start first : ℕ) (B : Image) (V : World)
+pub whole-scan : (scripts : List (List Command)) (at : SuperBlock) (lines : List (List Line)) (H : List Entry1)
+    (start first : ℕ) (B : Image) (V : World)
     (X : Image)
-    → IsSessionRun scripts at.inodes at.blocks false lines H → Run start (world_of B first) H V → has_fault H ≡ false → ShowsDisk at V X → IsWholeScan V X
-whole-scan scripts at lines H start first B V X run = whole-by at run.served H run.flush run.closes run.team.inodes_seen run.team.blocks_seen start first B V X
+    → IsSessionRun scripts at.inodes at.blocks false lines H → Run start (world_of B first) H V
+    → has_fault H ≡ false → ShowsDisk at V X → IsWholeScan V X
+whole-scan scripts at lines H start first B V X run =
+    whole-by at run.served H run.flush run.closes run.team.inodes_seen run.team.blocks_seen start first B V X
 
 -- the device is settled where the last flush was made, which is so where no call failed
-pub settled-end : (d : DiskState) (H : List Entry1) (start first : ℕ) (B : Image) (V : World) → IsClosed d H → Run start (world_of B first) H V
+pub settled-end : (d : DiskState) (H : List Entry1) (start first : ℕ) (B : Image) (V : World) → IsClosed d H
+    → Run start (world_of B first) H V
     → has_fault H ≡ false → IsSettled d
 settled-end d H start first B V c r ok =
     let (x, whole, caller, step_is, reply_is) = c.closes.one c.made in
-    let run : Run start (world_of B first) (c.served ++ x ∷ []) V = subst (λ (l : List Entry1). Run start (world_of B first) l V) whole r in
+    let run : Run start (world_of B first) (c.served ++ x ∷ []) V =
+    subst (λ (l : List Entry1). Run start (world_of B first) l V) whole r in
     let fine : has_fault (c.served ++ x ∷ []) ≡ false = sym (ap has_fault whole) ∙ ok in
     c.settled (sym reply_is ∙ flushed-last c.served start (world_of B first) V x run (world-going B first) fine step_is)

@@ -80,7 +80,8 @@ record IsAs (W V : World) : Type 0 where
   pub version : V.version ≡ W.version
 
 next-as : (W : World) (e : Entry1) (V : World) → IsQuiet e.step → Next W e V → IsAs W V
-next-as W e V q (AfterFault s r c same) = record { files = ap (λ (w : World). w.files) same; version = ap (λ (w : World). w.version) same }
+next-as W e V q (AfterFault s r c same) =
+    record { files = ap (λ (w : World). w.files) same; version = ap (λ (w : World). w.version) same }
 next-as W e V q (ByRow why s f r c k st l) = record { files = k.files; version = k.version }
 next-as W e V q (Done s f r c fs hs se vs l) = record {
   files = fs ∙ (ap (λ given. files_after W.files given) (gives-none W.files e.step e.claims q) ∙ files-kept W.files);
@@ -91,7 +92,8 @@ next-as W e V q (ByWrite s f m r c k st l) = record { files = k.files; version =
 
 -- The steps of one caller
 
-one-more : (P : Made → Type 0) (c : ℕ) (e : Entry1) (es : List Entry1) → P (done_of e) → All P (steps_by c es) → All P (steps_by c (e ∷ es))
+one-more : (P : Made → Type 0) (c : ℕ) (e : Entry1) (es : List Entry1) → P (done_of e) → All P (steps_by c es)
+    → All P (steps_by c (e ∷ es))
 one-more P c e es here more = go (is_by c e)
   where
     go : (b : Bool) → All P (map done_of (cond b (e ∷ filter (is_by c) es) (filter (is_by c) es)))
@@ -99,25 +101,41 @@ one-more P c e es here more = go (is_by c e)
     go false = more
 
 -- are answered as in a world with the files of the first one
-answered-by : (c : ℕ) (W : World) (es : List Entry1) (start : ℕ) (U V : World) → IsAs W U → Run start U es V → AllByRecursion (λ e. IsQuiet e.step) es
+answered-by : (c : ℕ) (W : World) (es : List Entry1) (start : ℕ) (U V : World) → IsAs W U → Run start U es V
+    → AllByRecursion (λ e. IsQuiet e.step) es
     → All (IsAnswered W) (steps_by c es)
 answered-by c W [] start U V s r q = All-nil (IsAnswered W)
 answered-by c W (e ∷ es) start U V s r q =
     let one = next-as U e r.0 q.0 r.4 in
     one-more (IsAnswered W) c e es
-    (record { before = U; after = r.0; entry = e; version = s.version; files = s.files; asked = refl; replied = refl; next = r.4 })
+    (record {
+      before = U;
+      after = r.0;
+      entry = e;
+      version = s.version;
+      files = s.files;
+      asked = refl;
+      replied = refl;
+      next = r.4;
+    })
     (answered-by c W es e.to r.0 V (record { files = one.files ∙ s.files; version = one.version ∙ s.version }) r.5 q.1)
 
 -- what is known of the steps of each caller is known of all
-all-callers : (P : Step → Type 0) (es : List Entry1) → ((c : ℕ) → All (λ m. P m.0) (steps_by c es)) → AllByRecursion (λ e. P e.step) es
+all-callers : (P : Step → Type 0) (es : List Entry1) → ((c : ℕ) → All (λ m. P m.0) (steps_by c es))
+    → AllByRecursion (λ e. P e.step) es
 all-callers P [] own = tt
-all-callers P (e ∷ es) own = (first (is_by e.caller e) (eq-eqb e.caller e.caller refl) (own e.caller), all-callers P es (λ c. rest c (is_by c e) (own c)))
+all-callers P (e ∷ es) own = (
+  first (is_by e.caller e) (eq-eqb e.caller e.caller refl) (own e.caller),
+  all-callers P es (λ c. rest c (is_by c e) (own c)),
+)
   where
-    first : (b : Bool) → b ≡ true → All (λ m. P m.0) (map done_of (cond b (e ∷ filter (is_by e.caller) es) (filter (is_by e.caller) es))) → P e.step
+    first : (b : Bool) → b ≡ true → All (λ m. P m.0)
+        (map done_of (cond b (e ∷ filter (is_by e.caller) es) (filter (is_by e.caller) es))) → P e.step
     first true t a = All-head (λ (m : Made). P m.0) (done_of e) (steps_by e.caller es) a
     first false t a = absurd (cc t)
 
-    rest : (c : ℕ) (b : Bool) → All (λ m. P m.0) (map done_of (cond b (e ∷ filter (is_by c) es) (filter (is_by c) es))) → All (λ m. P m.0) (steps_by c es)
+    rest : (c : ℕ) (b : Bool) → All (λ m. P m.0) (map done_of (cond b (e ∷ filter (is_by c) es) (filter (is_by c) es)))
+        → All (λ m. P m.0) (steps_by c es)
     rest c true a = All-tail (λ (m : Made). P m.0) (done_of e) (steps_by c es) a
     rest c false a = a
 
@@ -126,27 +144,34 @@ all-callers P (e ∷ es) own = (first (is_by e.caller e) (eq-eqb e.caller e.call
 cons-parts : {A : Type 0} (x y : A) (xs ys : List A) → x ∷ xs ≡ y ∷ ys → (x ≡ y) × (xs ≡ ys)
 cons-parts x y xs ys e = (cc e, cc e)
 
-quiet-sees : (kind : ElementKind) (made : List Made) (elements : List ℕ) → map made_step made ≡ map (see_of kind) elements → AreQuiet made
+quiet-sees : (kind : ElementKind) (made : List Made) (elements : List ℕ)
+    → map made_step made ≡ map (see_of kind) elements → AreQuiet made
 quiet-sees kind [] elements e = none-quiet
 quiet-sees kind (m ∷ made) [] e = absurd (cc e)
 quiet-sees kind (m ∷ made) (x ∷ xs) e =
     let parts = cons-parts (made_step m) (see_of kind x) (map made_step made) (map (see_of kind) xs) e in
-    All-cons (λ (n : Made). IsQuiet n.0) m made (subst IsQuiet (sym parts.0) (quiet-see kind x)) (quiet-sees kind made xs parts.1)
+    All-cons (λ (n : Made). IsQuiet n.0) m made (subst IsQuiet (sym parts.0) (quiet-see kind x))
+    (quiet-sees kind made xs parts.1)
 
-quiet-sweep : (Item : ℕ → ℕ → Type 0) (kind : ElementKind) (count : ℕ) (short : Bool) (made : List Made) → Sweeps Item kind 0 count short [] made
+quiet-sweep : (Item : ℕ → ℕ → Type 0) (kind : ElementKind) (count : ℕ) (short : Bool) (made : List Made)
+    → Sweeps Item kind 0 count short [] made
     → AreQuiet made
-quiet-sweep Item kind count short made s = quiet-sees kind made s.elements (ap (map made_step) s.makes.more ∙ s.makes.steps)
+quiet-sweep Item kind count short made s =
+    quiet-sees kind made s.elements (ap (map made_step) s.makes.more ∙ s.makes.steps)
 
 quiet-reads : (made : List Made) → AreReads made → AreQuiet made
 quiet-reads [] a = none-quiet
-quiet-reads (m ∷ made) a = All-cons (λ (n : Made). IsQuiet n.0) m made (quiet-read m.0 (All-head (λ (n : Made). IsReadingStep n.0) m made a))
+quiet-reads (m ∷ made) a =
+    All-cons (λ (n : Made). IsQuiet n.0) m made (quiet-read m.0 (All-head (λ (n : Made). IsReadingStep n.0) m made a))
     (quiet-reads made (All-tail (λ (n : Made). IsReadingStep n.0) m made a))
 
-quiet-added : (served H : List Entry1) (flush : Reply) → AddsStep 0 (step.Flush 0 0) flush served H → AllByRecursion (λ e. IsQuiet e.step) served
+quiet-added : (served H : List Entry1) (flush : Reply) → AddsStep 0 (step.Flush 0 0) flush served H
+    → AllByRecursion (λ e. IsQuiet e.step) served
     → AllByRecursion (λ e. IsQuiet e.step) H
 quiet-added served H flush a q = go (is_out_of_memory flush) refl
   where
-    ends : (es : List Entry1) (e : Entry1) → IsQuiet e.step → AllByRecursion (λ e. IsQuiet e.step) es → AllByRecursion (λ e. IsQuiet e.step) (es ++ e ∷ [])
+    ends : (es : List Entry1) (e : Entry1) → IsQuiet e.step → AllByRecursion (λ e. IsQuiet e.step) es
+        → AllByRecursion (λ e. IsQuiet e.step) (es ++ e ∷ [])
     ends [] e here more = (here, tt)
     ends (x ∷ es) e here more = (more.0, ends es e here more.1)
 
@@ -154,15 +179,19 @@ quiet-added served H flush a q = go (is_out_of_memory flush) refl
     go true e = subst (λ (l : List Entry1). AllByRecursion (λ e. IsQuiet e.step) l) (sym (a.none e)) q
     go false e =
         let (x, whole, caller_is, step_is, reply_is) = a.one e in
-        subst (λ (l : List Entry1). AllByRecursion (λ e. IsQuiet e.step) l) (sym whole) (ends served x (subst IsQuiet (sym step_is) tt) q)
+        subst (λ (l : List Entry1). AllByRecursion (λ e. IsQuiet e.step) l) (sym whole)
+        (ends served x (subst IsQuiet (sym step_is) tt) q)
 
 -- each of them changes no file
-pub visit-quiet : (inodes blocks : ℕ) (short : Bool) (H : List Entry1) → IsVisitRun AreReads inodes blocks short H → AllByRecursion (λ e. IsQuiet e.step) H
-visit-quiet inodes blocks short H run = quiet-added run.served H run.flush run.closes (all-callers IsQuiet run.served own)
+pub visit-quiet : (inodes blocks : ℕ) (short : Bool) (H : List Entry1) → IsVisitRun AreReads inodes blocks short H
+    → AllByRecursion (λ e. IsQuiet e.step) H
+visit-quiet inodes blocks short H run =
+    quiet-added run.served H run.flush run.closes (all-callers IsQuiet run.served own)
   where
     own : (c : ℕ) → AreQuiet (steps_by c run.served)
     own c = elim (cases_eq c 1) [
-      | inl visitor ↦ subst (λ (n : ℕ). AreQuiet (steps_by n run.served)) (sym visitor) (quiet-reads (steps_by 1 run.served) run.made.visited)
+      | inl visitor ↦ subst (λ (n : ℕ). AreQuiet (steps_by n run.served)) (sym visitor)
+          (quiet-reads (steps_by 1 run.served) run.made.visited)
       | inr not_visitor ↦ elim (cases_eq c INODE_SWEEPER) [
         | inl nine ↦ subst (λ (n : ℕ). AreQuiet (steps_by n run.served)) (sym nine)
             (quiet-sweep (λ place item. item ≡ place) Inode inodes short (steps_by INODE_SWEEPER run.served)
@@ -176,7 +205,8 @@ visit-quiet inodes blocks short H run = quiet-added run.served H run.flush run.c
     ]
 
 -- caller 1's steps are answered as in the world that a run began with
-pub visit-answered : (H : List Entry1) (start : ℕ) (W V : World) → Run start W H V → AllByRecursion (λ e. IsQuiet e.step) H → AreAnswered W [] (steps_by 1 H)
+pub visit-answered : (H : List Entry1) (start : ℕ) (W V : World) → Run start W H V
+    → AllByRecursion (λ e. IsQuiet e.step) H → AreAnswered W [] (steps_by 1 H)
 visit-answered H start W V r q = record {
   made = steps_by 1 H;
   more = refl;

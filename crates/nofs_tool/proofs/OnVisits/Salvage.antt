@@ -1,6 +1,8 @@
 -- What a salvage tells: its refusals, its text, and what the run of its walk leaves.
-use Rattle.std.proofs.Common.{◌≡◌, ◌≢◌, ◌⊎◌, inl, inr, ℕ, ◌<◌, ◌≤◌, Bool, true, false, ◌&&◌, ◌||◌, not, List, [], ◌∷◌, length, get_or}
-use Rattle.std.proofs.Common.{map, cond, if◌then◌else◌, Option, Some, None, Result, Ok, Err, refl, sym, ap, ◌∙◌, subst, arith}
+use Rattle.std.proofs.Common.{◌≡◌, ◌≢◌, ◌⊎◌, inl, inr, ℕ, ◌<◌, ◌≤◌, Bool, true, false, ◌&&◌, ◌||◌, not, List, [], ◌∷◌}
+use Rattle.std.proofs.Common.{length, get_or}
+use Rattle.std.proofs.Common.{map, cond, if◌then◌else◌, Option, Some, None, Result, Ok, Err, refl, sym, ap, ◌∙◌, subst}
+use Rattle.std.proofs.Common.{arith}
 use Rattle.std.specs.Prelude.{All, IfOk, IfSome, filter, slice_set}
 use Rattle.std.specs.Result.{result_ok}
 use Rattle.std.proofs.Math.Logic.{∥∥₁_elim, ∥∥₁_prop}
@@ -72,12 +74,14 @@ refused-by s (reply.Refused w) why h = go (is_get s && is_too_large w) h
 refused-by s _ why h = absurd (cc h)
 
 -- the first refusal of a caller's steps is the reply of an entry
-first-reply : (c : ℕ) (es : List Entry1) (why : Refusal) → first_refusal (steps_by c es) ≡ Some why → HasReply es (reply.Refused why)
+first-reply : (c : ℕ) (es : List Entry1) (why : Refusal) → first_refusal (steps_by c es) ≡ Some why
+    → HasReply es (reply.Refused why)
 first-reply c [] why h = absurd (cc h)
 first-reply c (e ∷ es) why h = go (first-reply c es why) (is_by c e) h
   where
     go : (first_refusal (steps_by c es) ≡ Some why → HasReply es (reply.Refused why)) → (b : Bool)
-        → first_refusal (map done_of (cond b (e ∷ filter (is_by c) es) (filter (is_by c) es))) ≡ Some why → HasReply (e ∷ es) (reply.Refused why)
+        → first_refusal (map done_of (cond b (e ∷ filter (is_by c) es) (filter (is_by c) es))) ≡ Some why
+        → HasReply (e ∷ es) (reply.Refused why)
     go more true f = elim (first-two (refusal_of (done_of e)) (first_refusal (steps_by c es)) why f) [
       | inl here ↦ inl (refused-by e.step e.reply why here)
       | inr later ↦ inr (more later)
@@ -87,11 +91,13 @@ first-reply c (e ∷ es) why h = go (first-reply c es why) (is_by c e) h
 -- no read failed where no entry has a fault
 no-read-fault : (es : List Entry1) → has_fault es ≡ false → HasReply es (reply.Refused refusal.ReadFault) → ⊥
 no-read-fault [] ok has = has
-no-read-fault (e ∷ es) ok (inl is) = let none = (no-fault (is_fault e.reply) (has_fault es) ok).0 in let x = ap is_fault is in cc (none, x)
+no-read-fault (e ∷ es) ok (inl is) = let none = (no-fault (is_fault e.reply) (has_fault es) ok).0 in
+    let x = ap is_fault is in cc (none, x)
 no-read-fault (e ∷ es) ok (inr later) = no-read-fault es (no-fault (is_fault e.reply) (has_fault es) ok).1 later
 
 -- nor was the mount stopped
-none-stopped : (es : List Entry1) (moment end : ℕ) (stopped last : Bool) → Forms moment stopped es end last → stopped ≡ false → has_fault es ≡ false
+none-stopped : (es : List Entry1) (moment end : ℕ) (stopped last : Bool) → Forms moment stopped es end last
+    → stopped ≡ false → has_fault es ≡ false
     → HasReply es (reply.Refused refusal.Stopped) → ⊥
 none-stopped [] moment end stopped last f going ok has = has
 none-stopped (e ∷ es) moment end stopped last f going ok (inl is) = let s = f.0.stopped_only is in cc (s, going)
@@ -104,7 +110,14 @@ none-stopped (e ∷ es) moment end stopped last f going ok (inr later) =
 
 same-file : (o : Option FileState) → SameFile o o
 same-file None = tt
-same-file (Some f) = record { generation = refl; kind = refl; size = refl; links = refl; values = λ k low. refl; nodes = λ path slot held. refl }
+same-file (Some f) = record {
+  generation = refl;
+  kind = refl;
+  size = refl;
+  links = refl;
+  values = λ k low. refl;
+  nodes = λ path slot held. refl;
+}
 
 base-roots : (B : Image) (first : ℕ) → HasRoots (world_of B first).files
 unfolding world_of
@@ -112,8 +125,10 @@ base-roots B first = matched-roots (agreed_files B) B (λ i. same-file (agreed_f
 
 -- The text of a walk
 
-module _ (picks : List ℕ → Bool) (W : World) (roots : HasRoots W.files) (H : List Entry1) (a : AreAnswered W [] (steps_by 1 H))
-    (no_read : HasReply H (reply.Refused refusal.ReadFault) → ⊥) (no_stop : HasReply H (reply.Refused refusal.Stopped) → ⊥) where
+module _ (picks : List ℕ → Bool) (W : World) (roots : HasRoots W.files) (H : List Entry1)
+    (a : AreAnswered W [] (steps_by 1 H))
+    (no_read : HasReply H (reply.Refused refusal.ReadFault) → ⊥)
+    (no_stop : HasReply H (reply.Refused refusal.Stopped) → ⊥) where
   lacks-text : LacksRoot W.files → text_of (line.Refused refusal.Stale) ≡ salvage_text W picks
   lacks-text lacking = go (has_both W) (none lacking)
     where
@@ -126,31 +141,38 @@ module _ (picks : List ℕ → Bool) (W : World) (roots : HasRoots W.files) (H :
           last false = refl
 
       go : (b : Bool) → b ≡ false
-          → text_of (line.Refused refusal.Stale) ≡ if b then losses_text (report_of W picks) else text_of (line.Refused refusal.Stale)
+          → text_of (line.Refused refusal.Stale) ≡ if b then losses_text (report_of W picks)
+          else text_of (line.Refused refusal.Stale)
       go true e = absurd (cc e)
       go false e = refl
 
-  refused-text : (why : Refusal) → MayRefuse W.files why → HasReply H (reply.Refused why) → text_of (line.Refused why) ≡ salvage_text W picks
+  refused-text : (why : Refusal) → MayRefuse W.files why → HasReply H (reply.Refused why)
+      → text_of (line.Refused why) ≡ salvage_text W picks
   refused-text refusal.ReadFault may has = absurd (no_read has)
   refused-text refusal.Stopped may has = absurd (no_stop has)
   refused-text refusal.Stale may has = lacks-text may
   refused-text _ may has = absurd may
 
-  walk-tells : (told : Result (List Loss) SalvageFault) → IsWalk picks told [] (steps_by 1 H) → told ≢ Err fault.OutOfMemory
+  walk-tells : (told : Result (List Loss) SalvageFault) → IsWalk picks told [] (steps_by 1 H)
+      → told ≢ Err fault.OutOfMemory
       → walk_text told ≡ salvage_text W picks
   walk-tells (Ok report) w some =
       let both = w.agreed W a in
       let is : has_both W ≡ true = λ j. both.0 j && both.1 j in
-      ap losses_text (w.report W a) ∙ (λ j. if sym is j then losses_text (report_of W picks) else text_of (line.Refused refusal.Stale))
-  walk-tells (Err (fault.Refused why)) w some = refused-text why (w.refused W roots a) (first-reply 1 H why (ap first_refusal w.reads.more ∙ w.reads.refused))
+      ap losses_text (w.report W a)
+      ∙ (λ j. if sym is j then losses_text (report_of W picks) else text_of (line.Refused refusal.Stale))
+  walk-tells (Err (fault.Refused why)) w some =
+      refused-text why (w.refused W roots a) (first-reply 1 H why (ap first_refusal w.reads.more ∙ w.reads.refused))
   walk-tells (Err fault.OutOfMemory) w some = absurd (some refl)
 
 -- What the run of a walk leaves
 
-reads-of : (picks : List ℕ → Bool) (told : Result (List Loss) SalvageFault) (made : List Made) → IsWalk picks told [] made → AreReads made
+reads-of : (picks : List ℕ → Bool) (told : Result (List Loss) SalvageFault) (made : List Made)
+    → IsWalk picks told [] made → AreReads made
 reads-of picks told made w = subst AreReads (sym w.reads.more) w.reads.read
 
-module _ (picks : List ℕ → Bool) (told : Result (List Loss) SalvageFault) (inodes blocks : ℕ) (out : Bool) (H : List Entry1)
+module _ (picks : List ℕ → Bool) (told : Result (List Loss) SalvageFault) (inodes blocks : ℕ) (out : Bool)
+    (H : List Entry1)
     (run : IsVisitRun (IsWalk picks told []) inodes blocks out H) where
   -- the visitor only read
   run-reads : IsVisitRun AreReads inodes blocks out H
@@ -161,17 +183,21 @@ module _ (picks : List ℕ → Bool) (told : Result (List Loss) SalvageFault) (i
   run-walk whole = visit-steps (IsWalk picks told []) inodes blocks out H run
 
 -- nobody walked
-pub none-walked : (at : SuperBlock) (H : List Entry1) (text : Option (List ℕ)) → H ≡ [] → text ≡ None → IsVisitFollowed AreReads at text H
+pub none-walked : (at : SuperBlock) (H : List Entry1) (text : Option (List ℕ))
+    → H ≡ [] → text ≡ None → IsVisitFollowed AreReads at text H
 none-walked at H text none said = record {
   short = true;
   early = λ e. said;
   follows = visit-closed AreReads at.inodes at.blocks true false [] [] H (reply.Refused refusal.OutOfMemory) refl
-      (visit-none AreReads at.inodes at.blocks true [] [] refl refl (All-nil (λ (m : Made). IsReadingStep m.0))) (record { none = λ e. none; one = λ e. cc e }) refl;
+      (visit-none AreReads at.inodes at.blocks true [] [] refl refl (All-nil (λ (m : Made). IsReadingStep m.0)))
+      (record { none = λ e. none; one = λ e. cc e }) refl;
 }
 
 -- a walk that was told
-pub walk-done : (picks : List ℕ → Bool) (told : Result (List Loss) SalvageFault) (inodes blocks : ℕ) (out : Bool) (found last : DiskState)
-    (first : ℕ) (all : List Entry1) (ran : HistoryState) (text : List ℕ) → first ≡ 0 → ∥ Finished found last first ran ∥₁ → out ≡ false → ran.entries ≡ all
+pub walk-done : (picks : List ℕ → Bool) (told : Result (List Loss) SalvageFault) (inodes blocks : ℕ) (out : Bool)
+    (found last : DiskState)
+    (first : ℕ) (all : List Entry1) (ran : HistoryState) (text : List ℕ)
+    → first ≡ 0 → ∥ Finished found last first ran ∥₁ → out ≡ false → ran.entries ≡ all
     → IsVisitRun (IsWalk picks told []) inodes blocks out all → text ≡ walk_text told → told ≢ Err fault.OutOfMemory
     → IsWalkTold picks found ran text
 walk-done picks told inodes blocks out found last first all ran text zero ends whole same run_all is some =
@@ -187,38 +213,51 @@ walk-done picks told inodes blocks out found last first all ran text zero ends w
           let c = e.ends.contents q in
           let W = found_world found in
           let begins : world_of c.base first ≡ W = λ j. world_of (c.base_is j) (zero j) in
-          let r : Run ran.start W ran.entries c.world = subst (λ (U : World). Run ran.start U ran.entries c.world) begins c.run in
-          is ∙ walk-tells picks W (base-roots (slice_set found.now 0 (super_cell (raised (super_at found.now)))) 0) ran.entries
+          let r : Run ran.start W ran.entries c.world =
+          subst (λ (U : World). Run ran.start U ran.entries c.world) begins c.run in
+          is ∙ walk-tells picks W
+          (base-roots (slice_set found.now 0 (super_cell (raised (super_at found.now)))) 0) ran.entries
           (visit-answered ran.entries ran.start W c.world r quiet) (no-read-fault ran.entries ok)
-          (none-stopped ran.entries ran.start last.moment false e.ends.stopped e.ends.forms refl ok) told walk some) ∣₁);
+          (none-stopped ran.entries ran.start last.moment false e.ends.stopped e.ends.forms refl ok) told walk some)
+          ∣₁);
     }
 
 -- the text of a walk, where there is one
-pub walk-text : {E : Type 0} (P : List ℕ → Type 0) (told : Result (List Loss) SalvageFault) (made : Result (List ℕ) E) (text : Option (List ℕ))
+pub walk-text : {E : Type 0} (P : List ℕ → Type 0) (told : Result (List Loss) SalvageFault) (made : Result (List ℕ) E)
+    (text : Option (List ℕ))
     → text ≡ result_ok made → IfOk made (λ t. (t ≡ walk_text told) × (told ≢ Err fault.OutOfMemory))
     → ((t : List ℕ) → t ≡ walk_text told → told ≢ Err fault.OutOfMemory → P t) → IfSome text P
-walk-text P told (Ok t) text is said tells = subst (λ (o : Option (List ℕ)). IfSome o P) (sym is) (tells t said.0 said.1)
+walk-text P told (Ok t) text is said tells =
+    subst (λ (o : Option (List ℕ)). IfSome o P) (sym is) (tells t said.0 said.1)
 walk-text P told (Err e) text is said tells = subst (λ (o : Option (List ℕ)). IfSome o P) (sym is) tt
 
 -- a salvage that was told
-pub salvage-done : (picks : List ℕ → Bool) (found : DiskState) (text : Option (List ℕ)) (ran : HistoryState) (h : Option HistoryState) (old new : SinkState)
-    → h ≡ Some ran → has_fault ran.entries ≡ false → text ≢ None → IfSome text (AppendsAll old new) → IfSome text (IsWalkTold picks found ran)
+pub salvage-done : (picks : List ℕ → Bool) (found : DiskState) (text : Option (List ℕ)) (ran : HistoryState)
+    (h : Option HistoryState) (old new : SinkState)
+    → h ≡ Some ran → has_fault ran.entries ≡ false → text ≢ None → IfSome text (AppendsAll old new)
+    → IfSome text (IsWalkTold picks found ran)
     → IsSalvaged picks found h old new
 salvage-done picks found None ran h old new some ok is a told = absurd (is refl)
 salvage-done picks found (Some t) ran h old new some ok is a told =
     subst (λ (o : Option HistoryState). IsSalvaged picks found o old new) (sym some) (ok, (t, told, a))
 
 -- its text was told, in part where the run did not end well
-pub salvage-said : (picks : List ℕ → Bool) (found : DiskState) (text : Option (List ℕ)) (ran : HistoryState) (status : ℕ) (old new : SinkState)
-    → (text ≡ None → status ≡ 7) → IfSome text (Prints old new) → IfSome text (IsWalkTold picks found ran) → (status ≡ 3) ⊎ (status ≡ 5) → SaysWalk old new
-salvage-said picks found None ran status old new unsaid says told (inl e) = absurd (let z = unsaid refl in omega (arith, e, z))
-salvage-said picks found None ran status old new unsaid says told (inr e) = absurd (let z = unsaid refl in omega (arith, e, z))
-salvage-said picks found (Some t) ran status old new unsaid says told ended = (told.result, subst (Prints old new) told.tells says)
+pub salvage-said : (picks : List ℕ → Bool) (found : DiskState) (text : Option (List ℕ)) (ran : HistoryState)
+    (status : ℕ) (old new : SinkState)
+    → (text ≡ None → status ≡ 7) → IfSome text (Prints old new) → IfSome text (IsWalkTold picks found ran)
+    → (status ≡ 3) ⊎ (status ≡ 5) → SaysWalk old new
+salvage-said picks found None ran status old new unsaid says told (inl e) =
+    absurd (let z = unsaid refl in omega (arith, e, z))
+salvage-said picks found None ran status old new unsaid says told (inr e) =
+    absurd (let z = unsaid refl in omega (arith, e, z))
+salvage-said picks found (Some t) ran status old new unsaid says told ended =
+    (told.result, subst (Prints old new) told.tells says)
 
 -- Which names a salvage is about, by its words
 
 module _ {W : Type 0} (f : W → List ℕ) where
-  pub picks-prefix : (ws : List W) (p d : W) → 2 ≤ length ws → length ws < 3 → p ≡ get_or ws 1 d → picks_in (map f ws) ≡ begins_with (f p)
+  pub picks-prefix : (ws : List W) (p d : W) → 2 ≤ length ws → length ws < 3 → p ≡ get_or ws 1 d
+      → picks_in (map f ws) ≡ begins_with (f p)
   picks-prefix [] p d low high is = absurd (omega (arith, low))
   picks-prefix (a ∷ []) p d low high is = absurd (omega (arith, low))
   picks-prefix (a ∷ b ∷ []) p d low high is = λ j. begins_with (f (sym is j))

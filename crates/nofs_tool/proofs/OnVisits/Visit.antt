@@ -1,5 +1,6 @@
 -- Visits: what they leave, put together.
-use Rattle.std.proofs.Common.{◌≡◌, ◌⊎◌, inl, inr, ℕ, zero, suc, ◌<◌, Bool, true, false, ◌||◌, not, List, [], length, drop, refl, sym, ap, ◌∙◌, subst}
+use Rattle.std.proofs.Common.{◌≡◌, ◌⊎◌, inl, inr, ℕ, zero, suc, ◌<◌, Bool, true, false, ◌||◌, not, List, [], length}
+use Rattle.std.proofs.Common.{drop, refl, sym, ap, ◌∙◌, subst}
 use Rattle.std.proofs.Common.{arith}
 use Rattle.nofs_model.specs.Cells.{SuperBlock}
 use Rattle.nofs_model.specs.Image.{Image}
@@ -26,7 +27,8 @@ anyone (suc c) = inr (omega arith)
 
 module _ (P Q : List Made → Type 0) (inodes blocks : ℕ) (short : Bool) where
   -- less is said of the visitor's steps
-  pub visit-run-maps : (H : List Entry1) → ((m : List Made) → P m → Q m) → IsVisitRun P inodes blocks short H → IsVisitRun Q inodes blocks short H
+  pub visit-run-maps : (H : List Entry1) → ((m : List Made) → P m → Q m) → IsVisitRun P inodes blocks short H
+      → IsVisitRun Q inodes blocks short H
   visit-run-maps H less r = record {
     served = r.served;
     flush = r.flush;
@@ -42,7 +44,8 @@ module _ (P Q : List Made → Type 0) (inodes blocks : ℕ) (short : Bool) where
 
 module _ (P : List Made → Type 0) (inodes blocks : ℕ) where
   -- nobody visited
-  pub visit-none : (short : Bool) (H K : List Entry1) → K ≡ H → short ≡ true → P [] → VisitServed P inodes blocks short H K
+  pub visit-none : (short : Bool) (H K : List Entry1) → K ≡ H → short ≡ true → P []
+      → VisitServed P inodes blocks short H K
   visit-none short H K is wants p =
       let t = team-unserved [] inodes blocks short [] H K is wants in
       let nobody : steps_by 1 (drop (length H) K) ≡ [] = t.made.others 1
@@ -58,8 +61,10 @@ module _ (P : List Made → Type 0) (inodes blocks : ℕ) where
       }
 
   -- a visit, and then the flush
-  pub visit-closed : (out closed : Bool) (before served all : List Entry1) (flush : Reply) → before ≡ [] → VisitServed P inodes blocks out before served
-      → AddsStep 0 (step.Flush 0 0) flush served all → closed ≡ not (is_out_of_memory flush) → IsVisitRun P inodes blocks (out || not closed) all
+  pub visit-closed : (out closed : Bool) (before served all : List Entry1) (flush : Reply)
+      → before ≡ [] → VisitServed P inodes blocks out before served
+      → AddsStep 0 (step.Flush 0 0) flush served all → closed ≡ not (is_out_of_memory flush)
+      → IsVisitRun P inodes blocks (out || not closed) all
   visit-closed out closed before served all flush empty v adds is =
       let made : VisitMade P inodes blocks out (λ c. steps_by c served) = subst
       (λ (h : List Entry1). VisitMade P inodes blocks out (λ c. steps_by c (drop (length h) served))) empty v.made in
@@ -70,8 +75,10 @@ module _ (P : List Made → Type 0) (inodes blocks : ℕ) where
         closed = λ e. twice (is_out_of_memory flush) (ap not (sym is) ∙ (neither out (not closed) e).1);
         made = record {
           visited = made.visited;
-          inodes_seen = sweeps-shorter _ _ inodes out (out || not closed) _ (λ e. (neither out (not closed) e).0) made.inodes_seen;
-          blocks_seen = sweeps-shorter _ _ blocks out (out || not closed) _ (λ e. (neither out (not closed) e).0) made.blocks_seen;
+          inodes_seen = sweeps-shorter _ _ inodes out (out || not closed) _
+              (λ e. (neither out (not closed) e).0) made.inodes_seen;
+          blocks_seen = sweeps-shorter _ _ blocks out (out || not closed) _
+              (λ e. (neither out (not closed) e).0) made.blocks_seen;
           others = made.others;
         };
       }
@@ -79,10 +86,14 @@ module _ (P : List Made → Type 0) (inodes blocks : ℕ) where
   -- the visitor's steps are those of the whole history
   pub visit-steps : (short : Bool) (H : List Entry1) → IsVisitRun P inodes blocks short H → P (steps_by 1 H)
   visit-steps short H r =
-      let same : steps_by 1 H ≡ steps_by 1 r.served = adds-others 0 1 (step.Flush 0 0) r.flush r.served H r.closes (λ e. absurd (omega (arith, e))) in
+      let same : steps_by 1 H ≡ steps_by 1 r.served =
+      adds-others 0 1 (step.Flush 0 0) r.flush r.served H r.closes (λ e. absurd (omega (arith, e))) in
       subst P (sym same) r.made.visited
 
 -- the sweeps beside a visit saw all
-pub whole-visit : (P : List Made → Type 0) (at : SuperBlock) (H : List Entry1) (start first : ℕ) (B : Image) (V : World) (X : Image)
-    → IsVisitRun P at.inodes at.blocks false H → Run start (world_of B first) H V → has_fault H ≡ false → ShowsDisk at V X → IsWholeScan V X
-whole-visit P at H start first B V X run = whole-by at run.served H run.flush run.closes run.made.inodes_seen run.made.blocks_seen start first B V X
+pub whole-visit : (P : List Made → Type 0) (at : SuperBlock) (H : List Entry1) (start first : ℕ) (B : Image)
+    (V : World) (X : Image)
+    → IsVisitRun P at.inodes at.blocks false H → Run start (world_of B first) H V
+    → has_fault H ≡ false → ShowsDisk at V X → IsWholeScan V X
+whole-visit P at H start first B V X run =
+    whole-by at run.served H run.flush run.closes run.made.inodes_seen run.made.blocks_seen start first B V X

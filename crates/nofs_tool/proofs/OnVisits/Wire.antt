@@ -41,8 +41,15 @@ pub serves-wired : (most : ℕ) (e : WireEnd) (left new_left given new_given : O
     → Serves most e left new_left given new_given [] made → IsWired left new_left made
 serves-wired most e left new_left given new_given made s = subst (IsWired left new_left) (sym s.makes) (go e s.ends)
   where
-    served : (taken : List ℕ) (back : List ℕ) → s.taken ≡ taken ++ back → IsServed taken s.steps s.written → IsWired left new_left s.steps
-    served taken back whole i = (taken, back, [], subst (Consumes left new_left) whole s.takes, sym i.steps ∙ sym (append-nil (map made_step s.steps)))
+    served : (taken : List ℕ) (back : List ℕ) → s.taken ≡ taken ++ back → IsServed taken s.steps s.written
+        → IsWired left new_left s.steps
+    served taken back whole i = (
+      taken,
+      back,
+      [],
+      subst (Consumes left new_left) whole s.takes,
+      sym i.steps ∙ sym (append-nil (map made_step s.steps)),
+    )
 
     whole : (i : IsServed s.taken s.steps s.written) → IsWired left new_left s.steps
     whole i = served s.taken [] (sym (append-nil s.taken)) i
@@ -65,7 +72,8 @@ serves-wired most e left new_left given new_given made s = subst (IsWired left n
 module _ (s : ℕ) (P : WireEnd → Bool → Type 0) where
   told : (7 ≡ s → ⊥) → (6 ≡ s → (f : Bool) → P ended.SourceFault f) → (8 ≡ s → (f : Bool) → P ended.TooLong f)
       → (2 ≡ s → (at : ℕ) (f : Bool) → P (ended.Cut at) f × P (ended.Bad at) f)
-      → (3 ≡ s → P ended.SinkFault true × P ended.End true) → (5 ≡ s → P ended.SinkFault false) → (0 ≡ s → P ended.End false)
+      → (3 ≡ s → P ended.SinkFault true × P ended.End true) → (5 ≡ s → P ended.SinkFault false)
+      → (0 ≡ s → P ended.End false)
       → (b : Bool) (e : WireEnd) (f : Bool) → wire_status b e f ≡ s → P e f
   told wanting source long torn device sink end true e f h = absurd (wanting h)
   told wanting source long torn device sink end false ended.SourceFault f h = source h f
@@ -79,23 +87,28 @@ module _ (s : ℕ) (P : WireEnd → Bool → Type 0) where
   told wanting source long torn device sink end false ended.End false h = end h
 
 six : (b : Bool) (e : WireEnd) (f : Bool) → wire_status b e f ≡ 6 → e ≡ ended.SourceFault
-six = told 6 (λ e f. e ≡ ended.SourceFault) (λ h. cc h) (λ h f. refl) (λ h. absurd (cc h)) (λ h. absurd (cc h)) (λ h. absurd (cc h)) (λ h. absurd (cc h))
+six = told 6 (λ e f. e ≡ ended.SourceFault) (λ h. cc h) (λ h f. refl) (λ h. absurd (cc h)) (λ h. absurd (cc h))
+    (λ h. absurd (cc h)) (λ h. absurd (cc h))
     (λ h. absurd (cc h))
 
 eight : (b : Bool) (e : WireEnd) (f : Bool) → wire_status b e f ≡ 8 → e ≡ ended.TooLong
-eight = told 8 (λ e f. e ≡ ended.TooLong) (λ h. cc h) (λ h. absurd (cc h)) (λ h f. refl) (λ h. absurd (cc h)) (λ h. absurd (cc h)) (λ h. absurd (cc h))
+eight = told 8 (λ e f. e ≡ ended.TooLong) (λ h. cc h) (λ h. absurd (cc h)) (λ h f. refl) (λ h. absurd (cc h))
+    (λ h. absurd (cc h)) (λ h. absurd (cc h))
     (λ h. absurd (cc h))
 
 five : (b : Bool) (e : WireEnd) (f : Bool) → wire_status b e f ≡ 5 → (e ≡ ended.SinkFault) × (f ≡ false)
-five = told 5 (λ e f. (e ≡ ended.SinkFault) × (f ≡ false)) (λ h. cc h) (λ h. absurd (cc h)) (λ h. absurd (cc h)) (λ h. absurd (cc h)) (λ h. absurd (cc h))
+five = told 5 (λ e f. (e ≡ ended.SinkFault) × (f ≡ false)) (λ h. cc h) (λ h. absurd (cc h)) (λ h. absurd (cc h))
+    (λ h. absurd (cc h)) (λ h. absurd (cc h))
     (λ h. (refl, refl)) (λ h. absurd (cc h))
 
 three : (b : Bool) (e : WireEnd) (f : Bool) → wire_status b e f ≡ 3 → f ≡ true
-three = told 3 (λ e f. f ≡ true) (λ h. cc h) (λ h. absurd (cc h)) (λ h. absurd (cc h)) (λ h. absurd (cc h)) (λ h. (refl, refl)) (λ h. absurd (cc h))
+three = told 3 (λ e f. f ≡ true) (λ h. cc h) (λ h. absurd (cc h)) (λ h. absurd (cc h)) (λ h. absurd (cc h))
+    (λ h. (refl, refl)) (λ h. absurd (cc h))
     (λ h. absurd (cc h))
 
 pub zero-end : (b : Bool) (e : WireEnd) (f : Bool) → wire_status b e f ≡ 0 → (e ≡ ended.End) × (f ≡ false)
-zero-end = told 0 (λ e f. (e ≡ ended.End) × (f ≡ false)) (λ h. cc h) (λ h. absurd (cc h)) (λ h. absurd (cc h)) (λ h. absurd (cc h)) (λ h. absurd (cc h))
+zero-end = told 0 (λ e f. (e ≡ ended.End) × (f ≡ false)) (λ h. cc h) (λ h. absurd (cc h)) (λ h. absurd (cc h))
+    (λ h. absurd (cc h)) (λ h. absurd (cc h))
     (λ h. absurd (cc h)) (λ h. (refl, refl))
 
 -- a bad frame, or one that is cut
@@ -105,11 +118,13 @@ IsTorn (ended.Bad at) = Unit {0}
 IsTorn _ = ⊥
 
 two : (b : Bool) (e : WireEnd) (f : Bool) → wire_status b e f ≡ 2 → IsTorn e
-two = told 2 (λ e f. IsTorn e) (λ h. cc h) (λ h. absurd (cc h)) (λ h. absurd (cc h)) (λ h at f. (tt, tt)) (λ h. absurd (cc h)) (λ h. absurd (cc h))
+two = told 2 (λ e f. IsTorn e) (λ h. cc h) (λ h. absurd (cc h)) (λ h. absurd (cc h)) (λ h at f. (tt, tt))
+    (λ h. absurd (cc h)) (λ h. absurd (cc h))
     (λ h. absurd (cc h))
 
 -- a status of frames is none of these two
-named : (b : Bool) (e : WireEnd) (f : Bool) → IsStatus (wire_status b e f) × (wire_status b e f ≢ 1) × (wire_status b e f ≢ 4)
+named : (b : Bool) (e : WireEnd) (f : Bool) → IsStatus (wire_status b e f) × (wire_status b e f ≢ 1)
+    × (wire_status b e f ≢ 4)
 named true e f = (inr (inr (inr (inr (inr (inr (inr (inl refl))))))), (λ h. cc h), (λ h. cc h))
 named false ended.SourceFault f = (inr (inr (inr (inr (inr (inr (inl refl)))))), (λ h. cc h), (λ h. cc h))
 named false ended.TooLong f = (inr (inr (inr (inr (inr (inr (inr (inr refl))))))), (λ h. cc h), (λ h. cc h))
@@ -129,11 +144,13 @@ too-long e old new given new_given made s is =
     (s.taken, s.takes, ends.1)
 
 -- what comes of frames at a mount
-pub wire-ends : (found last : DiskState) (source_old source_new : SourceState) (sink_old sink_new : SinkState) (first status : ℕ) (short : Bool)
+pub wire-ends : (found last : DiskState) (source_old source_new : SourceState) (sink_old sink_new : SinkState)
+    (first status : ℕ) (short : Bool)
     (e : WireEnd) (ran : HistoryState)
     → status ≡ wire_status short e (has_fault ran.entries)
     → Serves 16777216 e source_old.left source_new.left sink_old.given sink_new.given [] (steps_by 1 ran.entries)
-    → (e ≡ ended.SourceFault → Rose source_old.faults source_new.faults) → (e ≡ ended.SinkFault → Rose sink_old.faults sink_new.faults)
+    → (e ≡ ended.SourceFault → Rose source_old.faults source_new.faults)
+    → (e ≡ ended.SinkFault → Rose sink_old.faults sink_new.faults)
     → ∥ Finished found last first ran ∥₁ → WireEnds found last source_old source_new sink_old sink_new status (Some ran)
 wire-ends found last source_old source_new sink_old sink_new first status short e ran is serves source sink ends =
     let f = has_fault ran.entries in
@@ -144,14 +161,17 @@ wire-ends found last source_old source_new sink_old sink_new first status short 
       stood = λ s h. cc h;
       source = λ h. source (six short e f (sym is ∙ h));
       too_long = λ h. too-long e source_old source_new _ _ _ serves (eight short e f (sym is ∙ h));
-      device = λ h. (three short e f (sym is ∙ h), faults-rose found last first ran ends (three short e f (sym is ∙ h)));
+      device = λ h.
+          (three short e f (sym is ∙ h), faults-rose found last first ran ends (three short e f (sym is ∙ h)));
       sink = λ h. (sink (five short e f (sym is ∙ h)).0, (five short e f (sym is ∙ h)).1);
       refused = λ h. absurd (n.2 (sym is ∙ h));
     }
 
 -- and on a device that was not mounted
-pub wire-refused : (old new : DiskState) (source : SourceState) (sink_old sink_new : SinkState) (status : ℕ) (h : Option HistoryState) → h ≡ None
-    → (status ≡ 3) ⊎ (status ≡ 4) ⊎ (status ≡ 7) → (status ≡ 3 → Rose old.faults new.faults) → (status ≡ 4 → IsRefusedBy None old new)
+pub wire-refused : (old new : DiskState) (source : SourceState) (sink_old sink_new : SinkState) (status : ℕ)
+    (h : Option HistoryState) → h ≡ None
+    → (status ≡ 3) ⊎ (status ≡ 4) ⊎ (status ≡ 7) → (status ≡ 3 → Rose old.faults new.faults)
+    → (status ≡ 4 → IsRefusedBy None old new)
     → WireEnds old new source source sink_old sink_new status h
 wire-refused old new source sink_old sink_new status h none kinds device refused =
     subst (λ (o : Option HistoryState). WireEnds old new source source sink_old sink_new status o) (sym none) (record {
@@ -172,9 +192,12 @@ wire-refused old new source sink_old sink_new status h none kinds device refused
 
     -- of the statuses beside 4 they lie between 3 and 7, and none is 5 or 6
     between : (status ≡ 3) ⊎ (status ≡ 4) ⊎ (status ≡ 7) → (3 ≤ status) × (status ≤ 7) × (status ≢ 5) × (status ≢ 6)
-    between (inl a) = (omega (arith, a), omega (arith, a), (λ e. absurd (omega (arith, a, e))), (λ e. absurd (omega (arith, a, e))))
-    between (inr (inl a)) = (omega (arith, a), omega (arith, a), (λ e. absurd (omega (arith, a, e))), (λ e. absurd (omega (arith, a, e))))
-    between (inr (inr a)) = (omega (arith, a), omega (arith, a), (λ e. absurd (omega (arith, a, e))), (λ e. absurd (omega (arith, a, e))))
+    between (inl a) =
+        (omega (arith, a), omega (arith, a), (λ e. absurd (omega (arith, a, e))), (λ e. absurd (omega (arith, a, e))))
+    between (inr (inl a)) =
+        (omega (arith, a), omega (arith, a), (λ e. absurd (omega (arith, a, e))), (λ e. absurd (omega (arith, a, e))))
+    between (inr (inr a)) =
+        (omega (arith, a), omega (arith, a), (λ e. absurd (omega (arith, a, e))), (λ e. absurd (omega (arith, a, e))))
 
     not-these : (status ≡ 0) ⊎ (status ≡ 2) ⊎ (status ≡ 5) ⊎ (status ≡ 6) ⊎ (status ≡ 8) → ⊥
     not-these (inl e) = let low = (between kinds).0 in omega (arith, low, e)
@@ -184,8 +207,10 @@ wire-refused old new source sink_old sink_new status h none kinds device refused
     not-these (inr (inr (inr (inr e)))) = let high = (between kinds).1 in omega (arith, high, e)
 
 -- whole frames come to their end: none is torn
-torn-none : (e : WireEnd) (left new_left given new_given : Option (List ℕ)) (made : List Made) (text : List ℕ) → left ≡ Some text → rest_of text ≡ []
-    → ((front back : List ℕ) → text ≡ front ++ back → IsBad (rest_of front) → ⊥) → Serves 16777216 e left new_left given new_given [] made → IsTorn e → ⊥
+torn-none : (e : WireEnd) (left new_left given new_given : Option (List ℕ)) (made : List Made) (text : List ℕ)
+    → left ≡ Some text → rest_of text ≡ []
+    → ((front back : List ℕ) → text ≡ front ++ back → IsBad (rest_of front) → ⊥)
+    → Serves 16777216 e left new_left given new_given [] made → IsTorn e → ⊥
 torn-none e left new_left given new_given made text told whole none_bad s torn = go e torn s.ends
   where
     go : (x : WireEnd) → IsTorn x → EndsSo 16777216 x new_left s.taken s.steps s.written → ⊥
@@ -202,16 +227,21 @@ torn-none e left new_left given new_given made text told whole none_bad s torn =
     go ended.OutOfMemory t ends = t
 
 -- frames on a ready device, where no count of faults rose
-pub wire-completes : (old new : DiskState) (source_old source_new : SourceState) (sink_old sink_new : SinkState) (s : ℕ) (h : Option HistoryState)
+pub wire-completes : (old new : DiskState) (source_old source_new : SourceState) (sink_old sink_new : SinkState) (s : ℕ)
+    (h : Option HistoryState)
     → NoneRose source_old source_new old new sink_old sink_new → HoldsFrames source_old 16777216 → CanBeMounted old
     → WireEnds old new source_old source_new sink_old sink_new s h → (s ≡ 0) ⊎ (s ≡ 7)
 wire-completes old new source_old source_new sink_old sink_new s h none held ready ends =
-    completes s ends.named.0 ends.named.1 (λ e. torn h e (ends.stood (inr (inl e))) ends.run) (λ e. none.disk (ends.device e).1)
-    (λ e. ready-not-refused None old new ready (ends.refused e).1) (λ e. none.sink (ends.sink e).0) (λ e. none.source (ends.source e)) long
+    completes s ends.named.0 ends.named.1 (λ e. torn h e (ends.stood (inr (inl e))) ends.run)
+    (λ e. none.disk (ends.device e).1)
+    (λ e. ready-not-refused None old new ready (ends.refused e).1) (λ e. none.sink (ends.sink e).0)
+    (λ e. none.source (ends.source e)) long
   where
-    torn : (o : Option HistoryState) → s ≡ 2 → o ≢ None → IfSome o (IsWireRun source_old source_new sink_old sink_new s) → ⊥
+    torn : (o : Option HistoryState)
+        → s ≡ 2 → o ≢ None → IfSome o (IsWireRun source_old source_new sink_old sink_new s) → ⊥
     torn None e some r = some refl
-    torn (Some x) e some r = torn-none r.end source_old.left source_new.left _ _ _ held.text held.told held.whole held.none_bad r.serves
+    torn (Some x) e some r =
+        torn-none r.end source_old.left source_new.left _ _ _ held.text held.told held.whole held.none_bad r.serves
         (two r.short r.end (has_fault x.entries) (sym r.status_is ∙ e))
 
     long : s ≡ 8 → ⊥
@@ -222,17 +252,23 @@ wire-completes old new source_old source_new sink_old sink_new s h none held rea
         omega (arith, most, short, len)
 
 -- the headline of frames at a mount
-pub wire-headline : (P : List Made → Type 0) (found before last : DiskState) (first status : ℕ) (k : Books) (out : Bool) (ran : HistoryState) → first ≡ 0
-    → ∥ IsMount found before first k ∥₁ → ∥ Finished found last first ran ∥₁ → IsVisitRun P k.at.inodes k.at.blocks out ran.entries
-    → (out ≡ false → IsClosed last ran.entries) → (out ≡ true → status ≡ 7) → (status ≡ 0 → has_fault ran.entries ≡ false)
+pub wire-headline : (P : List Made → Type 0) (found before last : DiskState) (first status : ℕ) (k : Books) (out : Bool)
+    (ran : HistoryState) → first ≡ 0
+    → ∥ IsMount found before first k ∥₁ → ∥ Finished found last first ran ∥₁
+    → IsVisitRun P k.at.inodes k.at.blocks out ran.entries
+    → (out ≡ false → IsClosed last ran.entries) → (out ≡ true → status ≡ 7)
+    → (status ≡ 0 → has_fault ran.entries ≡ false)
     → ∥ IsHeadlineOf (FollowsVisit P) found last status ran ∥₁
-wire-headline P found before last first status k out ran begins stands ends run closed unsaid sound = go out run closed unsaid
+wire-headline P found before last first status k out ran begins stands ends run closed unsaid sound =
+    go out run closed unsaid
   where
-    go : (b : Bool) → IsVisitRun P k.at.inodes k.at.blocks b ran.entries → (b ≡ false → IsClosed last ran.entries) → (b ≡ true → status ≡ 7)
+    go : (b : Bool) → IsVisitRun P k.at.inodes k.at.blocks b ran.entries → (b ≡ false → IsClosed last ran.entries)
+        → (b ≡ true → status ≡ 7)
         → ∥ IsHeadlineOf (FollowsVisit P) found last status ran ∥₁
     go true run closed unsaid = visit-of P found before last first status k None ran (Some ran) begins refl stands ends
         (record { short = true; early = λ e. refl; follows = run }) tt (λ e. unsaid refl) sound
-    go false run closed unsaid = visit-of P found before last first status k (Some []) ran (Some ran) begins refl stands ends
+    go false run closed unsaid =
+        visit-of P found before last first status k (Some []) ran (Some ran) begins refl stands ends
         (record { short = false; early = λ e. absurd (cc e); follows = run }) (closed refl) (λ e. absurd (cc e)) sound
 
 pub short-seven : (b : Bool) (e : WireEnd) (f : Bool) → b ≡ true → wire_status b e f ≡ 7

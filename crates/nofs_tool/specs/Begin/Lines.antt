@@ -58,7 +58,8 @@ format_line format.OutOfMemory = []
 
 -- the numbers that no format takes
 abbrev pub geometry_line : ℕ → ℕ → List ℕ
-geometry_line blocks inodes = codes "mount: bad geometry, blocks " ++ decimal blocks ++ codes ", inodes " ++ decimal inodes ++ codes "\n"
+geometry_line blocks inodes =
+    codes "mount: bad geometry, blocks " ++ decimal blocks ++ codes ", inodes " ++ decimal inodes ++ codes "\n"
 
 -- the first byte that had to be zero
 abbrev pub rest_line : ℕ → List ℕ

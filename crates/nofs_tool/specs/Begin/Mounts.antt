@@ -41,7 +41,8 @@ IsRefusedFormat old blocks inodes = (fault : FormatFault) × (format_fault old.b
 
 -- the superblock of this device has this fault, by the table of its faults
 abbrev pub IsMountRefusal : DiskState → MountFault → Type 0
-IsMountRefusal old fault = 0 < old.blocks → IsTrue old.tells → check_super old.blocks (cell_at old.now 0).payload ≡ Err fault
+IsMountRefusal old fault = 0 < old.blocks → IsTrue old.tells
+    → check_super old.blocks (cell_at old.now 0).payload ≡ Err fault
 
 -- why a device was not mounted: a refusal with status 4 made no write, and tells the first fault of the superblock
 pub record IsUnmounted (old new : DiskState) (cause : Cause) : Type 0 where
@@ -49,10 +50,11 @@ pub record IsUnmounted (old new : DiskState) (cause : Cause) : Type 0 where
   pub unwritten : status_of cause ≡ 4 → KeepsCells old new
   pub table : status_of cause ≡ 4 → (fault : MountFault) × IsMountRefusal old fault
 
--- why a device was not formatted and mounted: a refusal with status 4 made no write, or it was that of the mount after a format,
--- which a device that tells does not make; a fault of the device came after the numbers were accepted
+-- why a device was not formatted and mounted: a refusal with status 4 made no write, or it was that of the mount after
+-- a format, which a device that tells does not make; a fault of the device came after the numbers were accepted
 pub record IsUnformatted (old new : DiskState) (blocks inodes : ℕ) (cause : Cause) : Type 0 where
   pub caused : IsCaused old new cause
-  pub unwritten : status_of cause ≡ 4 → (IsRefusedFormat old blocks inodes × KeepsCells old new) ⊎ (old.moment < new.moment)
+  pub unwritten : status_of cause ≡ 4 → (IsRefusedFormat old blocks inodes × KeepsCells old new)
+      ⊎ (old.moment < new.moment)
   pub table : IsTrue old.tells → status_of cause ≡ 4 → IsRefusedFormat old blocks inodes
   pub accepted : status_of cause ≡ 3 → format_fault old.blocks blocks inodes ≡ None

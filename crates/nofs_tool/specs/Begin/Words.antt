@@ -26,18 +26,21 @@ drill_in start steps = drawn_in (number_of start) (number_of steps)
 -- a command of one word
 abbrev pub plain_in : List ℕ → Option Request
 plain_in word = if bytes_eq word (codes "run") then Some Run else (if bytes_eq word (codes "scan") then Some Scan else
-    (if bytes_eq word (codes "upgrade") then Some Upgrade else (if bytes_eq word (codes "salvage") then Some Salvage else
+    (if bytes_eq word (codes "upgrade") then Some Upgrade
+    else (if bytes_eq word (codes "salvage") then Some Salvage else
     (if bytes_eq word (codes "wire") then Some Wire else None))))
 
 -- salvage PREFIX, of 1 to 48 bytes
 abbrev pub prefixed_in : List ℕ → List ℕ → Option Request
-prefixed_in word prefix = if bytes_eq word (codes "salvage") && (nat_le 1 (length prefix) && nat_le (length prefix) 48) then Some Salvage else None
+prefixed_in word prefix = if bytes_eq word (codes "salvage") && (nat_le 1 (length prefix) && nat_le (length prefix) 48)
+    then Some Salvage else None
 
 -- the task that words ask for
 abbrev pub task_in : List (List ℕ) → Option Request
 task_in (word ∷ []) = plain_in word
 task_in (word ∷ prefix ∷ []) = prefixed_in word prefix
-task_in (word ∷ one ∷ two ∷ []) = if bytes_eq word (codes "new") then new_in one two else (if bytes_eq word (codes "drill") then drill_in one two else None)
+task_in (word ∷ one ∷ two ∷ []) = if bytes_eq word (codes "new") then new_in one two
+    else (if bytes_eq word (codes "drill") then drill_in one two else None)
 task_in _ = None
 
 -- the names that a salvage is about

@@ -51,7 +51,8 @@ IsReady (Some Upgrade) source limit d = CanBeMounted d × ((super_at d.now).vers
 IsReady (Some (New blocks inodes)) source limit d = HoldsSession source limit × CanBeFormatted d blocks inodes
 
 -- in this call no count of faults rose
-pub record NoneRose (source_old source_new : SourceState) (disk_old disk_new : DiskState) (sink_old sink_new : SinkState) : Type 0 where
+pub record NoneRose (source_old source_new : SourceState) (disk_old disk_new : DiskState)
+    (sink_old sink_new : SinkState) : Type 0 where
   pub source : Rose source_old.faults source_new.faults → ⊥
   pub disk : Rose disk_old.faults disk_new.faults → ⊥
   pub sink : Rose sink_old.faults sink_new.faults → ⊥

@@ -22,12 +22,14 @@ use Rattle.nofs_tool.specs.Runs.Tool.{WithText, WithSession}
 use Rattle.nofs_tool.specs.Visits.Visit.{FollowsVisit}
 use Rattle.nofs_tool.specs.Visits.Wire.{IsWired}
 
--- THE HEADLINE, of one history over the disk that the mount found. Its entries follow what was asked for (`Follows`, by the numbers of
--- the mount, and whether memory was wanting, which is so at status 7 alone). Where the premises are met, `Ends` says further: the
--- history is a run of the machine with its replies; at each moment, in mid-step too, every image that a crash may leave is allowed; what
--- is claimed was free; and each image is one on which the premises are met again. At status 0 the machine knows every inode and every
--- block, and says of each what the full scan of the disk handed back says; and each block of that disk may be left as a read gives it alone
-pub record IsHeadlineOf (Follows : SuperBlock → Bool → List Entry1 → Type 0) (found last : DiskState) (status : ℕ) (h : HistoryState) : Type 0 where
+-- THE HEADLINE, of one history over the disk that the mount found. Its entries follow what was asked for (`Follows`, by
+-- the numbers of the mount, and whether memory was wanting, which is so at status 7 alone). Where the premises are met,
+-- `Ends` says further: the history is a run of the machine with its replies; at each moment, in mid-step too, every
+-- image that a crash may leave is allowed; what is claimed was free; and each image is one on which the premises are
+-- met again. At status 0 the machine knows every inode and every block, and says of each what the full scan of the disk
+-- handed back says; and each block of that disk may be left as a read gives it alone
+pub record IsHeadlineOf (Follows : SuperBlock → Bool → List Entry1 → Type 0) (found last : DiskState) (status : ℕ)
+    (h : HistoryState) : Type 0 where
   -- the numbers of the mount
   pub at : SuperBlock
   pub numbers : IsMet found → at ≡ raised (super_at found.now)
@@ -47,8 +49,10 @@ abbrev pub IsHeadline : List (List Command) → DiskState → DiskState → ℕ 
 IsHeadline scripts found last status h = IsHeadlineOf (FollowsScripts scripts) found last status h
 
 module _ {D : Type 0} (state : D → DiskState) where
-  -- on a device that was formatted first: the mount found it as the format left it, and the premises are met where it tells
-  pub record IsNewHeadline (blocks inodes : ℕ) (scripts : List (List Command)) (old : D) (last : DiskState) (status : ℕ) (h : HistoryState) : Type 0 where
+  -- on a device that was formatted first: the mount found it as the format left it, and the premises are met where it
+  -- tells
+  pub record IsNewHeadline (blocks inodes : ℕ) (scripts : List (List Command)) (old : D) (last : DiskState) (status : ℕ)
+      (h : HistoryState) : Type 0 where
     pub found : D
     pub formatted : IsFormatted blocks inodes (state old) (state found)
     pub met : IsTrue (state old).tells → IsMet (state found)
@@ -57,26 +61,33 @@ module _ {D : Type 0} (state : D → DiskState) where
   -- of a session: where there are numbers, the device was formatted with them
   abbrev pub HeadlineOf : Option Numbers → List (List Command) → D → DiskState → ℕ → HistoryState → Type 0
   HeadlineOf None scripts old last status h = ∥ IsHeadline scripts (state old) last status h ∥₁
-  HeadlineOf (Some numbers) scripts old last status h = IsNewHeadline numbers.blocks numbers.inodes scripts old last status h
+  HeadlineOf (Some numbers) scripts old last status h =
+      IsNewHeadline numbers.blocks numbers.inodes scripts old last status h
 
-  -- of a drill, for which the device was formatted: its users have the drawn scripts, and then caller 0 reads their files
-  pub record IsDrillHeadline (start steps : ℕ) (old : D) (last : DiskState) (status : ℕ) (h : HistoryState) : Type 0 where
+  -- of a drill, for which the device was formatted: its users have the drawn scripts, and then caller 0 reads their
+  -- files
+  pub record IsDrillHeadline (start steps : ℕ) (old : D) (last : DiskState) (status : ℕ)
+      (h : HistoryState) : Type 0 where
     pub found : D
     pub formatted : IsFormatted 4096 256 (state old) (state found)
     pub met : IsTrue (state old).tells → IsMet (state found)
     pub headline : ∥ IsHeadlineOf (FollowsDrill start steps) (state found) last status h ∥₁
 
-  -- of a task: the session is the one that its source spells, and a scan has no users; a salvage has one caller that reads, and
-  -- frames have one whose steps are theirs
+  -- of a task: the session is the one that its source spells, and a scan has no users; a salvage has one caller that
+  -- reads, and frames have one whose steps are theirs
   abbrev pub HeadlineIn : Option Request → SourceState → SourceState → ℕ → D → DiskState → ℕ → HistoryState → Type 0
   HeadlineIn None source_old source_new limit old last status h = ⊥
   HeadlineIn (Some Upgrade) source_old source_new limit old last status h = ⊥
-  HeadlineIn (Some Salvage) source_old source_new limit old last status h = ∥ IsHeadlineOf (FollowsVisit AreReads) (state old) last status h ∥₁
+  HeadlineIn (Some Salvage) source_old source_new limit old last status h =
+      ∥ IsHeadlineOf (FollowsVisit AreReads) (state old) last status h ∥₁
   HeadlineIn (Some Wire) source_old source_new limit old last status h =
       ∥ IsHeadlineOf (FollowsVisit (IsWired source_old.left source_new.left)) (state old) last status h ∥₁
   HeadlineIn (Some Scan) source_old source_new limit old last status h = HeadlineOf None [] old last status h
-  HeadlineIn (Some (Drill start steps)) source_old source_new limit old last status h = IsDrillHeadline start steps old last status h
+  HeadlineIn (Some (Drill start steps)) source_old source_new limit old last status h =
+      IsDrillHeadline start steps old last status h
   HeadlineIn (Some Run) source_old source_new limit old last status h = WithText source_old source_new limit (λ text.
       WithSession text (λ session. HeadlineOf None session old last status h))
-  HeadlineIn (Some (New blocks inodes)) source_old source_new limit old last status h = WithText source_old source_new limit (λ text.
-      WithSession text (λ session. HeadlineOf (Some (record { blocks = blocks; inodes = inodes })) session old last status h))
+  HeadlineIn (Some (New blocks inodes)) source_old source_new limit old last status h =
+      WithText source_old source_new limit (λ text.
+      WithSession text
+      (λ session. HeadlineOf (Some (record { blocks = blocks; inodes = inodes })) session old last status h))

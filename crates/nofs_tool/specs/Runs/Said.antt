@@ -47,7 +47,8 @@ SaysCounts old new = (c : Counts) × Prints old new (counts_line c)
 
 -- the line of a drill
 abbrev pub SaysDrill : SinkState → SinkState → ℕ → ℕ → Option HistoryState → Type 0
-SaysDrill old new start steps h = IfSome h (λ x. (text : List ℕ) × IsDrilled start steps x.entries text × Prints old new text)
+SaysDrill old new start steps h =
+    IfSome h (λ x. (text : List ℕ) × IsDrilled start steps x.entries text × Prints old new text)
 
 -- why nothing was served, where no mount stood
 abbrev pub SaysRefusal : Option Request → SinkState → SinkState → ℕ → Type 0
@@ -55,7 +56,8 @@ SaysRefusal (Some Upgrade) old new status = SaysUpgrade old new status
 SaysRefusal _ old new status = SaysCause old new status
 
 -- the text of a run that was mounted and did not end well
-abbrev pub SaysText : Option Request → SourceState → SourceState → ℕ → SinkState → SinkState → Option HistoryState → Type 0
+abbrev pub SaysText : Option Request
+    → SourceState → SourceState → ℕ → SinkState → SinkState → Option HistoryState → Type 0
 SaysText None source_old source_new limit old new h = Unit {0}
 SaysText (Some Upgrade) source_old source_new limit old new h = Unit {0}
 SaysText (Some Wire) source_old source_new limit old new h = Unit {0}
@@ -64,16 +66,19 @@ SaysText (Some Scan) source_old source_new limit old new h = SaysCounts old new
 SaysText (Some (Drill start steps)) source_old source_new limit old new h = SaysDrill old new start steps h
 SaysText (Some Run) source_old source_new limit old new h = WithText source_old source_new limit (λ text.
     WithSession text (λ session. SaysSession old new session h))
-SaysText (Some (New blocks inodes)) source_old source_new limit old new h = WithText source_old source_new limit (λ text.
+SaysText (Some (New blocks inodes)) source_old source_new limit old new h =
+    WithText source_old source_new limit (λ text.
     WithSession text (λ session. SaysSession old new session h))
 
--- What the sink was told at each status. At 0 it took the whole text (`IsDone`), and at 7, for want of memory, nothing is said of it. Where
--- frames were served it took their replies alone, at each status (`IsWireRun`)
-pub record Said (task : Option Request) (source_old source_new : SourceState) (limit : ℕ) (old new : SinkState) (status : ℕ) (h : Option HistoryState) : Type 0
+-- What the sink was told at each status. At 0 it took the whole text (`IsDone`), and at 7, for want of memory, nothing
+-- is said of it. Where frames were served it took their replies alone, at each status (`IsWireRun`)
+pub record Said (task : Option Request) (source_old source_new : SourceState) (limit : ℕ) (old new : SinkState)
+    (status : ℕ) (h : Option HistoryState) : Type 0
   where
     pub usage : status ≡ 1 → Prints old new (fixed_line UsageLine)
     pub source : status ≡ 6 → UnlessWire task (Prints old new (fixed_line SourceFaultLine))
     pub too_long : status ≡ 8 → UnlessWire task (Prints old new (fixed_line TooLongLine))
     pub script : status ≡ 2 → UnlessWire task (WithText source_old source_new limit (λ text. SaysFault old new text))
     pub refused : (status ≡ 3) ⊎ (status ≡ 4) → h ≡ None → SaysRefusal task old new status
-    pub part : (status ≡ 3) ⊎ (status ≡ 5) → (x : HistoryState) → h ≡ Some x → SaysText task source_old source_new limit old new h
+    pub part : (status ≡ 3) ⊎ (status ≡ 5) → (x : HistoryState) → h ≡ Some x
+        → SaysText task source_old source_new limit old new h

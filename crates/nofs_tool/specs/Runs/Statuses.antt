@@ -14,7 +14,8 @@ use Rattle.nofs_tool.specs.Runs.Tool.{UnlessWire, WithText}
 use Rattle.nofs_tool.specs.Visits.Wire.{WireEnds}
 
 -- The status of a task has its cause, in what source, sink and device say after it, and in the history
-pub record IsExplained (task : Option Request) (source_old source_new : SourceState) (limit : ℕ) (sink_old sink_new : SinkState) (old new : DiskState)
+pub record IsExplained (task : Option Request) (source_old source_new : SourceState) (limit : ℕ)
+    (sink_old sink_new : SinkState) (old new : DiskState)
     (status : ℕ) (h : Option HistoryState) : Type 0 where
   -- it is one of nine; 7, for want of memory, has no cause here
   pub named : IsStatus status
@@ -34,7 +35,9 @@ pub record IsExplained (task : Option Request) (source_old source_new : SourceSt
   pub sink : status ≡ 5 → Rose sink_old.faults sink_new.faults × IsFaultlessIn task h
 
 -- What a run that served nothing leaves of the device
-pub record KeepsDevice {D : Type 0} (Refused : Type 0) (task : Option Request) (disk last : D) (status : ℕ) (h : Option HistoryState) : Type 0 where
+pub record KeepsDevice {
+    D : Type 0
+    } (Refused : Type 0) (task : Option Request) (disk last : D) (status : ℕ) (h : Option HistoryState) : Type 0 where
   -- 1: no call of the device was made
   pub unmounted : status ≡ 1 → (last ≡ disk) × (h ≡ None)
   -- 2, 6, 8: the same
@@ -43,7 +46,8 @@ pub record KeepsDevice {D : Type 0} (Refused : Type 0) (task : Option Request) (
   pub refused : status ≡ 4 → (h ≡ None) × Refused
 
 -- What holds of one task alone: of an upgrade, of a salvage of the names that are picked, and of frames
-pub record HoldsOfTask (task : Option Request) (picks : List ℕ → Bool) (source_old source_new : SourceState) (sink_old sink_new : SinkState)
+pub record HoldsOfTask (task : Option Request) (picks : List ℕ → Bool) (source_old source_new : SourceState)
+    (sink_old sink_new : SinkState)
     (old new : DiskState) (status : ℕ) (h : Option HistoryState) : Type 0 where
   -- at every moment a crash leaves an image that it could leave before, or that one with version 2
   pub upgrade : task ≡ Some Upgrade → IsTrue old.tells → StaysOrUpgrades old new

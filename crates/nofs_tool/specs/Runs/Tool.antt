@@ -44,10 +44,12 @@ HasSession (Some Wire) old new limit = Unit {0}
 HasSession (Some Run) old new limit = WithText old new limit (λ text. WithSession text (λ _. Unit {0}))
 HasSession (Some (New blocks inodes)) old new limit = WithText old new limit (λ text. WithSession text (λ _. Unit {0}))
 
--- a session was served: no call of the device failed, and the sink took the whole text that follows from the replies in the history
+-- a session was served: no call of the device failed, and the sink took the whole text that follows from the replies in
+-- the history
 abbrev pub IsSessionAnswered : List (List Command) → Option HistoryState → SinkState → SinkState → Type 0
 IsSessionAnswered session None old new = ⊥
-IsSessionAnswered session (Some h) old new = AppendsAll old new (session_text session h.entries) × (has_fault h.entries ≡ false)
+IsSessionAnswered session (Some h) old new = AppendsAll old new (session_text session h.entries)
+    × (has_fault h.entries ≡ false)
 
 -- the mount stood, and no entry has a fault of the device
 abbrev pub IsFaultless : Option HistoryState → Type 0
@@ -79,7 +81,8 @@ abbrev pub IsStatus : ℕ → Type 0
 IsStatus s = (s ≡ 0) ⊎ (s ≡ 1) ⊎ (s ≡ 2) ⊎ (s ≡ 3) ⊎ (s ≡ 4) ⊎ (s ≡ 5) ⊎ (s ≡ 6) ⊎ (s ≡ 7) ⊎ (s ≡ 8)
 
 -- what comes of a mount that serves a session
-pub record MountEnds (found new : DiskState) (sink_old sink_new : SinkState) (status : ℕ) (h : Option HistoryState) : Type 0 where
+pub record MountEnds (found new : DiskState) (sink_old sink_new : SinkState) (status : ℕ)
+    (h : Option HistoryState) : Type 0 where
   pub named : (status ≡ 0) ⊎ (status ≡ 3) ⊎ (status ≡ 5) ⊎ (status ≡ 7)
   pub device : status ≡ 3 → IsFaulty h × Rose found.faults new.faults
   pub faulty : HasFaultOf h → (status ≡ 3) ⊎ (status ≡ 7)
@@ -87,15 +90,16 @@ pub record MountEnds (found new : DiskState) (sink_old sink_new : SinkState) (st
   pub stood : h ≢ None
 
 -- what comes of a session
-pub record SessionEnds (Refused : Type 0) (old new : DiskState) (sink_old sink_new : SinkState) (status : ℕ) (h : Option HistoryState) : Type 0 where
+pub record SessionEnds (Refused : Type 0) (old new : DiskState) (sink_old sink_new : SinkState) (status : ℕ)
+    (h : Option HistoryState) : Type 0 where
   pub named : (status ≡ 0) ⊎ (status ≡ 3) ⊎ (status ≡ 4) ⊎ (status ≡ 5) ⊎ (status ≡ 7)
   pub device : status ≡ 3 → IsFaulty h × Rose old.faults new.faults
   pub faulty : HasFaultOf h → (status ≡ 3) ⊎ (status ≡ 7)
   pub sink : status ≡ 5 → Rose sink_old.faults sink_new.faults × IsFaultless h
   pub refused : status ≡ 4 → (h ≡ None) × Refused
 
--- why a refusal with status 4 came, and what it leaves of the device: no write was made but those of a format. On a device that
--- tells, it is the table of a format's numbers, or that of a superblock's faults
+-- why a refusal with status 4 came, and what it leaves of the device: no write was made but those of a format. On a
+-- device that tells, it is the table of a format's numbers, or that of a superblock's faults
 abbrev pub IsRefusedBy : Option Numbers → DiskState → DiskState → Type 0
 IsRefusedBy (Some numbers) old new =
     ((IsRefusedFormat old numbers.blocks numbers.inodes × KeepsCells old new) ⊎ (old.moment < new.moment))
@@ -104,7 +108,8 @@ IsRefusedBy None old new = KeepsCells old new × ((fault : MountFault) × IsMoun
 
 abbrev pub IsRefusedTask : Option Request → DiskState → DiskState → Type 0
 IsRefusedTask None old new = ⊥
-IsRefusedTask (Some (New blocks inodes)) old new = IsRefusedBy (Some (record { blocks = blocks; inodes = inodes })) old new
+IsRefusedTask (Some (New blocks inodes)) old new =
+    IsRefusedBy (Some (record { blocks = blocks; inodes = inodes })) old new
 IsRefusedTask (Some Run) old new = IsRefusedBy None old new
 IsRefusedTask (Some Scan) old new = IsRefusedBy None old new
 IsRefusedTask (Some Upgrade) old new = IsRefusedUpgrade old new
@@ -112,15 +117,19 @@ IsRefusedTask (Some Salvage) old new = IsRefusedBy None old new
 IsRefusedTask (Some Wire) old new = IsRefusedBy None old new
 IsRefusedTask (Some (Drill start steps)) old new = IsRefusedBy (Some (record { blocks = 4096; inodes = 256 })) old new
 
--- a session was read and served, or the device was scanned, or upgraded; what is said of a salvage and of frames has clauses of its own
-abbrev pub IsDone : Option Request → SourceState → SourceState → ℕ → SinkState → SinkState → DiskState → DiskState → Option HistoryState → Type 0
+-- a session was read and served, or the device was scanned, or upgraded; what is said of a salvage and of frames has
+-- clauses of its own
+abbrev pub IsDone : Option Request
+    → SourceState → SourceState → ℕ → SinkState → SinkState → DiskState → DiskState → Option HistoryState → Type 0
 IsDone None source_old source_new limit old new found last h = ⊥
 IsDone (Some Scan) source_old source_new limit old new found last h = IsScanned found last h old new
 IsDone (Some (Drill start steps)) source_old source_new limit old new found last h = IsDrillDone start steps h old new
 IsDone (Some Salvage) source_old source_new limit old new found last h = IsFaultless h
 IsDone (Some Wire) source_old source_new limit old new found last h = IsFaultless h
-IsDone (Some Upgrade) source_old source_new limit old new found last h = IsUpgraded found last × AppendsAll old new (fixed_line UpgradedLine)
+IsDone (Some Upgrade) source_old source_new limit old new found last h = IsUpgraded found last
+    × AppendsAll old new (fixed_line UpgradedLine)
 IsDone (Some Run) source_old source_new limit old new found last h = WithText source_old source_new limit (λ text.
     WithSession text (λ session. IsSessionAnswered session h old new))
-IsDone (Some (New blocks inodes)) source_old source_new limit old new found last h = WithText source_old source_new limit (λ text.
+IsDone (Some (New blocks inodes)) source_old source_new limit old new found last h =
+    WithText source_old source_new limit (λ text.
     WithSession text (λ session. IsSessionAnswered session h old new))

@@ -14,7 +14,8 @@ use Rattle.nofs_tool.specs.Session.Whole.{IsMet}
 
 -- so many of one kind are used, free and not examined
 abbrev pub kind_text : List ℕ → ℕ → ℕ → ℕ → List ℕ
-kind_text kind used free unchecked = kind ++ decimal used ++ (codes " free " ++ decimal free) ++ (codes " unchecked " ++ decimal unchecked)
+kind_text kind used free unchecked =
+    kind ++ decimal used ++ (codes " free " ++ decimal free) ++ (codes " unchecked " ++ decimal unchecked)
 
 -- the line of a scan
 abbrev pub counts_line : Counts → List ℕ
@@ -32,8 +33,8 @@ pub record CountsDisk (X : Image) (c : Counts) : Type 0 where
   pub blocks_free : c.blocks_free ≡ count_below (λ p. not (is_used_block X p)) (super_at X).blocks
   pub blocks_unchecked : c.blocks_unchecked ≡ 0
 
--- a scan was made: no call of the device failed, and the sink took the line of these counts. Where the premises are met, they are
--- those of the full scan of the disk handed back
+-- a scan was made: no call of the device failed, and the sink took the line of these counts. Where the premises are
+-- met, they are those of the full scan of the disk handed back
 abbrev pub IsScanned : DiskState → DiskState → Option HistoryState → SinkState → SinkState → Type 0
 IsScanned found last None old new = ⊥
 IsScanned found last (Some h) old new = (has_fault h.entries ≡ false) ×

@@ -15,9 +15,10 @@ use Rattle.nofs_serve.specs.Session.{TeamMade}
 use Rattle.std.specs.declared.option.Option.{Option}
 use Rattle.nofs_model.specs.Cells.{SuperBlock}
 
--- Each user is a caller of its own and made just the steps that its commands ask for, in order; each element was examined once;
--- and then caller 0 made all durable. Where memory was wanting, each may have ended early
-pub record IsSessionRun (scripts : List (List Command)) (inodes blocks : ℕ) (short : Bool) (lines : List (List Line)) (H : List Entry1) : Type 0 where
+-- Each user is a caller of its own and made just the steps that its commands ask for, in order; each element was
+-- examined once; and then caller 0 made all durable. Where memory was wanting, each may have ended early
+pub record IsSessionRun (scripts : List (List Command)) (inodes blocks : ℕ) (short : Bool) (lines : List (List Line))
+    (H : List Entry1) : Type 0 where
   pub served : List Entry1
   pub flush : Reply
   pub closes : AddsStep PROGRAM (step.Flush 0 0) flush served H
@@ -32,14 +33,15 @@ pub record IsClosed (d : DiskState) (H : List Entry1) : Type 0 where
   pub made : is_out_of_memory flush ≡ false
   pub settled : flush ≡ reply.Flushed → IsSettled d
 
--- The entries of a history are just the steps that a session asks for: of each user those of its commands, in order, by the replies
--- before; of the sweeps one for each element, the inodes upwards and the blocks downwards; then caller 0's flush of the
--- whole disk; and no other caller has any. Where memory was wanting (`short`), each may have ended early
+-- The entries of a history are just the steps that a session asks for: of each user those of its commands, in order, by
+-- the replies before; of the sweeps one for each element, the inodes upwards and the blocks downwards; then caller 0's
+-- flush of the whole disk; and no other caller has any. Where memory was wanting (`short`), each may have ended early
 abbrev pub FollowsScripts : List (List Command) → SuperBlock → Bool → List Entry1 → Type 0
 FollowsScripts scripts at short H = (lines : List (List Line)) × IsSessionRun scripts at.inodes at.blocks short lines H
 
 -- What a serving leaves: its history, and whether there is a text of it
-pub record IsFollowed (scripts : List (List Command)) (at : SuperBlock) (text : Option (List ℕ)) (H : List Entry1) : Type 0 where
+pub record IsFollowed (scripts : List (List Command)) (at : SuperBlock) (text : Option (List ℕ))
+    (H : List Entry1) : Type 0 where
   pub short : Bool
   pub early : short ≡ true → text ≡ None
   pub follows : FollowsScripts scripts at short H

@@ -1,4 +1,5 @@
--- The premises of what is promised of a disk, and what the machine says of it at the end of a session in which no call failed.
+-- The premises of what is promised of a disk, and what the machine says of it at the end of a session in which no call
+-- failed.
 use Rattle.std.specs.Prelude.{◌≡◌, ℕ, ◌<◌, ◌≤◌, true, false}
 use Rattle.nofs_disk.specs.Disk.{DiskState}
 use Rattle.nofs_super.specs.Raise.{raised}
@@ -10,8 +11,9 @@ use Rattle.nofs_shared.specs.Mount.End.{Ends}
 use Rattle.nofs_shared.specs.Mount.Invariant.{IsSoundDisk}
 use Rattle.nofs_tool.specs.Session.Entries.{has_fault}
 
--- The premises, by the disk that the mount found: it tells what it holds and keeps the model of a device, and each image that it may leave as the
--- mount begins is one that this file system made. A format leaves such a disk, a run keeps it, and so does a crash
+-- The premises, by the disk that the mount found: it tells what it holds and keeps the model of a device, and each
+-- image that it may leave as the mount begins is one that this file system made. A format leaves such a disk, a run
+-- keeps it, and so does a crash
 abbrev pub IsMet : DiskState → Type 0
 IsMet found = IsSoundDisk found
 
@@ -26,7 +28,8 @@ pub record ShowsDisk (at : SuperBlock) (W : World) (X : Image) : Type 0 where
 -- What a mount gives at its end, and its world where no call of the device failed
 pub record Finished (found last : DiskState) (first : ℕ) (h : HistoryState) : Type 0 where
   pub ends : Ends found last first h
-  pub shows : (q : IsMet found) → has_fault h.entries ≡ false → ShowsDisk (raised (super_at found.now)) (ends.contents q).world last.now
+  pub shows : (q : IsMet found)
+      → has_fault h.entries ≡ false → ShowsDisk (raised (super_at found.now)) (ends.contents q).world last.now
 
 -- every inode and every block is known, and the verdict of each is that of the full scan of the disk
 pub record IsWholeScan (W : World) (X : Image) : Type 0 where

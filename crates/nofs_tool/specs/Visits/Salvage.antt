@@ -1,5 +1,6 @@
 -- What a salvage tells: a line for each loss, by the machine's world as the mount found it.
-use Rattle.std.specs.Prelude.{◌≡◌, ℕ, Bool, true, false, ◌&&◌, List, [], ◌++◌, All, IfOk, IfSome, flat_map, codes, slice_set, Result, Ok, Err}
+use Rattle.std.specs.Prelude.{◌≡◌, ℕ, Bool, true, false, ◌&&◌, List, [], ◌++◌, All, IfOk, IfSome, flat_map, codes}
+use Rattle.std.specs.Prelude.{slice_set, Result, Ok, Err}
 use Rattle.std.specs.Prelude.{if◌then◌else◌, None, Some}
 use Rattle.std.proofs.Common.{refl, sym, subst, append-nil}
 use Rattle.std.proofs.lemmas.List.Elements.{All-nil}
@@ -55,7 +56,8 @@ pub record IsWalk (picks : List ℕ → Bool) (told : Result (List Loss) Salvage
   pub reads : MakesReads old new (refusal_by told)
   pub report : IfOk told (λ report. (W : World) → AreAnswered W old new → report ≡ report_of W picks)
   pub refused : (W : World) → HasRoots W.files → AreAnswered W old new → IfSome (refusal_by told) (MayRefuse W.files)
-  pub agreed : IfOk told (λ report. (W : World) → AreAnswered W old new → (is_there W.files 1 1 ≡ true) × (is_there W.files 2 2 ≡ true))
+  pub agreed : IfOk told
+      (λ report. (W : World) → AreAnswered W old new → (is_there W.files 1 1 ≡ true) × (is_there W.files 2 2 ≡ true))
 
 -- the root and the label file are there
 abbrev pub has_both : World → Bool
@@ -70,16 +72,23 @@ abbrev pub found_world : DiskState → World
 found_world found = world_of (slice_set found.now 0 (super_cell (raised (super_at found.now)))) 0
 
 -- a walk that has not begun
-pub walk_none : (picks : List ℕ → Bool) (told : Result (List Loss) SalvageFault) (made : List Made) → told ≡ Err fault.OutOfMemory → IsWalk picks told made made
-walk_none picks told made is = subst (λ (t : Result (List Loss) SalvageFault). IsWalk picks t made made) (sym is) (record {
-  reads = record { made = []; more = sym (append-nil made); read = All-nil (λ (m : Made). IsReadingStep m.0); refused = refl };
-  report = tt;
-  refused = λ W roots a. tt;
-  agreed = tt;
-})
+pub walk_none : (picks : List ℕ → Bool) (told : Result (List Loss) SalvageFault) (made : List Made)
+    → told ≡ Err fault.OutOfMemory → IsWalk picks told made made
+walk_none picks told made is =
+    subst (λ (t : Result (List Loss) SalvageFault). IsWalk picks t made made) (sym is) (record {
+      reads = record {
+        made = [];
+        more = sym (append-nil made);
+        read = All-nil (λ (m : Made). IsReadingStep m.0);
+        refused = refl;
+      };
+      report = tt;
+      refused = λ W roots a. tt;
+      agreed = tt;
+    })
 
--- Caller 1 walked, and the text tells of its walk. Where the premises are met and no call of the device failed, it is that of the
--- report of the world that the mount found
+-- Caller 1 walked, and the text tells of its walk. Where the premises are met and no call of the device failed, it is
+-- that of the report of the world that the mount found
 pub record IsWalkTold (picks : List ℕ → Bool) (found : DiskState) (h : HistoryState) (text : List ℕ) : Type 0 where
   pub result : Result (List Loss) SalvageFault
   pub reads : MakesReads [] (steps_by 1 h.entries) (refusal_by result)
@@ -89,7 +98,8 @@ pub record IsWalkTold (picks : List ℕ → Bool) (found : DiskState) (h : Histo
 -- a salvage was made: no call of the device failed, and the sink took its text
 abbrev pub IsSalvaged : (List ℕ → Bool) → DiskState → Option HistoryState → SinkState → SinkState → Type 0
 IsSalvaged picks found None old new = ⊥
-IsSalvaged picks found (Some h) old new = (has_fault h.entries ≡ false) × ((text : List ℕ) × IsWalkTold picks found h text × AppendsAll old new text)
+IsSalvaged picks found (Some h) old new = (has_fault h.entries ≡ false)
+    × ((text : List ℕ) × IsWalkTold picks found h text × AppendsAll old new text)
 
 -- the text of a walk
 abbrev pub SaysWalk : SinkState → SinkState → Type 0

@@ -1,4 +1,5 @@
--- What the entries of a visit say: of caller 1, who works on the calling thread, of the sweeps, and of caller 0's last flush.
+-- What the entries of a visit say: of caller 1, who works on the calling thread, of the sweeps, and of caller 0's last
+-- flush.
 use Rattle.std.specs.Prelude.{◌≡◌, ℕ, Bool, true, false, List}
 use Rattle.std.specs.Prelude.{None}
 use Rattle.std.specs.declared.option.Option.{Option}
@@ -12,8 +13,8 @@ use Rattle.nofs_history.specs.Callers.{steps_by}
 use Rattle.nofs_shared.specs.Mount.Entries.{AddsStep}
 use Rattle.nofs_serve.specs.Visit.{VisitMade}
 
--- Caller 1 made the steps of its visit, each element was examined once, and then caller 0 made all durable. Where memory was wanting,
--- each may have ended early
+-- Caller 1 made the steps of its visit, each element was examined once, and then caller 0 made all durable. Where
+-- memory was wanting, each may have ended early
 pub record IsVisitRun (Visits : List Made → Type 0) (inodes blocks : ℕ) (short : Bool) (H : List Entry1) : Type 0 where
   pub served : List Entry1
   pub flush : Reply
@@ -26,7 +27,8 @@ abbrev pub FollowsVisit : (List Made → Type 0) → SuperBlock → Bool → Lis
 FollowsVisit Visits at short H = IsVisitRun Visits at.inodes at.blocks short H
 
 -- what a visit leaves: its history, and whether there is a text of it
-pub record IsVisitFollowed (Visits : List Made → Type 0) (at : SuperBlock) (text : Option (List ℕ)) (H : List Entry1) : Type 0 where
+pub record IsVisitFollowed (Visits : List Made → Type 0) (at : SuperBlock) (text : Option (List ℕ))
+    (H : List Entry1) : Type 0 where
   pub short : Bool
   pub early : short ≡ true → text ≡ None
   pub follows : FollowsVisit Visits at short H

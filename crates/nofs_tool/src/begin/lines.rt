@@ -1,6 +1,7 @@
 //! The lines of a run that served no session (docs/FORMAT.md, "Other lines of the program").
 //!
-//! Promise: each line is the one that `specs/Begin/Lines.antt` defines, byte by byte. Where there is no memory for a line, none is given.
+//! Promise: each line is the one that `specs/Begin/Lines.antt` defines, byte by byte. Where there is no memory for a
+//! line, none is given.
 
 ghost use Rattle.std.specs.Prelude.{◌≡◌, ◌++◌, IfOk, OnOk, string_bytes};
 ghost use Rattle.std.specs.Fmt.{decimal};

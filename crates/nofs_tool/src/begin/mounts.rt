@@ -97,10 +97,13 @@ pub(crate) fn format_and_mount<D: Disk + Drop>(
     disk: D,
     numbers: Numbers,
 ) -> Result<Mount<D>, Refused<D>>
-    ensures mount { IfOk result (λ m. (m.first ≡ 0) × (m.core.books.history.entries ≡ []) × ((D.state disk).faults ≤ (D.state m.found.value).faults)) }
-    ensures formatted { IfOk result (λ m. IsFormatted numbers.blocks numbers.inodes (D.state disk) (D.state m.found.value)) }
+    ensures mount { IfOk result (λ m. (m.first ≡ 0) × (m.core.books.history.entries ≡ [])
+        × ((D.state disk).faults ≤ (D.state m.found.value).faults)) }
+    ensures formatted { IfOk result
+        (λ m. IsFormatted numbers.blocks numbers.inodes (D.state disk) (D.state m.found.value)) }
     ensures met { IfOk result (λ m. IsTrue (D.state disk).tells → IsMet (D.state m.found.value)) }
-    ensures refused { IfErr result (λ r. IsUnformatted (D.state disk) (D.state r.disk) numbers.blocks numbers.inodes r.cause) }
+    ensures refused { IfErr result
+        (λ r. IsUnformatted (D.state disk) (D.state r.disk) numbers.blocks numbers.inodes r.cause) }
 {
     let mut disk = disk;
     match format(&mut disk, numbers.blocks, numbers.inodes) {

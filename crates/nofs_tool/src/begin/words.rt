@@ -17,7 +17,8 @@ pub enum Request {
     Run,
     /// Mounts the device, examines all of it, and prints what is used.
     Scan,
-    /// Formats the device, mounts it, serves four users with drawn scripts, and tells whether their files have what was accepted.
+    /// Formats the device, mounts it, serves four users with drawn scripts, and tells whether their files have what was
+    /// accepted.
     Drill { start: u64, steps: u64 },
     /// Raises an image of version 1 to version 2.
     Upgrade,

@@ -1,7 +1,7 @@
 //! What caller 0 reads of the files of a drill.
 //!
-//! Promise: it looks up each file in its directory, asks for its size, and gets each slot below it, in order. A refused look or
-//! stat ends that file. Where memory is wanting it ends early, and has made no other steps than these.
+//! Promise: it looks up each file in its directory, asks for its size, and gets each slot below it, in order. A refused
+//! look or stat ends that file. Where memory is wanting it ends early, and has made no other steps than these.
 
 ghost use Rattle.std.specs.Prelude.{◌≡◌, ◌≤◌, ◌∷◌, ◌++◌, [], length, true};
 ghost use Rattle.std.specs.declared.option.Option.{Option};
@@ -9,7 +9,8 @@ ghost use Rattle.nofs_history.specs.Machine as machine;
 ghost use Rattle.nofs_history.specs.Steps.{is_out_of_memory};
 ghost use Rattle.nofs_history.specs.declared.machine.steps.Step.TheVariants as step;
 ghost use Rattle.nofs_tool.specs.declared.drill.reads.FileRead.{FileRead as ReadOf};
-ghost use Rattle.nofs_tool.specs.Drill.{AreRead, IsFileRead, IsLookedUp, IsOneStep, IsReadAt, IsReadIn, IsWholeRead, ReadsBy, found_in as found_by};
+ghost use Rattle.nofs_tool.specs.Drill.{AreRead, IsFileRead, IsLookedUp, IsOneStep, IsReadAt, IsReadIn, IsWholeRead};
+ghost use Rattle.nofs_tool.specs.Drill.{ReadsBy, found_in as found_by};
 ghost use Rattle.nofs_tool.specs.Drill.{gets_from, is_reading, stat_in as stat_by};
 
 use nofs_dirent::Name;
@@ -39,7 +40,8 @@ fn ask<D: Disk + Drop>(
     asked: Step,
 ) -> Result<Reply, AllocError>
     requires { is_reading asked ≡ true }
-    ensures reads { ReadsBy (IsOneStep asked) result mount.old.core.books.history.entries mount.new.core.books.history.entries }
+    ensures reads { ReadsBy (IsOneStep asked) result mount.old.core.books.history.entries
+        mount.new.core.books.history.entries }
     ensures same { (mount.new.found ≡ mount.old.found) × (mount.new.first ≡ mount.old.first) }
 {
     let reply = mount.step(alloc, PROGRAM, asked);
@@ -81,7 +83,8 @@ fn read_slots<D: Disk + Drop>(
     found: Found,
     count: u64,
 ) -> Result<Vec<Reply>, AllocError>
-    ensures reads { ReadsBy (λ replies made. (length replies.items ≡ count) × (made ≡ gets_from found 0 replies.items)) result
+    ensures reads { ReadsBy (λ replies made. (length replies.items ≡ count)
+        × (made ≡ gets_from found 0 replies.items)) result
         mount.old.core.books.history.entries mount.new.core.books.history.entries }
     ensures same { (mount.new.found ≡ mount.old.found) × (mount.new.first ≡ mount.old.first) }
 {
@@ -107,7 +110,8 @@ fn read_whole<D: Disk + Drop>(
     found: Found,
     stat: Stat,
 ) -> MaybeRead
-    ensures reads { ReadsBy (IsWholeRead found stat) result mount.old.core.books.history.entries mount.new.core.books.history.entries }
+    ensures reads { ReadsBy (IsWholeRead found stat) result mount.old.core.books.history.entries
+        mount.new.core.books.history.entries }
     ensures same { (mount.new.found ≡ mount.old.found) × (mount.new.first ≡ mount.old.first) }
 {
     let slots = read_slots(alloc, mount, found, slots_in(stat.size))?;
@@ -120,7 +124,8 @@ fn read_whole<D: Disk + Drop>(
 
 // Reads the file that was found.
 fn read_found<D: Disk + Drop>(alloc: Global, mount: &mut Mount<D>, found: Found) -> MaybeRead
-    ensures reads { ReadsBy (IsReadAt found) result mount.old.core.books.history.entries mount.new.core.books.history.entries }
+    ensures reads { ReadsBy (IsReadAt found) result mount.old.core.books.history.entries
+        mount.new.core.books.history.entries }
     ensures same { (mount.new.found ≡ mount.old.found) × (mount.new.first ≡ mount.old.first) }
 {
     let stat = Step::Stat {
@@ -142,7 +147,8 @@ fn look_up<D: Disk + Drop>(
     directory: u32,
     generation: u64,
 ) -> Result<Option<Found>, AllocError>
-    ensures reads { ReadsBy (IsLookedUp directory generation name.now) result mount.old.core.books.history.entries mount.new.core.books.history.entries }
+    ensures reads { ReadsBy (IsLookedUp directory generation name.now) result mount.old.core.books.history.entries
+        mount.new.core.books.history.entries }
     ensures same { (mount.new.found ≡ mount.old.found) × (mount.new.first ≡ mount.old.first) }
 {
     let look = Step::Look {
@@ -156,7 +162,8 @@ fn look_up<D: Disk + Drop>(
 
 // Looks up the file in its directory and reads it.
 fn read_in<D: Disk + Drop>(alloc: Global, mount: &mut Mount<D>, directory: Found) -> MaybeRead
-    ensures reads { ReadsBy (IsReadIn directory) result mount.old.core.books.history.entries mount.new.core.books.history.entries }
+    ensures reads { ReadsBy (IsReadIn directory) result mount.old.core.books.history.entries
+        mount.new.core.books.history.entries }
     ensures same { (mount.new.found ≡ mount.old.found) × (mount.new.first ≡ mount.old.first) }
 {
     match look_up(alloc, mount, b"f", directory.inode, directory.generation)? {
@@ -168,7 +175,8 @@ fn read_in<D: Disk + Drop>(alloc: Global, mount: &mut Mount<D>, directory: Found
 // Looks up the directory of a user and reads the file in it.
 fn read_file<D: Disk + Drop>(alloc: Global, mount: &mut Mount<D>, user: u32) -> MaybeRead
     requires { user ≤ 4 }
-    ensures reads { ReadsBy (IsFileRead user) result mount.old.core.books.history.entries mount.new.core.books.history.entries }
+    ensures reads { ReadsBy (IsFileRead user) result mount.old.core.books.history.entries
+        mount.new.core.books.history.entries }
     ensures same { (mount.new.found ≡ mount.old.found) × (mount.new.first ≡ mount.old.first) }
 {
     match look_up(alloc, mount, &[b'0' + user as u8], 1, 1)? {
@@ -194,12 +202,14 @@ fn push_read<D: Disk + Drop>(
     Ok(())
 }
 
-/// Reads the files of the four users, one after the other. None stands for a file of which a look or the stat was refused.
+/// Reads the files of the four users, one after the other. None stands for a file of which a look or the stat was
+/// refused.
 pub(crate) fn read_files<D: Disk + Drop>(
     alloc: Global,
     mount: &mut Mount<D>,
 ) -> Result<Vec<Option<FileRead>>, AllocError>
-    ensures reads { ReadsBy (λ reads made. AreRead 1 reads.items made) result mount.old.core.books.history.entries mount.new.core.books.history.entries }
+    ensures reads { ReadsBy (λ reads made. AreRead 1 reads.items made) result mount.old.core.books.history.entries
+        mount.new.core.books.history.entries }
     ensures same { (mount.new.found ≡ mount.old.found) × (mount.new.first ≡ mount.old.first) }
 {
     let mut reads = Vec::new(alloc);

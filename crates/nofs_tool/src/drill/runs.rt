@@ -1,15 +1,18 @@
-//! The drill: four users with drawn scripts at a fresh mount, and a line that tells whether their files have what was accepted.
+//! The drill: four users with drawn scripts at a fresh mount, and a line that tells whether their files have what was
+//! accepted.
 //!
-//! Promise: where the line is told, each user made just the steps of its script, caller 0 read the four files after them and
-//! made all durable, and the numbers are those of the lines, of these reads, and of a replay of the history. Where none is told
-//! each of them may have ended early, and made no other steps.
+//! Promise: where the line is told, each user made just the steps of its script, caller 0 read the four files after
+//! them and made all durable, and the numbers are those of the lines, of these reads, and of a replay of the history.
+//! Where none is told each of them may have ended early, and made no other steps.
 
-ghost use Rattle.std.specs.Prelude.{◌≡◌, ◌≤◌, ◌∷◌, ◌++◌, ◌+◌, [], false, sum_by, count_by, All, map, vec_len, IfOk, IfSome, OnOk};
+ghost use Rattle.std.specs.Prelude.{◌≡◌, ◌≤◌, ◌∷◌, ◌++◌, ◌+◌, [], false, sum_by, count_by, All, map, vec_len, IfOk};
+ghost use Rattle.std.specs.Prelude.{IfSome, OnOk};
 ghost use Rattle.nofs_client.specs.Task.Commands.{AreWellFormed};
 ghost use Rattle.nofs_gen.specs.Script.{script_of as script_in};
 ghost use Rattle.nofs_tool.specs.Session.Serve.{IsClosed};
 ghost use Rattle.nofs_tool.specs.Session.Whole.{Finished};
-ghost use Rattle.nofs_tool.specs.Drill.{IsDrillFollowed, IsDrilled, IsReadFollowed, IsReadOut, drill_line, drill_session, is_refused_line, size_told};
+ghost use Rattle.nofs_tool.specs.Drill.{IsDrillFollowed, IsDrilled, IsReadFollowed, IsReadOut, drill_line};
+ghost use Rattle.nofs_tool.specs.Drill.{drill_session, is_refused_line, size_told};
 ghost use Rattle.nofs_tool.specs.Drill.{sum_told, wrong_told};
 
 use crate::drill::reads::{FileRead, read_files};
@@ -38,7 +41,8 @@ fn push_plan(
     requires steps { steps ≤ 4000 }
     requires user { (1 ≤ user) × (user ≤ 4) }
     ensures more { OnOk result (vec_len plans.new ≡ vec_len plans.old + 1) }
-    ensures scripts { OnOk result (map (λ p. p.commands) plans.new.items ≡ map (λ p. p.commands) plans.old.items ++ script_in start steps user ∷ []) }
+    ensures scripts { OnOk result (map (λ p. p.commands) plans.new.items ≡ map (λ p. p.commands) plans.old.items
+        ++ script_in start steps user ∷ []) }
 {
     let commands = script_of(alloc, start, steps, user)?;
     let plan = Plan {
@@ -74,7 +78,8 @@ fn line_of(
     history: &History,
 ) -> Result<Content, AllocError>
     requires { steps ≤ 4000 }
-    ensures { IfOk result (λ text. text ≡ drill_line start steps (sum_by (count_by is_refused_line) users.now) (sum_by size_told reads.now)
+    ensures { IfOk result (λ text. text ≡ drill_line start steps (sum_by (count_by is_refused_line) users.now)
+        (sum_by size_told reads.now)
         (sum_by sum_told reads.now) (sum_by (wrong_told history.now.entries) reads.now)) }
 {
     let told = numbers_of(alloc, users, reads, history)?;
@@ -89,11 +94,14 @@ fn read_and_close<D: Disk + Drop>(
     served: Served<Mount<D>>,
 ) -> Ran<D>
     requires { steps ≤ 4000 }
-    ensures ends { ∥ Finished (D.state served.mount.found.value) (D.state result.disk) served.mount.first result.history ∥₁ }
+    ensures ends { ∥ Finished (D.state served.mount.found.value)
+        (D.state result.disk) served.mount.first result.history ∥₁ }
     ensures closed { IfSome result.text (λ _. IsClosed (D.state result.disk) result.history.entries) }
     ensures out { IfSome result.text (λ text. (served.out_of_memory ≡ false)
-        × IsReadOut start steps (sum_by (count_by is_refused_line) served.lines.items) served.mount.core.books.history.entries result.history.entries text) }
-    ensures follows { IsReadFollowed served.out_of_memory served.mount.core.books.history.entries result.text result.history.entries }
+        × IsReadOut start steps (sum_by (count_by is_refused_line) served.lines.items)
+        served.mount.core.books.history.entries result.history.entries text) }
+    ensures follows { IsReadFollowed served.out_of_memory served.mount.core.books.history.entries result.text
+        result.history.entries }
 {
     let Served {
         mount,

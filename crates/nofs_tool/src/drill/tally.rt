@@ -1,13 +1,15 @@
 //! The line of a drill (docs/FORMAT.md, "Other lines of the program").
 //!
-//! Promise: its numbers are those of the definition, for what was read and a plain replay of the history. A number that 64 bits
-//! can't hold is told as want of memory: no file system is that large.
+//! Promise: its numbers are those of the definition, for what was read and a plain replay of the history. A number that
+//! 64 bits can't hold is told as want of memory: no file system is that large.
 
 ghost use Rattle.std.specs.Prelude.{◌≡◌, ◌≤◌, ◌<◌, ◌+◌, ◌*◌, IfOk, take, if◌then◌else◌, sum, sum_by, count_by};
 ghost use Rattle.nofs_history.specs.Machine.{cut_of};
 ghost use Rattle.nofs_gen.specs.Replay.{slot_value};
-ghost use Rattle.nofs_tool.specs.Drill.{drill_line, is_bytes_read as is_bytes_in, is_hole_read as is_hole_in, is_refused_line};
-ghost use Rattle.nofs_tool.specs.Drill.{is_value_read as is_value_in, size_told as size_of, slot_sum as slot_sum_of, slots_sum as slots_sum_of};
+ghost use Rattle.nofs_tool.specs.Drill.{drill_line, is_bytes_read as is_bytes_in, is_hole_read as is_hole_in};
+ghost use Rattle.nofs_tool.specs.Drill.{is_refused_line};
+ghost use Rattle.nofs_tool.specs.Drill.{is_value_read as is_value_in, size_told as size_of, slot_sum as slot_sum_of};
+ghost use Rattle.nofs_tool.specs.Drill.{slots_sum as slots_sum_of};
 ghost use Rattle.nofs_tool.specs.Drill.{slots_wrong as slots_wrong_of, sum_told as sum_of, wrong_told as wrong_of};
 
 use crate::drill::reads::FileRead;
@@ -268,7 +270,8 @@ pub(crate) fn drill_text(
     told: &DrillNumbers,
 ) -> Result<Content, AllocError>
     requires { steps ≤ 4000 }
-    ensures { IfOk result (λ text. text ≡ drill_line start steps told.now.refused told.now.bytes told.now.sum told.now.wrong) }
+    ensures { IfOk result
+        (λ text. text ≡ drill_line start steps told.now.refused told.now.bytes told.now.sum told.now.wrong) }
 {
     let mut text = Vec::new(alloc);
     push_number(alloc, &mut text, "drill ", start)?;

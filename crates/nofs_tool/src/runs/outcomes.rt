@@ -1,6 +1,7 @@
 //! What a run ends with, and what its sink was told.
 
-ghost use Rattle.std.specs.Prelude.{◌≡◌, ◌≢◌, ◌↔◌, ◌⊎◌, None, Some, true, false, ℕ, List, IfOk, IfSome, OnErr, OnOk, string_bytes};
+ghost use Rattle.std.specs.Prelude.{◌≡◌, ◌≢◌, ◌↔◌, ◌⊎◌, None, Some, true, false, ℕ, List, IfOk, IfSome, OnErr, OnOk};
+ghost use Rattle.std.specs.Prelude.{string_bytes};
 ghost use Rattle.nofs_disk.specs.Disk.{Rose};
 ghost use Rattle.nofs_io.specs.Texts.{AppendsAll};
 ghost use Rattle.nofs_tool.specs.Begin.Mounts.{status_of as status_in};
@@ -60,7 +61,8 @@ pub(crate) fn told_text<K: Sink, D>(
     line: Result<String, AllocError>,
 ) -> Outcome<D>
     ensures is { (result.status ≡ status) × (result.disk ≡ disk) × (result.history ≡ None) }
-    ensures says { (text : List ℕ) → IfOk line (λ l. string_bytes l ≡ text) → PrintsOrNot (K.state sink.old) (K.state sink.new) text }
+    ensures says { (text : List ℕ) → IfOk line (λ l. string_bytes l ≡ text)
+        → PrintsOrNot (K.state sink.old) (K.state sink.new) text }
 {
     match line {
         Ok(line) => told(sink, disk, status, line.as_str()),
@@ -92,7 +94,8 @@ pub(crate) fn written<K: Sink, D: Disk>(sink: &mut K, ran: Ran<D>) -> Outcome<D>
     ensures disk { (result.disk ≡ ran.disk) × (result.history ≡ Some ran.history) }
     ensures device { result.status ≡ 3 → has_fault ran.history.entries ≡ true }
     ensures faulty { has_fault ran.history.entries ≡ true → (result.status ≡ 3) ⊎ (result.status ≡ 7) }
-    ensures sink { result.status ≡ 5 → Rose (K.state sink.old).faults (K.state sink.new).faults × (has_fault ran.history.entries ≡ false) }
+    ensures sink { result.status ≡ 5
+        → Rose (K.state sink.old).faults (K.state sink.new).faults × (has_fault ran.history.entries ≡ false) }
     ensures done { result.status ≡ 0 → (has_fault ran.history.entries ≡ false) × (ran.text ≢ None)
         × IfSome ran.text (AppendsAll (K.state sink.old) (K.state sink.new)) }
     ensures named { (result.status ≡ 0) ⊎ (result.status ≡ 3) ⊎ (result.status ≡ 5) ⊎ (result.status ≡ 7) }

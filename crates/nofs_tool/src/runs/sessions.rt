@@ -32,10 +32,13 @@ fn mounted<R: Threads + Wait + Sync, K: Sink, D: Disk + Drop + Send>(
     requires session { IsSession session }
     requires new { mount.core.books.history.entries ≡ [] }
     requires first { mount.first ≡ 0 }
-    ensures headline { IfSome result.history (λ h. ∥ IsHeadline session (D.state mount.found.value) (D.state result.disk) result.status h ∥₁) }
-    ensures ends { MountEnds (D.state mount.found.value) (D.state result.disk) (K.state sink.old) (K.state sink.new) result.status result.history }
+    ensures headline { IfSome result.history
+        (λ h. ∥ IsHeadline session (D.state mount.found.value) (D.state result.disk) result.status h ∥₁) }
+    ensures ends { MountEnds (D.state mount.found.value) (D.state result.disk) (K.state sink.old)
+        (K.state sink.new) result.status result.history }
     ensures done { result.status ≡ 0 → IsSessionAnswered session result.history (K.state sink.old) (K.state sink.new) }
-    ensures part { (result.status ≡ 3) ⊎ (result.status ≡ 5) → SaysSession (K.state sink.old) (K.state sink.new) session result.history }
+    ensures part { (result.status ≡ 3) ⊎ (result.status ≡ 5)
+        → SaysSession (K.state sink.old) (K.state sink.new) session result.history }
 {
     written(sink, run_session(rt, alloc, mount, session))
 }
@@ -50,12 +53,15 @@ fn new_outcome<R: Threads + Wait + Sync, K: Sink, D: Disk + Drop + Send>(
     session: Session,
 ) -> Outcome<D>
     requires { IsSession session }
-    ensures headline { IfSome result.history (HeadlineOf D.state (Some numbers) session disk (D.state result.disk) result.status) }
-    ensures ends { SessionEnds (IsRefusedBy (Some numbers) (D.state disk) (D.state result.disk)) (D.state disk) (D.state result.disk)
+    ensures headline { IfSome result.history
+        (HeadlineOf D.state (Some numbers) session disk (D.state result.disk) result.status) }
+    ensures ends { SessionEnds (IsRefusedBy (Some numbers) (D.state disk) (D.state result.disk)) (D.state disk)
+        (D.state result.disk)
         (K.state sink.old) (K.state sink.new) result.status result.history }
     ensures done { result.status ≡ 0 → IsSessionAnswered session result.history (K.state sink.old) (K.state sink.new) }
     ensures unserved { result.history ≡ None → SaysCause (K.state sink.old) (K.state sink.new) result.status }
-    ensures part { (result.status ≡ 3) ⊎ (result.status ≡ 5) → SaysSession (K.state sink.old) (K.state sink.new) session result.history }
+    ensures part { (result.status ≡ 3) ⊎ (result.status ≡ 5)
+        → SaysSession (K.state sink.old) (K.state sink.new) session result.history }
 {
     match format_and_mount(alloc, disk, numbers) {
         Ok(mount) => mounted(rt, alloc, sink, mount, session),
@@ -72,12 +78,15 @@ fn run_outcome<R: Threads + Wait + Sync, K: Sink, D: Disk + Drop + Send>(
     session: Session,
 ) -> Outcome<D>
     requires { IsSession session }
-    ensures headline { IfSome result.history (HeadlineOf D.state None session disk (D.state result.disk) result.status) }
-    ensures ends { SessionEnds (IsRefusedBy None (D.state disk) (D.state result.disk)) (D.state disk) (D.state result.disk)
+    ensures headline { IfSome result.history
+        (HeadlineOf D.state None session disk (D.state result.disk) result.status) }
+    ensures ends { SessionEnds (IsRefusedBy None (D.state disk) (D.state result.disk)) (D.state disk)
+        (D.state result.disk)
         (K.state sink.old) (K.state sink.new) result.status result.history }
     ensures done { result.status ≡ 0 → IsSessionAnswered session result.history (K.state sink.old) (K.state sink.new) }
     ensures unserved { result.history ≡ None → SaysCause (K.state sink.old) (K.state sink.new) result.status }
-    ensures part { (result.status ≡ 3) ⊎ (result.status ≡ 5) → SaysSession (K.state sink.old) (K.state sink.new) session result.history }
+    ensures part { (result.status ≡ 3) ⊎ (result.status ≡ 5)
+        → SaysSession (K.state sink.old) (K.state sink.new) session result.history }
 {
     match mount(alloc, disk) {
         Ok(mount) => mounted(rt, alloc, sink, mount, session),
@@ -95,12 +104,15 @@ fn session_outcome<R: Threads + Wait + Sync, K: Sink, D: Disk + Drop + Send>(
     session: Session,
 ) -> Outcome<D>
     requires { IsSession session }
-    ensures headline { IfSome result.history (HeadlineOf D.state numbers session disk (D.state result.disk) result.status) }
-    ensures ends { SessionEnds (IsRefusedBy numbers (D.state disk) (D.state result.disk)) (D.state disk) (D.state result.disk)
+    ensures headline { IfSome result.history
+        (HeadlineOf D.state numbers session disk (D.state result.disk) result.status) }
+    ensures ends { SessionEnds (IsRefusedBy numbers (D.state disk) (D.state result.disk)) (D.state disk)
+        (D.state result.disk)
         (K.state sink.old) (K.state sink.new) result.status result.history }
     ensures unserved { result.history ≡ None → SaysCause (K.state sink.old) (K.state sink.new) result.status }
     ensures done { result.status ≡ 0 → IsSessionAnswered session result.history (K.state sink.old) (K.state sink.new) }
-    ensures part { (result.status ≡ 3) ⊎ (result.status ≡ 5) → SaysSession (K.state sink.old) (K.state sink.new) session result.history }
+    ensures part { (result.status ≡ 3) ⊎ (result.status ≡ 5)
+        → SaysSession (K.state sink.old) (K.state sink.new) session result.history }
 {
     match numbers {
         Some(numbers) => new_outcome(rt, alloc, sink, disk, numbers, session),
@@ -120,12 +132,16 @@ fn text_outcome<R: Threads + Wait + Sync, K: Sink, D: Disk + Drop + Send>(
     ensures headline { IfSome result.history (λ h. WithSession text.now (λ session.
         HeadlineOf D.state numbers session disk (D.state result.disk) result.status h)) }
     ensures script { result.status ≡ 2 → IsNoSession text.now × (result.disk ≡ disk) × (result.history ≡ None) }
-    ensures ends { result.status ≢ 2 → SessionEnds (IsRefusedBy numbers (D.state disk) (D.state result.disk)) (D.state disk) (D.state result.disk)
+    ensures ends { result.status ≢ 2
+        → SessionEnds (IsRefusedBy numbers (D.state disk) (D.state result.disk)) (D.state disk) (D.state result.disk)
         (K.state sink.old) (K.state sink.new) result.status result.history }
-    ensures session { (result.status ≡ 0) ⊎ (result.status ≡ 3) ⊎ (result.status ≡ 4) ⊎ (result.status ≡ 5) → WithSession text.now (λ _. Unit {0}) }
-    ensures done { result.status ≡ 0 → WithSession text.now (λ session. IsSessionAnswered session result.history (K.state sink.old) (K.state sink.new)) }
+    ensures session { (result.status ≡ 0) ⊎ (result.status ≡ 3) ⊎ (result.status ≡ 4) ⊎ (result.status ≡ 5)
+        → WithSession text.now (λ _. Unit {0}) }
+    ensures done { result.status ≡ 0 → WithSession text.now
+        (λ session. IsSessionAnswered session result.history (K.state sink.old) (K.state sink.new)) }
     ensures fault { result.status ≡ 2 → SaysFault (K.state sink.old) (K.state sink.new) text.now }
-    ensures unserved { (result.status ≡ 3) ⊎ (result.status ≡ 4) → result.history ≡ None → SaysCause (K.state sink.old) (K.state sink.new) result.status }
+    ensures unserved { (result.status ≡ 3) ⊎ (result.status ≡ 4)
+        → result.history ≡ None → SaysCause (K.state sink.old) (K.state sink.new) result.status }
     ensures part { (result.status ≡ 3) ⊎ (result.status ≡ 5)
         → WithSession text.now (λ session. SaysSession (K.state sink.old) (K.state sink.new) session result.history) }
 {
@@ -136,8 +152,8 @@ fn text_outcome<R: Threads + Wait + Sync, K: Sink, D: Disk + Drop + Send>(
     }
 }
 
-// What comes of a source. But for the headline and a refusal, what is promised is that of `run`, also where the device is
-// formatted first.
+// What comes of a source. But for the headline and a refusal, what is promised is that of `run`, also where the device
+// is formatted first.
 pub(crate) fn source_outcome<R: Threads + Wait + Sync, S: Source, K: Sink, D: Disk + Drop + Send>(
     rt: &R,
     alloc: Global,
@@ -146,16 +162,20 @@ pub(crate) fn source_outcome<R: Threads + Wait + Sync, S: Source, K: Sink, D: Di
     disk: D,
     numbers: Option<Numbers>,
 ) -> Outcome<D>
-    ensures headline { IfSome result.history (λ h. WithText (S.state source.old) (S.state source.new) TEXT_LIMIT (λ text.
+    ensures headline { IfSome result.history
+        (λ h. WithText (S.state source.old) (S.state source.new) TEXT_LIMIT (λ text.
         WithSession text (λ session. HeadlineOf D.state numbers session disk (D.state result.disk) result.status h))) }
     ensures usage { result.status ≢ 1 }
-    ensures causes { IsExplained (Some Request.Run) (S.state source.old) (S.state source.new) TEXT_LIMIT (K.state sink.old) (K.state sink.new)
+    ensures causes { IsExplained (Some Request.Run) (S.state source.old) (S.state source.new) TEXT_LIMIT
+        (K.state sink.old) (K.state sink.new)
         (D.state disk) (D.state result.disk) result.status result.history }
-    ensures kept { KeepsDevice (IsRefusedBy numbers (D.state disk) (D.state result.disk)) (Some Request.Run) disk result.disk result.status
+    ensures kept { KeepsDevice (IsRefusedBy numbers (D.state disk) (D.state result.disk))
+        (Some Request.Run) disk result.disk result.status
         result.history }
     ensures done { result.status ≡ 0 → WithText (S.state source.old) (S.state source.new) TEXT_LIMIT (λ text.
         WithSession text (λ session. IsSessionAnswered session result.history (K.state sink.old) (K.state sink.new))) }
-    ensures said { Said (Some Request.Run) (S.state source.old) (S.state source.new) TEXT_LIMIT (K.state sink.old) (K.state sink.new) result.status
+    ensures said { Said (Some Request.Run) (S.state source.old) (S.state source.new) TEXT_LIMIT (K.state sink.old)
+        (K.state sink.new) result.status
         result.history }
 {
     match read_all(alloc, source, TEXT_LIMIT) {

@@ -30,11 +30,14 @@ pub(crate) fn scan_outcome<R: Threads + Wait + Sync, K: Sink, D: Disk + Drop + S
     disk: D,
 ) -> Outcome<D>
     ensures headline { IfSome result.history (HeadlineOf D.state None [] disk (D.state result.disk) result.status) }
-    ensures ends { SessionEnds (IsRefusedBy None (D.state disk) (D.state result.disk)) (D.state disk) (D.state result.disk)
+    ensures ends { SessionEnds (IsRefusedBy None (D.state disk) (D.state result.disk)) (D.state disk)
+        (D.state result.disk)
         (K.state sink.old) (K.state sink.new) result.status result.history }
-    ensures done { result.status ≡ 0 → IsScanned (D.state disk) (D.state result.disk) result.history (K.state sink.old) (K.state sink.new) }
+    ensures done { result.status ≡ 0
+        → IsScanned (D.state disk) (D.state result.disk) result.history (K.state sink.old) (K.state sink.new) }
     ensures unserved { result.history ≡ None → SaysCause (K.state sink.old) (K.state sink.new) result.status }
-    ensures part { (result.status ≡ 3) ⊎ (result.status ≡ 5) → result.history ≢ None → SaysCounts (K.state sink.old) (K.state sink.new) }
+    ensures part { (result.status ≡ 3) ⊎ (result.status ≡ 5)
+        → result.history ≢ None → SaysCounts (K.state sink.old) (K.state sink.new) }
 {
     match mount(alloc, disk) {
         Ok(mount) => written(sink, run_scan(rt, alloc, mount)),
@@ -50,12 +53,16 @@ pub(crate) fn salvage_outcome<R: Threads + Wait + Sync, K: Sink, D: Disk + Drop 
     disk: D,
     words: &[String],
 ) -> Outcome<D>
-    ensures headline { IfSome result.history (λ h. ∥ IsHeadlineOf (FollowsVisit AreReads) (D.state disk) (D.state result.disk) result.status h ∥₁) }
-    ensures ends { SessionEnds (IsRefusedBy None (D.state disk) (D.state result.disk)) (D.state disk) (D.state result.disk)
+    ensures headline { IfSome result.history
+        (λ h. ∥ IsHeadlineOf (FollowsVisit AreReads) (D.state disk) (D.state result.disk) result.status h ∥₁) }
+    ensures ends { SessionEnds (IsRefusedBy None (D.state disk) (D.state result.disk)) (D.state disk)
+        (D.state result.disk)
         (K.state sink.old) (K.state sink.new) result.status result.history }
-    ensures done { result.status ≡ 0 → IsSalvaged (picks_in (map string_bytes words.now)) (D.state disk) result.history (K.state sink.old) (K.state sink.new) }
+    ensures done { result.status ≡ 0 → IsSalvaged (picks_in (map string_bytes words.now)) (D.state disk) result.history
+        (K.state sink.old) (K.state sink.new) }
     ensures unserved { result.history ≡ None → SaysCause (K.state sink.old) (K.state sink.new) result.status }
-    ensures part { (result.status ≡ 3) ⊎ (result.status ≡ 5) → result.history ≢ None → SaysWalk (K.state sink.old) (K.state sink.new) }
+    ensures part { (result.status ≡ 3) ⊎ (result.status ≡ 5)
+        → result.history ≢ None → SaysWalk (K.state sink.old) (K.state sink.new) }
 {
     match mount(alloc, disk) {
         Ok(mount) => written(sink, run_salvage(rt, alloc, mount, words)),
@@ -79,12 +86,15 @@ pub(crate) fn drill_outcome<R: Threads + Wait + Sync, K: Sink, D: Disk + Drop + 
     steps: u64,
 ) -> Outcome<D>
     requires { steps ≤ 4000 }
-    ensures headline { IfSome result.history (IsDrillHeadline D.state start steps disk (D.state result.disk) result.status) }
-    ensures ends { SessionEnds (IsRefusedBy (Some (record { blocks = 4096; inodes = 256 })) (D.state disk) (D.state result.disk))
+    ensures headline { IfSome result.history
+        (IsDrillHeadline D.state start steps disk (D.state result.disk) result.status) }
+    ensures ends { SessionEnds
+        (IsRefusedBy (Some (record { blocks = 4096; inodes = 256 })) (D.state disk) (D.state result.disk))
         (D.state disk) (D.state result.disk) (K.state sink.old) (K.state sink.new) result.status result.history }
     ensures done { result.status ≡ 0 → IsDrillDone start steps result.history (K.state sink.old) (K.state sink.new) }
     ensures unserved { result.history ≡ None → SaysCause (K.state sink.old) (K.state sink.new) result.status }
-    ensures part { (result.status ≡ 3) ⊎ (result.status ≡ 5) → SaysDrill (K.state sink.old) (K.state sink.new) start steps result.history }
+    ensures part { (result.status ≡ 3) ⊎ (result.status ≡ 5)
+        → SaysDrill (K.state sink.old) (K.state sink.new) start steps result.history }
 {
     match format_and_mount(alloc, disk, DRILL) {
         Ok(mount) => written(sink, run_drill(rt, alloc, mount, start, steps)),

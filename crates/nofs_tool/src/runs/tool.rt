@@ -1,8 +1,8 @@
 //! The program's call: words, a source, a sink and a device in; a status, the device and the history out.
 //!
-//! Promise: each status says what came of the run, in the order 1, 6, 8, 2, 4, 7, 3, 5, 0 of what is found first. At status 0
-//! the sink took the whole text of the session, as it follows from the replies in the history. Wherever there is a history, the
-//! headline holds of it.
+//! Promise: each status says what came of the run, in the order 1, 6, 8, 2, 4, 7, 3, 5, 0 of what is found first. At
+//! status 0 the sink took the whole text of the session, as it follows from the replies in the history. Wherever there
+//! is a history, the headline holds of it.
 
 ghost use Rattle.std.specs.Prelude.{◌≡◌, ◌↔◌, ◌⊎◌, None, Some, map, IfSome, string_bytes};
 ghost use Rattle.nofs_tool.specs.Begin.Words.{picks_in, task_in};
@@ -40,22 +40,27 @@ use std::thread::Threads;
 /// | 5 | only where the sink failed |
 /// | 0 | where none of these came |
 ///
-/// At status 1, and at 2, 6 and 8 but of `wire`, no call of the device was made; at 4 no write was made but a format's, and a device that
-/// tells was refused by the table of the numbers or of the superblock's faults (`KeepsDevice` in specs/Runs/Statuses.antt here).
-/// At 0, 3, 4 and 5 of `new` and `run` the text is a session. Each cause is a field of `IsExplained` there, by its name.
+/// At status 1, and at 2, 6 and 8 but of `wire`, no call of the device was made; at 4 no write was made but a format's,
+/// and a device that tells was refused by the table of the numbers or of the superblock's faults (`KeepsDevice` in
+/// specs/Runs/Statuses.antt here). At 0, 3, 4 and 5 of `new` and `run` the text is a session. Each cause is a field of
+/// `IsExplained` there, by its name.
 ///
-/// What the sink was told at each status is in `Said` (specs/Runs/Said.antt there): the line of that status, or the session's text, or a part of it.
+/// What the sink was told at each status is in `Said` (specs/Runs/Said.antt there): the line of that status, or the
+/// session's text, or a part of it.
 ///
-/// Where there is a history, the headline holds of it (`IsHeadline` in specs/Runs/Headline.antt there): its entries are the steps that the
-/// session asks for; and where the premises are met, it is a run of the machine, and at every moment a crash leaves only
-/// what it allows.
+/// Where there is a history, the headline holds of it (`IsHeadline` in specs/Runs/Headline.antt there): its entries are
+/// the steps that the session asks for; and where the premises are met, it is a run of the machine, and at every moment
+/// a crash leaves only what it allows.
 ///
-/// A salvage tells what is lost in the world that the mount found (`IsSalvaged` in specs/Visits/Salvage.antt here). Frames are served
-/// until they end (`WireEnds` in specs/Visits/Wire.antt here); of its statuses 6, 8, 2 and 7 come before 3, and 5 after it.
+/// A salvage tells what is lost in the world that the mount found (`IsSalvaged` in specs/Visits/Salvage.antt here).
+/// Frames are served until they end (`WireEnds` in specs/Visits/Wire.antt here); of its statuses 6, 8, 2 and 7 come
+/// before 3, and 5 after it.
 ///
-/// An upgrade begins no mount: at each moment of it a crash leaves an image that it could leave before, or that one with version 2.
+/// An upgrade begins no mount: at each moment of it a crash leaves an image that it could leave before, or that one
+/// with version 2.
 ///
-/// Where the words are a command, its session is one, its device is ready, and no count of faults rose, the status is 0 or 7.
+/// Where the words are a command, its session is one, its device is ready, and no count of faults rose, the status is 0
+/// or 7.
 pub fn tool<R: Threads + Wait + Sync, S: Source, K: Sink, D: Disk + Drop + Send>(
     rt: &R,
     alloc: Global,
@@ -64,21 +69,29 @@ pub fn tool<R: Threads + Wait + Sync, S: Source, K: Sink, D: Disk + Drop + Send>
     sink: &mut K,
     disk: D,
 ) -> Outcome<D>
-    ensures headline { IfSome result.history (HeadlineIn D.state (task_in (map string_bytes words.now)) (S.state source.old) (S.state source.new)
+    ensures headline { IfSome result.history
+        (HeadlineIn D.state (task_in (map string_bytes words.now)) (S.state source.old) (S.state source.new)
         TEXT_LIMIT disk (D.state result.disk) result.status) }
     ensures usage { result.status ≡ 1 ↔ task_in (map string_bytes words.now) ≡ None }
-    ensures causes { IsExplained (task_in (map string_bytes words.now)) (S.state source.old) (S.state source.new) TEXT_LIMIT (K.state sink.old)
+    ensures causes { IsExplained (task_in (map string_bytes words.now)) (S.state source.old)
+        (S.state source.new) TEXT_LIMIT (K.state sink.old)
         (K.state sink.new) (D.state disk) (D.state result.disk) result.status result.history }
-    ensures kept { KeepsDevice (IsRefusedTask (task_in (map string_bytes words.now)) (D.state disk) (D.state result.disk))
+    ensures kept { KeepsDevice
+        (IsRefusedTask (task_in (map string_bytes words.now)) (D.state disk) (D.state result.disk))
         (task_in (map string_bytes words.now)) disk result.disk result.status result.history }
-    ensures done { result.status ≡ 0 → IsDone (task_in (map string_bytes words.now)) (S.state source.old) (S.state source.new) TEXT_LIMIT
+    ensures done { result.status ≡ 0
+        → IsDone (task_in (map string_bytes words.now)) (S.state source.old) (S.state source.new) TEXT_LIMIT
         (K.state sink.old) (K.state sink.new) (D.state disk) (D.state result.disk) result.history }
-    ensures said { Said (task_in (map string_bytes words.now)) (S.state source.old) (S.state source.new) TEXT_LIMIT (K.state sink.old)
+    ensures said { Said (task_in (map string_bytes words.now)) (S.state source.old) (S.state source.new) TEXT_LIMIT
+        (K.state sink.old)
         (K.state sink.new) result.status result.history }
-    ensures further { HoldsOfTask (task_in (map string_bytes words.now)) (picks_in (map string_bytes words.now)) (S.state source.old)
-        (S.state source.new) (K.state sink.old) (K.state sink.new) (D.state disk) (D.state result.disk) result.status result.history }
+    ensures further { HoldsOfTask (task_in (map string_bytes words.now)) (picks_in (map string_bytes words.now))
+        (S.state source.old)
+        (S.state source.new) (K.state sink.old) (K.state sink.new) (D.state disk)
+        (D.state result.disk) result.status result.history }
     ensures complete { IsReady (task_in (map string_bytes words.now)) (S.state source.old) TEXT_LIMIT (D.state disk)
-        → NoneRose (S.state source.old) (S.state source.new) (D.state disk) (D.state result.disk) (K.state sink.old) (K.state sink.new)
+        → NoneRose (S.state source.old) (S.state source.new) (D.state disk) (D.state result.disk) (K.state sink.old)
+        (K.state sink.new)
         → (result.status ≡ 0) ⊎ (result.status ≡ 7) }
 {
     match task_of(words) {

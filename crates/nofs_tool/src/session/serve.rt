@@ -4,7 +4,8 @@
 //! names; the flusher makes no entry, and the program itself the last one, a flush of the whole disk. The text is that
 //! of the session by the replies in the history; there is none where memory was wanting.
 
-ghost use Rattle.std.specs.Prelude.{◌≡◌, ◌≤◌, ◌<◌, ◌++◌, [], None, Some, slice_get, true, false, not, map, flat_map, All, List, vec_len, IfOk, IfSome, OnOk};
+ghost use Rattle.std.specs.Prelude.{◌≡◌, ◌≤◌, ◌<◌, ◌++◌, [], None, Some, slice_get, true, false, not, map, flat_map};
+ghost use Rattle.std.specs.Prelude.{All, List, vec_len, IfOk, IfSome, OnOk};
 ghost use Rattle.nofs_history.specs.Steps.{is_out_of_memory};
 ghost use Rattle.nofs_history.specs.declared.machine.history.Entry1.{Entry1};
 ghost use Rattle.nofs_history.specs.declared.machine.steps.Step.TheVariants as step;
@@ -67,7 +68,8 @@ fn lines_text(alloc: Global, users: &[LineList]) -> Result<Content, AllocError>
 /// Makes all durable; false where memory was wanting.
 pub(crate) fn close<D: Disk + Drop>(alloc: Global, mount: &mut Mount<D>) -> bool
     ensures adds { (reply : Reply)
-        × AddsStep PROGRAM (step.Flush 0 0) reply mount.old.core.books.history.entries mount.new.core.books.history.entries
+        × AddsStep PROGRAM
+        (step.Flush 0 0) reply mount.old.core.books.history.entries mount.new.core.books.history.entries
         × (result ≡ not (is_out_of_memory reply)) }
     ensures closed { result ≡ true → IsClosed (D.state mount.new.core.disk) mount.new.core.books.history.entries }
     ensures same { (mount.new.found ≡ mount.old.found) × (mount.new.first ≡ mount.old.first) }
@@ -139,7 +141,8 @@ pub(crate) fn serve_users<R: Threads + Wait + Sync, D: Disk + Drop + Send>(
     requires few { vec_len plans ≤ MOST_USERS }
     requires formed { All (λ p. AreWellFormed p.commands) plans.items }
     ensures same { (result.mount.found.value ≡ mount.found.value) × (result.mount.first ≡ mount.first) }
-    ensures served { TeamServed (map (λ p. p.commands) plans.items) mount.core.books.at.inodes mount.core.books.at.blocks result.out_of_memory
+    ensures served { TeamServed (map (λ p. p.commands) plans.items) mount.core.books.at.inodes
+        mount.core.books.at.blocks result.out_of_memory
         result.lines.items mount.core.books.history.entries result.mount.core.books.history.entries }
 {
     let at = mount.numbers();
@@ -166,9 +169,11 @@ fn serve_and_close<R: Threads + Wait + Sync, D: Disk + Drop + Send>(
     requires few { vec_len plans ≤ MOST_USERS }
     requires formed { All (λ p. AreWellFormed p.commands) plans.items }
     ensures same { (result.mount.found.value ≡ mount.found.value) × (result.mount.first ≡ mount.first) }
-    ensures ran { IsSessionRun (map (λ p. p.commands) plans.items) mount.core.books.at.inodes mount.core.books.at.blocks result.out_of_memory
+    ensures ran { IsSessionRun (map (λ p. p.commands) plans.items) mount.core.books.at.inodes mount.core.books.at.blocks
+        result.out_of_memory
         result.lines.items result.mount.core.books.history.entries }
-    ensures closed { result.out_of_memory ≡ false → IsClosed (D.state result.mount.core.disk) result.mount.core.books.history.entries }
+    ensures closed { result.out_of_memory ≡ false
+        → IsClosed (D.state result.mount.core.disk) result.mount.core.books.history.entries }
 {
     let Served {
         mut mount,
@@ -239,7 +244,8 @@ pub(crate) fn run_scan<R: Threads + Wait + Sync, D: Disk + Drop + Send>(
     ensures follows { IsFollowed [] mount.core.books.at result.text result.history.entries }
     ensures closed { IfSome result.text (λ _. IsClosed (D.state result.disk) result.history.entries) }
     ensures counted { IfSome result.text (λ text. (c : Counts) × (text ≡ counts_line c)
-        × ∥ (IsMet (D.state mount.found.value) → has_fault result.history.entries ≡ false → CountsDisk (D.state result.disk).now c) ∥₁) }
+        × ∥ (IsMet (D.state mount.found.value)
+        → has_fault result.history.entries ≡ false → CountsDisk (D.state result.disk).now c) ∥₁) }
 {
     let Served {
         mount,

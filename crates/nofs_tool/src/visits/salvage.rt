@@ -1,9 +1,11 @@
 //! Telling what is lost on a disk.
 //!
-//! Promise: the walk is caller 1's and only reads. Where no call of the device failed, the text is that of the report of the world
-//! that the mount found; or of the refusal of the root or of the label file, where one of them isn't there.
+//! Promise: the walk is caller 1's and only reads. Where no call of the device failed, the text is that of the report
+//! of the world that the mount found; or of the refusal of the root or of the label file, where one of them isn't
+//! there.
 
-ghost use Rattle.std.specs.Prelude.{◌≡◌, ◌≢◌, ◌++◌, ℕ, Bool, List, [], Err, IfOk, IfSome, OnOk, codes, map, string_bytes};
+ghost use Rattle.std.specs.Prelude.{◌≡◌, ◌≢◌, ◌++◌, ℕ, Bool, List, [], Err, IfOk, IfSome, OnOk, codes, map};
+ghost use Rattle.std.specs.Prelude.{string_bytes};
 ghost use Rattle.std.specs.Fn.{FnReturnsAt};
 ghost use Rattle.std.specs.Fmt.{decimal};
 ghost use Rattle.nofs_tool.specs.Begin.Words.{picks_in};
@@ -42,7 +44,8 @@ impl<P: Fn(&[u8]) -> bool, R: NameRule> Visits for Walker<'_, P, R> {
     ghost use Rattle.nofs_tool.specs.Visits.Salvage.{IsWalk, walk_none};
 
     ghost is_ready = { λ w. (w.told ≡ Err OutOfMemory) × P.IsAlwaysCallable w.filter.now.keep
-        × ((name : List ℕ) (yes : Bool) → FnReturnsAt P.Fn w.filter.now.keep name yes → yes ≡ R.picks w.filter.now.rule name) };
+        × ((name : List ℕ) (yes : Bool) → FnReturnsAt P.Fn w.filter.now.keep name yes
+        → yes ≡ R.picks w.filter.now.rule name) };
 
     ghost visited = { λ old new made new_made. IsWalk (R.picks old.filter.now.rule) new.told made new_made };
 
@@ -68,7 +71,8 @@ fn push_name(
     directory: u32,
     name: &Name,
 ) -> Result<(), AllocError>
-    ensures { OnOk result (text.new.items ≡ text.old.items ++ (word.now ++ decimal directory ++ codes " " ++ name.now ++ codes "\n")) }
+    ensures { OnOk result
+        (text.new.items ≡ text.old.items ++ (word.now ++ decimal directory ++ codes " " ++ name.now ++ codes "\n")) }
 {
     push_number(alloc, text, word, u64::from(directory))?;
     text.extend_from_slice(b" ")?;
@@ -117,13 +121,15 @@ fn run_walk<R: Threads + Wait + Sync, D: Disk + Drop + Send, P: Fn(&[u8]) -> boo
     filter: &NameFilter<P, N>,
 ) -> Ran<D>
     requires may { P.IsAlwaysCallable filter.now.keep }
-    requires decides { (name : List ℕ) (yes : Bool) → FnReturnsAt P.Fn filter.now.keep name yes → yes ≡ N.picks filter.now.rule name }
+    requires decides { (name : List ℕ) (yes : Bool) → FnReturnsAt P.Fn filter.now.keep name yes
+        → yes ≡ N.picks filter.now.rule name }
     requires new { mount.core.books.history.entries ≡ [] }
     requires first { mount.first ≡ 0 }
     ensures ends { ∥ Finished (D.state mount.found.value) (D.state result.disk) mount.first result.history ∥₁ }
     ensures follows { IsVisitFollowed AreReads mount.core.books.at result.text result.history.entries }
     ensures closed { IfSome result.text (λ _. IsClosed (D.state result.disk) result.history.entries) }
-    ensures told { IfSome result.text (IsWalkTold (N.picks filter.now.rule) (D.state mount.found.value) result.history) }
+    ensures told { IfSome result.text
+        (IsWalkTold (N.picks filter.now.rule) (D.state mount.found.value) result.history) }
 {
     let mut walker = Walker {
         alloc,
@@ -153,7 +159,8 @@ pub(crate) fn run_salvage<R: Threads + Wait + Sync, D: Disk + Drop + Send>(
     ensures ends { ∥ Finished (D.state mount.found.value) (D.state result.disk) mount.first result.history ∥₁ }
     ensures follows { IsVisitFollowed AreReads mount.core.books.at result.text result.history.entries }
     ensures closed { IfSome result.text (λ _. IsClosed (D.state result.disk) result.history.entries) }
-    ensures told { IfSome result.text (IsWalkTold (picks_in (map string_bytes words.now)) (D.state mount.found.value) result.history) }
+    ensures told { IfSome result.text
+        (IsWalkTold (picks_in (map string_bytes words.now)) (D.state mount.found.value) result.history) }
 {
     match words {
         [_, prefix] => {

@@ -27,7 +27,8 @@ fn visit<R: Threads + Wait + Sync, D: Disk + Drop + Send, G: Visits>(
 ) -> Visited<Mount<D>>
     requires { G.is_ready visitor.old }
     ensures same { (result.mount.found.value ≡ mount.found.value) × (result.mount.first ≡ mount.first) }
-    ensures served { VisitServed (G.visited visitor.old visitor.new []) mount.core.books.at.inodes mount.core.books.at.blocks result.out_of_memory
+    ensures served { VisitServed (G.visited visitor.old visitor.new []) mount.core.books.at.inodes
+        mount.core.books.at.blocks result.out_of_memory
         mount.core.books.history.entries result.mount.core.books.history.entries }
 {
     let at = mount.numbers();
@@ -59,9 +60,11 @@ pub(crate) fn visit_and_close<R: Threads + Wait + Sync, D: Disk + Drop + Send, G
     requires ready { G.is_ready visitor.old }
     requires new { mount.core.books.history.entries ≡ [] }
     ensures same { (result.mount.found.value ≡ mount.found.value) × (result.mount.first ≡ mount.first) }
-    ensures ran { IsVisitRun (G.visited visitor.old visitor.new []) mount.core.books.at.inodes mount.core.books.at.blocks result.out_of_memory
+    ensures ran { IsVisitRun (G.visited visitor.old visitor.new []) mount.core.books.at.inodes
+        mount.core.books.at.blocks result.out_of_memory
         result.mount.core.books.history.entries }
-    ensures closed { result.out_of_memory ≡ false → IsClosed (D.state result.mount.core.disk) result.mount.core.books.history.entries }
+    ensures closed { result.out_of_memory ≡ false
+        → IsClosed (D.state result.mount.core.disk) result.mount.core.books.history.entries }
 {
     let Visited {
         mount,

@@ -1,7 +1,7 @@
 //! Serving the frames of a source at a mount, on the calling thread.
 //!
-//! Promise: the steps of the frames are those of caller 1, in order, and the sink takes just their replies. The status is that of
-//! the end of the frames, or of a fault of the device where they ended well.
+//! Promise: the steps of the frames are those of caller 1, in order, and the sink takes just their replies. The status
+//! is that of the end of the frames, or of a fault of the device where they ended well.
 
 ghost use Rattle.std.specs.Prelude.{◌≡◌, ◌≢◌, ◌+◌, [], None, Some, false, IfSome};
 ghost use Rattle.nofs_disk.specs.Disk.{Rose};
@@ -44,10 +44,12 @@ impl<Q: Source, K: Sink> Visits for Server<'_, '_, Q, K> {
 
     ghost is_ready = { λ s. s.end ≡ ended.OutOfMemory };
 
-    ghost visited = { λ old new made new_made. (new.source.ghost_name ≡ old.source.ghost_name) × (new.sink.ghost_name ≡ old.sink.ghost_name)
+    ghost visited = { λ old new made new_made. (new.source.ghost_name ≡ old.source.ghost_name)
+        × (new.sink.ghost_name ≡ old.sink.ghost_name)
         × HasServed Q.state K.state new.end old.source.now new.source.now old.sink.now new.sink.now made new_made };
 
-    ghost visited_none = { λ s made ready. (refl, refl, served_none Q.state K.state s.end s.source.now s.sink.now made ready) };
+    ghost visited_none = { λ s made ready.
+        (refl, refl, served_none Q.state K.state s.end s.source.now s.sink.now made ready) };
 
     fn visit<S: Steps>(&mut self, steps: &mut S) {
         self.end = serve(self.alloc, steps, self.source, self.sink);
@@ -78,12 +80,15 @@ fn run_wire<R: Threads + Wait + Sync, Q: Source, K: Sink, D: Disk + Drop + Send>
 ) -> Wired<D>
     requires { mount.core.books.history.entries ≡ [] }
     ensures ends { ∥ Finished (D.state mount.found.value) (D.state result.disk) mount.first result.history ∥₁ }
-    ensures ran { IsVisitRun (IsWired (Q.state source.old).left (Q.state source.new).left) mount.core.books.at.inodes mount.core.books.at.blocks
+    ensures ran { IsVisitRun (IsWired (Q.state source.old).left (Q.state source.new).left) mount.core.books.at.inodes
+        mount.core.books.at.blocks
         result.out_of_memory result.history.entries }
     ensures closed { result.out_of_memory ≡ false → IsClosed (D.state result.disk) result.history.entries }
-    ensures served { Serves 16777216 result.end (Q.state source.old).left (Q.state source.new).left (K.state sink.old).given (K.state sink.new).given
+    ensures served { Serves 16777216 result.end
+        (Q.state source.old).left (Q.state source.new).left (K.state sink.old).given (K.state sink.new).given
         [] (steps_by 1 result.history.entries) }
-    ensures source_fault { result.end ≡ WireEnd.SourceFault → Rose (Q.state source.old).faults (Q.state source.new).faults }
+    ensures source_fault { result.end ≡ WireEnd.SourceFault
+        → Rose (Q.state source.old).faults (Q.state source.new).faults }
     ensures sink_fault { result.end ≡ WireEnd.SinkFault → Rose (K.state sink.old).faults (K.state sink.new).faults }
 {
     let mut server = Server {
@@ -148,7 +153,8 @@ fn mounted<R: Threads + Wait + Sync, Q: Source, K: Sink, D: Disk + Drop + Send>(
 ) -> Outcome<D>
     requires new { mount.core.books.history.entries ≡ [] }
     requires first { mount.first ≡ 0 }
-    ensures headline { IfSome result.history (λ h. ∥ IsHeadlineOf (FollowsVisit (IsWired (Q.state source.old).left (Q.state source.new).left))
+    ensures headline { IfSome result.history
+        (λ h. ∥ IsHeadlineOf (FollowsVisit (IsWired (Q.state source.old).left (Q.state source.new).left))
         (D.state mount.found.value) (D.state result.disk) result.status h ∥₁) }
     ensures ends { WireEnds (D.state mount.found.value) (D.state result.disk) (Q.state source.old) (Q.state source.new)
         (K.state sink.old) (K.state sink.new) result.status result.history }
@@ -176,9 +182,11 @@ pub(crate) fn wire_outcome<R: Threads + Wait + Sync, Q: Source, K: Sink, D: Disk
     sink: &mut K,
     disk: D,
 ) -> Outcome<D>
-    ensures headline { IfSome result.history (λ h. ∥ IsHeadlineOf (FollowsVisit (IsWired (Q.state source.old).left (Q.state source.new).left))
+    ensures headline { IfSome result.history
+        (λ h. ∥ IsHeadlineOf (FollowsVisit (IsWired (Q.state source.old).left (Q.state source.new).left))
         (D.state disk) (D.state result.disk) result.status h ∥₁) }
-    ensures ends { WireEnds (D.state disk) (D.state result.disk) (Q.state source.old) (Q.state source.new) (K.state sink.old) (K.state sink.new)
+    ensures ends { WireEnds (D.state disk) (D.state result.disk) (Q.state source.old) (Q.state source.new)
+        (K.state sink.old) (K.state sink.new)
         result.status result.history }
     ensures unserved { result.history ≡ None → SaysCause (K.state sink.old) (K.state sink.new) result.status }
 {

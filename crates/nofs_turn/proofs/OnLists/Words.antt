@@ -1,5 +1,6 @@
 -- Lists that begin one another, totals over a list, and the two words of a turn.
-use Rattle.std.proofs.Common.{◌≡◌, ◌≢◌, ℕ, zero, suc, ◌+◌, ◌*◌, ◌%◌, ◌<◌, ◌≤◌, List, [], ◌∷◌, ◌++◌, length, set, refl, sym, ap, ◌∙◌, arith, append_assoc}
+use Rattle.std.proofs.Common.{◌≡◌, ◌≢◌, ℕ, zero, suc, ◌+◌, ◌*◌, ◌%◌, ◌<◌, ◌≤◌, List, [], ◌∷◌, ◌++◌, length, set, refl}
+use Rattle.std.proofs.Common.{sym, ap, ◌∙◌, arith, append_assoc}
 use Rattle.std.proofs.Common.{length-append, add-one, Some, drop}
 use Rattle.std.proofs.lemmas.List.{append-nil}
 use Rattle.std.specs.Prelude.{bit_or, bit_and, slice_get}
@@ -21,7 +22,8 @@ pub prefix_length : {A : Type 0} (xs ys : List A) → IsPrefix xs ys → length 
 prefix_length xs ys p = omega (arith, sym (ap length p.1) ∙ length-append xs p.0)
 
 module _ {A : Type 0} (f : A → ℕ) where
-  pub total_set : (xs : List A) (j : ℕ) (v w : A) → get_elem? xs j ≡ some v → total f (set xs j w) + f v ≡ total f xs + f w
+  pub total_set : (xs : List A) (j : ℕ) (v w : A) → get_elem? xs j ≡ some v
+      → total f (set xs j w) + f v ≡ total f xs + f w
   total_set [] j v w e = absurd (some-ne-none v (sym e))
   total_set (x ∷ xs) zero v w e = let g : f x ≡ f v = ap f (some-injective x v e) in omega arith
   total_set (x ∷ xs) (suc j) v w e = let h = total_set xs j v w e in omega arith
@@ -35,21 +37,26 @@ module _ {A : Type 0} (f : A → ℕ) where
   part_le (x ∷ xs) zero v e = let g : f x ≡ f v = ap f (some-injective x v e) in omega arith
   part_le (x ∷ xs) (suc j) v e = let h = part_le xs j v e in omega arith
 
-  pub two_parts : (xs : List A) (i j : ℕ) (v w : A) → get_elem? xs i ≡ some v → get_elem? xs j ≡ some w → i ≢ j → f v + f w ≤ total f xs
+  pub two_parts : (xs : List A) (i j : ℕ) (v w : A) → get_elem? xs i ≡ some v → get_elem? xs j ≡ some w
+      → i ≢ j → f v + f w ≤ total f xs
   two_parts [] i j v w e k n = absurd (some-ne-none v (sym e))
   two_parts (x ∷ xs) zero zero v w e k n = absurd (n refl)
-  two_parts (x ∷ xs) zero (suc j) v w e k n = let g : f x ≡ f v = ap f (some-injective x v e) in let h = part_le xs j w k in omega arith
-  two_parts (x ∷ xs) (suc i) zero v w e k n = let g : f x ≡ f w = ap f (some-injective x w k) in let h = part_le xs i v e in omega arith
+  two_parts (x ∷ xs) zero (suc j) v w e k n = let g : f x ≡ f v = ap f (some-injective x v e) in
+      let h = part_le xs j w k in omega arith
+  two_parts (x ∷ xs) (suc i) zero v w e k n = let g : f x ≡ f w = ap f (some-injective x w k) in
+      let h = part_le xs i v e in omega arith
   two_parts (x ∷ xs) (suc i) (suc j) v w e k n = let h = two_parts xs i j v w e k (λ s. n (ap suc s)) in omega arith
 
-pub prefix_get : {A : Type 0} (xs ys : List A) (k : ℕ) (x : A) → IsPrefix xs ys → slice_get xs k ≡ Some x → slice_get ys k ≡ Some x
+pub prefix_get : {A : Type 0} (xs ys : List A) (k : ℕ) (x : A) → IsPrefix xs ys → slice_get xs k ≡ Some x
+    → slice_get ys k ≡ Some x
 prefix_get [] ys k x p h = absurd cc
 prefix_get (y ∷ xs) [] k x p h = absurd (cc (p.1))
 prefix_get (y ∷ xs) (z ∷ ys) zero x p h = cc (p.1, h)
 prefix_get (y ∷ xs) (z ∷ ys) (suc k) x p h = prefix_get xs ys k x (p.0, cc (p.1)) h
 
 -- of two beginnings of one list the shorter begins the longer
-pub prefix_shorter : {A : Type 0} (xs ys zs : List A) → IsPrefix xs zs → IsPrefix ys zs → length xs ≤ length ys → IsPrefix xs ys
+pub prefix_shorter : {A : Type 0} (xs ys zs : List A) → IsPrefix xs zs → IsPrefix ys zs → length xs ≤ length ys
+    → IsPrefix xs ys
 prefix_shorter [] ys zs p q le = (ys, refl)
 prefix_shorter (x ∷ xs) [] zs p q le = absurd (omega arith)
 prefix_shorter (x ∷ xs) (y ∷ ys) [] p q le = absurd (cc (p.1))

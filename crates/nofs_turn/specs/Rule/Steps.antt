@@ -16,7 +16,9 @@ pub record IsOfTurn {F : Type 0} (f : F) (start seats : ℕ) (part : Option F) (
   pub same_seats : many ≡ seats
 
 -- what the rule says of the view of a seat that is not spent
-pub record SeatFits {E F : Type 0} (f : F) (start seats : ℕ) (log : List E) (taken holder j : ℕ) (v : View E F) : Type 0 where
+pub record SeatFits {
+    E F : Type 0
+    } (f : F) (start seats : ℕ) (log : List E) (taken holder j : ℕ) (v : View E F) : Type 0 where
   pub of_turn : IsOfTurn f start seats v.fixed v.start v.seats
   pub open of_turn use *
   pub seen : IsPrefix v.seen log
@@ -30,7 +32,8 @@ abbrev pub Sits : {E F : Type 0} → F → ℕ → ℕ → List E → ℕ → �
 Sits f start seats log taken holder j v = (v ≡ spent) ⊎ SeatFits f start seats log taken holder j v
 
 -- the word counts the entries, and the value is at home unless the turn is taken
-pub record CountHolds {T E F : Type 0} (entries : T → List E) (fixed : T → F) (f : F) (start : ℕ) (ws : List ℕ) (homes : List (Home (Option T))) : Type 0 where
+pub record CountHolds {T E F : Type 0} (entries : T → List E) (fixed : T → F) (f : F) (start : ℕ) (ws : List ℕ)
+    (homes : List (Home (Option T))) : Type 0 where
   pub log : List E
   pub taken : ℕ
   pub holder : ℕ
@@ -40,7 +43,9 @@ pub record CountHolds {T E F : Type 0} (entries : T → List E) (fixed : T → F
   pub grown : start ≤ length log
   pub home : taken ≡ 0 → (x : T) × (homes ≡ some (Some x) ∷ []) × (entries x ≡ log) × (fixed x ≡ f)
 
-pub record TurnHolds {T E F : Type 0} (entries : T → List E) (fixed : T → F) (f : F) (start seats : ℕ) (s : State (Option T) (View E F)) : Type 0 where
+pub record TurnHolds {
+    T E F : Type 0
+    } (entries : T → List E) (fixed : T → F) (f : F) (start seats : ℕ) (s : State (Option T) (View E F)) : Type 0 where
   pub count : CountHolds entries fixed f start s.words s.homes
   pub open count use *
   pub holds : taken ≡ 1 → (h : View E F) × (get_elem? s.views holder ≡ some h) × (h.has ≡ true)
@@ -55,20 +60,24 @@ module _ {T E F : Type 0} where
 
   abbrev pub TakesFree : (T → List E) → (T → F) → View E F → ℕ → Me (Option T) (View E F) → Type 0
   TakesFree entries fixed v found after =
-      (x : T) × (found ≡ 2 * length (entries x)) × (after ≡ (took v found (entries x), (0, Some x) ∷ [])) × IsPrefix v.seen (entries x) ×
+      (x : T) × (found ≡ 2 * length (entries x)) × (after ≡ (took v found (entries x), (0, Some x) ∷ []))
+      × IsPrefix v.seen (entries x) ×
       (v.fixed ≡ Some (fixed x)) × (length (entries x) < 2 ^ 63)
 
   abbrev pub TakesBusy : View E F → ℕ → Me (Option T) (View E F) → Type 0
   TakesBusy v found after = (found % 2 ≡ 1) × (after ≡ (looked v found, [])) × (v.stands < v.seats)
 
-  abbrev pub Takes : (T → List E) → (T → F) → Step (Option T) → Me (Option T) (View E F) → ℕ → Me (Option T) (View E F) → Type 0
+  abbrev pub Takes : (T → List E) → (T → F) → Step (Option T) → Me (Option T) (View E F)
+      → ℕ → Me (Option T) (View E F) → Type 0
   Takes entries fixed st me found after = TakesFree entries fixed me.0 found after ⊎ TakesBusy me.0 found after
 
   -- the value that goes home is the one that the seat carries
   abbrev pub Gives : (T → List E) → Step (Option T) → Me (Option T) (View E F) → ℕ → Me (Option T) (View E F) → Type 0
-  Gives entries st me stored after = (y : T) → me.1 ≡ (0, Some y) ∷ [] → (after ≡ (gave me.0 (entries y), [])) × (rises 0 after.0.mine ≡ true)
+  Gives entries st me stored after = (y : T) → me.1 ≡ (0, Some y) ∷ [] → (after ≡ (gave me.0 (entries y), []))
+      × (rises 0 after.0.mine ≡ true)
 
   -- what was heard counts as seen, and what was seen and heard are beginnings of it
   abbrev pub Settles : Step (Option T) → Me (Option T) (View E F) → ℕ → Me (Option T) (View E F) → Type 0
-  Settles st me found after = (after ≡ (settled me.0, me.1)) × IsPrefix me.0.seen after.0.seen × IsPrefix me.0.heard after.0.seen ×
+  Settles st me found after = (after ≡ (settled me.0, me.1)) × IsPrefix me.0.seen after.0.seen
+      × IsPrefix me.0.heard after.0.seen ×
       (rises 0 me.0.mine ≡ true) × (me.0.stands ≤ me.0.seats)

@@ -6,7 +6,19 @@ use Rattle.nofs_turn.specs.Lists.{merge, longer, numbered}
 module _ {E F : Type 0} where
   -- a seat that was joined to another
   abbrev pub spent : View E F
-  spent = record { fixed = None; start = 0; seats = 0; seen = []; heard = []; mine = []; has = false; splits = 0; stands = 0; looks = 0; last = 0 }
+  spent = record {
+    fixed = None;
+    start = 0;
+    seats = 0;
+    seen = [];
+    heard = [];
+    mine = [];
+    has = false;
+    splits = 0;
+    stands = 0;
+    looks = 0;
+    last = 0;
+  }
 
   -- a seat of a turn that was made over the list xs, with the part f
   abbrev pub fresh : F → List E → ℕ → View E F
@@ -62,4 +74,5 @@ module _ {E F : Type 0} where
 
   -- the maker's seat, which has n still to split
   abbrev pub Deals : View E F → ℕ → ℕ → Type 0
-  Deals v n seats = (v.splits ≡ n) × (v.stands ≡ 1) × (v.has ≡ false) × (v.mine ≡ []) × (v.looks ≡ 0) × (v.last ≡ 0) × (v.seats ≡ seats) × (v.heard ≡ [])
+  Deals v n seats = (v.splits ≡ n) × (v.stands ≡ 1) × (v.has ≡ false) × (v.mine ≡ []) × (v.looks ≡ 0) × (v.last ≡ 0)
+      × (v.seats ≡ seats) × (v.heard ≡ [])

@@ -11,7 +11,8 @@ impl<V: Kept> TableRule<Option<V>, View<V::Entry, V::Fixed>, Opening<V>> for Cou
     ghost use Rattle.nofs_turn.specs.Rule.Views.{maker};
     ghost use Rattle.nofs_turn.specs.Rule.Steps.{TurnHolds};
 
-    ghost holds = { λ k. TurnHolds V.entries V.fixed (V.fixed k.value.value) (length (V.entries k.value.value)) k.seats };
+    ghost holds = { λ k. TurnHolds V.entries V.fixed (V.fixed k.value.value)
+        (length (V.entries k.value.value)) k.seats };
 
     ghost first = { λ k. maker (V.fixed k.value.value) (V.entries k.value.value) k.seats };
 }

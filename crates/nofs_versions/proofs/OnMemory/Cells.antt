@@ -1,5 +1,6 @@
 -- What a disk in memory holds after one call more.
-use Rattle.std.proofs.Common.{◌≡◌, ◌≢◌, ◌⊎◌, ℕ, Bool, true, false, zero, suc, List, [], ◌∷◌, ◌++◌, length, set, arith, inl, inr, refl, sym, ap, subst, ◌∙◌}
+use Rattle.std.proofs.Common.{◌≡◌, ◌≢◌, ◌⊎◌, ℕ, Bool, true, false, zero, suc, List, [], ◌∷◌, ◌++◌, length, set, arith}
+use Rattle.std.proofs.Common.{inl, inr, refl, sym, ap, subst, ◌∙◌}
 use Rattle.std.specs.Prelude.{Contains}
 use Rattle.std.proofs.lemmas.Grind.{fold-append}
 use Rattle.std.proofs.lemmas.List.{length-set}
@@ -13,34 +14,41 @@ use Rattle.nofs_versions.specs.Memory.{after_call, after_flush, after_write, hel
 use Rattle.nofs_versions.specs.Laws.{within_has}
 
 -- one call more
-pub held_after-push : (base : List Cell) (calls : List Call) (call : Call) → held_after base (calls ++ call ∷ []) ≡ after_call (held_after base calls) call
+pub held_after-push : (base : List Cell) (calls : List Call) (call : Call)
+    → held_after base (calls ++ call ∷ []) ≡ after_call (held_after base calls) call
 unfolding held_after
 held_after-push base calls call = fold-append after_call (settled base) calls (call ∷ [])
 
 -- what a block may hold after a write that is taken or not
-write_may : (taken : Bool) (held : Held) (block : ℕ) (cell c : Cell) → Contains ((after_write taken held block cell).may block) c
+write_may : (taken : Bool) (held : Held) (block : ℕ) (cell c : Cell)
+    → Contains ((after_write taken held block cell).may block) c
     → Contains (held.may block) c ⊎ (c ≡ cell)
 write_may true held block cell c has =
     let F : List Cell → Type 0 = λ l. Contains l c in
-    elim (Contains-push_cases (held.may block) cell c (subst F (written_here held block cell) has)) [ inl before ↦ inl before | inr is ↦ inr (sym is) ]
+    elim (Contains-push_cases (held.may block) cell c (subst F (written_here held block cell) has))
+    [ inl before ↦ inl before | inr is ↦ inr (sym is) ]
 write_may false held block cell c has = inl has
 
-pub write_others : (taken : Bool) (held : Held) (block b : ℕ) (cell : Cell) → b ≢ block → (after_write taken held block cell).may b ≡ held.may b
+pub write_others : (taken : Bool) (held : Held) (block b : ℕ) (cell : Cell)
+    → b ≢ block → (after_write taken held block cell).may b ≡ held.may b
 write_others true held block b cell other = written_other held block b cell other
 write_others false held block b cell other = refl
 
 write_now : (taken : Bool) (held : Held) (block : ℕ) (cell : Cell)
-    → ((after_write taken held block cell).now ≡ held.now) ⊎ ((after_write taken held block cell).now ≡ set held.now block cell)
+    → ((after_write taken held block cell).now ≡ held.now)
+    ⊎ ((after_write taken held block cell).now ≡ set held.now block cell)
 write_now true held block cell = inr refl
 write_now false held block cell = inl refl
 
 -- the parts of a write that its result doesn't change
 pub may_of : (base : List Cell) (calls : List Call) (block b : ℕ) (cell : Cell) (taken : Bool)
-    → (held_after base (calls ++ Write block cell taken ∷ [])).may b ≡ (after_write taken (held_after base calls) block cell).may b
+    → (held_after base (calls ++ Write block cell taken ∷ [])).may b
+    ≡ (after_write taken (held_after base calls) block cell).may b
 may_of base calls block b cell taken = ap (λ h. h.may b) (held_after-push base calls (Write block cell taken))
 
 pub now_of : (base : List Cell) (calls : List Call) (block : ℕ) (cell : Cell) (taken : Bool)
-    → (held_after base (calls ++ Write block cell taken ∷ [])).now ≡ (after_write taken (held_after base calls) block cell).now
+    → (held_after base (calls ++ Write block cell taken ∷ [])).now
+    ≡ (after_write taken (held_after base calls) block cell).now
 now_of base calls block cell taken = ap (λ h. h.now) (held_after-push base calls (Write block cell taken))
 
 pub now_cases : (base : List Cell) (calls : List Call) (block : ℕ) (cell : Cell) (taken : Bool)
@@ -52,7 +60,8 @@ now_cases base calls block cell taken = elim (write_now taken (held_after base c
 ]
 
 pub may_cases : (base : List Cell) (calls : List Call) (block : ℕ) (cell : Cell) (taken : Bool) (c : Cell)
-    → Contains ((held_after base (calls ++ Write block cell taken ∷ [])).may block) c → Contains ((held_after base calls).may block) c ⊎ (c ≡ cell)
+    → Contains ((held_after base (calls ++ Write block cell taken ∷ [])).may block) c
+    → Contains ((held_after base calls).may block) c ⊎ (c ≡ cell)
 may_cases base calls block cell taken c has =
     let F : List Cell → Type 0 = λ l. Contains l c in
     write_may taken (held_after base calls) block cell c (subst F (may_of base calls block block cell taken) has)
@@ -70,22 +79,27 @@ only_one x c (zero, low, is) = sym is
 only_one x c (suc k, low, is) = absurd (omega arith)
 
 -- the cells after a write are those that are kept
-put_if_is : (taken : Bool) (held : Held) (block : ℕ) (cell : Cell) → put_if taken held.now block cell ≡ (after_write taken held block cell).now
+put_if_is : (taken : Bool) (held : Held) (block : ℕ) (cell : Cell)
+    → put_if taken held.now block cell ≡ (after_write taken held block cell).now
 put_if_is true held block cell = refl
 put_if_is false held block cell = refl
 
-pub length-put_if : (taken : Bool) (cells : List Cell) (block : ℕ) (cell : Cell) → length (put_if taken cells block cell) ≡ length cells
+pub length-put_if : (taken : Bool) (cells : List Cell) (block : ℕ) (cell : Cell)
+    → length (put_if taken cells block cell) ≡ length cells
 length-put_if true cells block cell = length-set cells block cell
 length-put_if false cells block cell = refl
 
-pub write_present : (base cells : List Cell) (calls : List Call) (block : ℕ) (cell : Cell) (taken : Bool) → cells ≡ (held_after base calls).now
+pub write_present : (base cells : List Cell) (calls : List Call) (block : ℕ) (cell : Cell) (taken : Bool)
+    → cells ≡ (held_after base calls).now
     → put_if taken cells block cell ≡ (held_after base (calls ++ Write block cell taken ∷ [])).now
 write_present base cells calls block cell taken is =
-    ap (λ l. put_if taken l block cell) is ∙ put_if_is taken (held_after base calls) block cell ∙ sym (now_of base calls block cell taken)
+    ap (λ l. put_if taken l block cell) is ∙ put_if_is taken (held_after base calls) block cell
+    ∙ sym (now_of base calls block cell taken)
 
 pub flush_present : (base cells : List Cell) (calls : List Call) (settles : Bool) → cells ≡ (held_after base calls).now
     → cells ≡ (held_after base (calls ++ Flush settles ∷ [])).now
-flush_present base cells calls settles is = is ∙ sym (flush_now settles (held_after base calls)) ∙ sym (ap (λ h. h.now) (flush_of base calls settles))
+flush_present base cells calls settles is = is ∙ sym (flush_now settles (held_after base calls))
+    ∙ sym (ap (λ h. h.now) (flush_of base calls settles))
 
 -- no call was made
 pub after_none : (base : List Cell) (calls : List Call) → calls ≡ [] → (held_after base calls).now ≡ base
@@ -93,9 +107,11 @@ unfolding held_after
 after_none base calls is = ap (λ l. (held_after base l).now) is
 
 -- a disk without calls is settled
-pub settled_none : (start : ℕ) (base : List Cell) (calls : List Call) (spare faults : ℕ) → calls ≡ [] → IsSettled (state_of start base calls spare faults)
+pub settled_none : (start : ℕ) (base : List Cell) (calls : List Call) (spare faults : ℕ)
+    → calls ≡ [] → IsSettled (state_of start base calls spare faults)
 unfolding held_after
 settled_none start base calls spare faults none block c low has =
     let F : List Call → Type 0 = λ l. Contains ((held_after base l).may block) c in
     let now : (held_after base calls).now ≡ base = after_none base calls none in
-    only_one (cell_at base block) c (subst F none (within_has (length base) (held_after base calls).may block c has).1) ∙ ap (λ l. cell_at l block) (sym now)
+    only_one (cell_at base block) c (subst F none (within_has (length base) (held_after base calls).may block c has).1)
+    ∙ ap (λ l. cell_at l block) (sym now)

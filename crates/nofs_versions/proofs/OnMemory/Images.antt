@@ -1,5 +1,6 @@
 -- The images that a disk in memory may leave: each that picks.
-use Rattle.std.proofs.Common.{ℕ, ◌+◌, ◌*◌, Bool, false, List, [], ◌∷◌, ◌++◌, length, arith, inl, inr, refl, sym, ap, subst}
+use Rattle.std.proofs.Common.{ℕ, ◌+◌, ◌*◌, Bool, false, List, [], ◌∷◌, ◌++◌, length, arith, inl, inr, refl, sym, ap}
+use Rattle.std.proofs.Common.{subst}
 use Rattle.std.proofs.lemmas.List.{length_push, take_all, take_at, get_or_at}
 use Rattle.nofs_disk.specs.declared.tag.Cell.{Cell}
 use Rattle.nofs_disk.specs.Disk.{Picks}
@@ -20,7 +21,8 @@ leaves_rest start base calls image picks =
       at = refl;
       made = omega arith;
       picks =
-          subst F (sym (take_all (length calls) calls (omega arith))) (picks_out (length base) (held_after base calls).may image picks);
+          subst F (sym (take_all (length calls) calls (omega arith)))
+          (picks_out (length base) (held_after base calls).may image picks);
     })
 
 -- during the last call it may leave every image that picks
@@ -28,16 +30,19 @@ leaves_last : (start : ℕ) (base : List Cell) (calls : List Call) (call : Call)
     → Picks (may_during (held_after base calls) call) (length base) image
     → MayLeave start base (calls ++ call ∷ []) (start + 2 * length calls + 1) image
 leaves_last start base calls call image picks =
-    let F : List Call → Type 0 = λ l. Picks (may_during (held_after base l) (call_at (calls ++ call ∷ []) (length calls))) (length base) image in
+    let F : List Call → Type 0 =
+    λ l. Picks (may_during (held_after base l) (call_at (calls ++ call ∷ []) (length calls))) (length base) image in
     let G : Call → Type 0 = λ c. Picks (may_during (held_after base calls) c) (length base) image in
     inr (record {
       k = length calls;
       at = omega arith;
       made = (let e = length_push calls call in omega arith);
-      picks = subst F (sym (take_at calls (call ∷ []) (length calls) refl)) (subst G (sym (get_or_at calls call [] (Flush false) (length calls) refl)) picks);
+      picks = subst F (sym (take_at calls (call ∷ []) (length calls) refl))
+          (subst G (sym (get_or_at calls call [] (Flush false) (length calls) refl)) picks);
     })
 
-pub leaves_write : (start : ℕ) (base : List Cell) (calls : List Call) (block : ℕ) (cell : Cell) (taken : Bool) (image : List Cell)
+pub leaves_write : (start : ℕ) (base : List Cell) (calls : List Call) (block : ℕ) (cell : Cell) (taken : Bool)
+    (image : List Cell)
     → Picks (within (length base) (held_after base (calls ++ Write block cell taken ∷ [])).may) (length base) image
     → MayLeave start base (calls ++ Write block cell taken ∷ []) (start + 2 * length calls + 1) image
 leaves_write start base calls block cell taken image picks =

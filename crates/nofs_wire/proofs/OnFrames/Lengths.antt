@@ -7,7 +7,8 @@ use Rattle.nofs_wire.proofs.OnFrames.Fields.{length-number_bytes}
 
 -- four bytes and a body
 pub length_behind : (x : ℕ) (items body : List ℕ) → items ≡ number_bytes 4 x ++ body → length items ≡ 4 + length body
-length_behind x items body is = ap length is ∙ length-append (number_bytes 4 x) body ∙ ap (λ n. n + length body) (length-number_bytes 4 x)
+length_behind x items body is = ap length is ∙ length-append (number_bytes 4 x) body
+    ∙ ap (λ n. n + length body) (length-number_bytes 4 x)
 
 -- where the four bytes are its length, they are a frame
 pub framed : (x size : ℕ) (items body : List ℕ) → items ≡ number_bytes 4 x ++ body → size ≡ length body

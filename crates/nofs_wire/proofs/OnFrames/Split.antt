@@ -1,9 +1,12 @@
 -- A frame in front depends on its own bytes alone, so frames are split from the front one by one.
-use Rattle.std.proofs.Common.{◌≡◌, ℕ, zero, suc, ◌+◌, ◌≤◌, List, [], ◌∷◌, ◌++◌, length, take, drop, map, append_assoc, length-append, length-drop, nat_lt}
-use Rattle.std.proofs.Common.{nat_le, ◌&&◌, Bool, true, false, Option, Some, None, if◌then◌else◌, refl, sym, ap, ◌∙◌, arith}
+use Rattle.std.proofs.Common.{◌≡◌, ℕ, zero, suc, ◌+◌, ◌≤◌, List, [], ◌∷◌, ◌++◌, length, take, drop, map, append_assoc}
+use Rattle.std.proofs.Common.{length-append, length-drop, nat_lt}
+use Rattle.std.proofs.Common.{nat_le, ◌&&◌, Bool, true, false, Option, Some, None, if◌then◌else◌, refl, sym, ap, ◌∙◌}
+use Rattle.std.proofs.Common.{arith}
 use Rattle.std.specs.Prelude.{option_to_list}
 use Rattle.std.proofs.lemmas.Bool.{and_parts, leb-true, le-leb, le-ltb, ltb-false}
-use Rattle.std.proofs.lemmas.List.{drop_at, drop-append-le, drop-take, length-take-le, map-append, take-append-drop, take_at}
+use Rattle.std.proofs.lemmas.List.{drop_at, drop-append-le, drop-take, length-take-le, map-append, take-append-drop}
+use Rattle.std.proofs.lemmas.List.{take_at}
 use Rattle.byteorder.specs.Endian.{little_number}
 use Rattle.byteorder.specs.Numbers.{little_from-append}
 use Rattle.nofs_disk.specs.Number.{number_at}
@@ -34,7 +37,8 @@ sized-from : (s here size : ℕ) → sized_front s here ≡ front.Whole size →
 unfolding sized_front
 sized-from s here size is = go (nat_le 1 s && nat_le s 1100) refl is
   where
-    last : (b : Bool) → (1 ≤ s) → (s ≤ 1100) → nat_lt here (4 + s) ≡ b → (if b then front.Short (4 + s) else front.Whole s) ≡ front.Whole size
+    last : (b : Bool) → (1 ≤ s) → (s ≤ 1100)
+        → nat_lt here (4 + s) ≡ b → (if b then front.Short (4 + s) else front.Whole s) ≡ front.Whole size
         → IsSized s here size
     last true low high e h = absurd (cc)
     last false low high e h =
@@ -43,7 +47,8 @@ sized-from s here size is = go (nat_le 1 s && nat_le s 1100) refl is
         record { low = omega arith; high = omega arith; same = same; fits = omega arith }
 
     go : (b : Bool) → (nat_le 1 s && nat_le s 1100) ≡ b → (if b then
-        (if nat_lt here (4 + s) then front.Short (4 + s) else front.Whole s) else front.Bad) ≡ front.Whole size → IsSized s here size
+        (if nat_lt here (4 + s) then front.Short (4 + s) else front.Whole s) else front.Bad) ≡ front.Whole size
+        → IsSized s here size
     go false e h = absurd (cc)
     go true e h =
         let parts = and_parts (nat_le 1 s) (nat_le s 1100) e in
@@ -57,9 +62,11 @@ pub whole-from : (w : List ℕ) (size : ℕ) → front_of w ≡ front.Whole size
 unfolding front_of
 whole-from w size is = go (nat_lt (length w) 4) refl is
   where
-    go : (b : Bool) → nat_lt (length w) 4 ≡ b → (if b then front.Short 4 else sized_front (length_of w) (length w)) ≡ front.Whole size → IsWhole w size
+    go : (b : Bool) → nat_lt (length w) 4 ≡ b
+        → (if b then front.Short 4 else sized_front (length_of w) (length w)) ≡ front.Whole size → IsWhole w size
     go true e h = absurd (cc)
-    go false e h = let s = sized-from (length_of w) (length w) size h in record { low = s.low; high = s.high; spelled = s.same; fits = s.fits }
+    go false e h = let s = sized-from (length_of w) (length w) size h in
+        record { low = s.low; high = s.high; spelled = s.same; fits = s.fits }
 
 pub whole-to : (w : List ℕ) (size : ℕ) → IsWhole w size → front_of w ≡ front.Whole size
 unfolding front_of
@@ -96,8 +103,10 @@ module _ (w : List ℕ) (size : ℕ) (rest : List ℕ) (is : IsWhole w size) whe
   body-local =
       let l = long in
       let f = is.fits in
-      let body : length (take size (drop 4 w)) ≡ size = length-take-le size (drop 4 w) (omega (arith, length-drop 4 w)) in
-      ap (take size) (drop-append-le 4 (take (4 + size) w) rest (omega arith) ∙ ap (λ l. l ++ rest) (drop-take 4 size w))
+      let body : length (take size (drop 4 w)) ≡ size =
+      length-take-le size (drop 4 w) (omega (arith, length-drop 4 w)) in
+      ap (take size)
+      (drop-append-le 4 (take (4 + size) w) rest (omega arith) ∙ ap (λ l. l ++ rest) (drop-take 4 size w))
       ∙ take_at (take size (drop 4 w)) rest size body
 
   pub behind-local : behind size (take (4 + size) w ++ rest) ≡ rest
@@ -120,7 +129,8 @@ fuel (suc n) (suc m) w low high = go (fuel n m) (front_of w) refl
     go fewer (front.Whole size) e =
         let is = whole-from w size e in
         let fits = is.fits in
-        ap (joined (step_of (body_of size w)) w) (fewer (behind size w) (omega (arith, length-drop (4 + size) w)) (omega (arith, length-drop (4 + size) w)))
+        ap (joined (step_of (body_of size w)) w)
+        (fewer (behind size w) (omega (arith, length-drop (4 + size) w)) (omega (arith, length-drop (4 + size) w)))
 
 -- where none is in front, all the bytes are the rest
 pub none-split : (w : List ℕ) → HasNone w → split_of w ≡ ([], w)
@@ -132,20 +142,24 @@ none-split (x ∷ w) none = ap (λ o. joined o (x ∷ w) (split_in (length w) (b
 pub first-split : (w : List ℕ) → (more : List Step) × ((split_of w).0 ≡ option_to_list (step_in (front_of w) w) ++ more)
 unfolding split_of front_of
 first-split [] = ([], refl)
-first-split (x ∷ w) = go (step_in (front_of (x ∷ w)) (x ∷ w)) (split_in (length w) (behind_in (front_of (x ∷ w)) (x ∷ w)))
+first-split (x ∷ w) =
+    go (step_in (front_of (x ∷ w)) (x ∷ w)) (split_in (length w) (behind_in (front_of (x ∷ w)) (x ∷ w)))
   where
-    go : (o : Option Step) (p : List Step × List ℕ) → (more : List Step) × ((joined o (x ∷ w) p).0 ≡ option_to_list o ++ more)
+    go : (o : Option Step) (p : List Step × List ℕ)
+        → (more : List Step) × ((joined o (x ∷ w) p).0 ≡ option_to_list o ++ more)
     go None p = ([], refl)
     go (Some s) p = (p.0, refl)
 
 -- a whole frame is split from whatever follows
-pub one-split : (w : List ℕ) (size : ℕ) (s : Step) (rest : List ℕ) → front_of w ≡ front.Whole size → step_of (body_of size w) ≡ Some s
+pub one-split : (w : List ℕ) (size : ℕ) (s : Step) (rest : List ℕ) → front_of w ≡ front.Whole size
+    → step_of (body_of size w) ≡ Some s
     → split_of (take (4 + size) w ++ rest) ≡ (s ∷ (split_of rest).0, (split_of rest).1)
 unfolding split_of
 one-split w size s rest whole step =
     let is = whole-from w size whole in
     let L = take (4 + size) w ++ rest in
-    let long : length L ≡ suc (3 + size + length rest) = omega (arith, length-append (take (4 + size) w) rest, length-take-le (4 + size) w is.fits) in
+    let long : length L ≡ suc (3 + size + length rest) =
+    omega (arith, length-append (take (4 + size) w) rest, length-take-le (4 + size) w is.fits) in
     let front_is = front-local w size rest is in
     let step_is : step_of (body_of size L) ≡ Some s = ap step_of (body-local w size rest is) ∙ step in
     ap (λ n. split_in n L) long
@@ -157,7 +171,8 @@ one-split w size s rest whole step =
 pub framed-none : IsFramed [] []
 framed-none rest = refl
 
-pub framed-one : (w : List ℕ) (size : ℕ) (m : Made) → front_of w ≡ front.Whole size → step_of (body_of size w) ≡ Some m.0
+pub framed-one : (w : List ℕ) (size : ℕ) (m : Made) → front_of w ≡ front.Whole size
+    → step_of (body_of size w) ≡ Some m.0
     → IsFramed (m ∷ []) (take (4 + size) w)
 framed-one w size m whole step rest = one-split w size m.0 rest whole step
 
@@ -165,7 +180,8 @@ framed-one w size m whole step rest = one-split w size m.0 rest whole step
 pub framed-more : (a b : List Made) (x y : List ℕ) → IsFramed a x → IsFramed b y → IsFramed (a ++ b) (x ++ y)
 framed-more a b x y first second rest =
     let both : map made_step (a ++ b) ++ (split_of rest).0 ≡ map made_step a ++ (map made_step b ++ (split_of rest).0) =
-    ap (λ l. l ++ (split_of rest).0) (map-append made_step a b) ∙ append_assoc (map made_step a) (map made_step b) (split_of rest).0 in
+    ap (λ l. l ++ (split_of rest).0) (map-append made_step a b)
+    ∙ append_assoc (map made_step a) (map made_step b) (split_of rest).0 in
     ap split_of (append_assoc x y rest)
     ∙ first (y ++ rest)
     ∙ ap (λ p. (map made_step a ++ p.0, p.1)) (second rest)

@@ -1,5 +1,6 @@
 -- What an answer to one frame comes to.
-use Rattle.std.proofs.Common.{◌≡◌, ℕ, suc, ◌*◌, ◌<◌, ◌≤◌, ◌^◌, List, [], ◌∷◌, ◌++◌, length, take, flat_map, append-nil, length-append, All, true, false}
+use Rattle.std.proofs.Common.{◌≡◌, ℕ, suc, ◌*◌, ◌<◌, ◌≤◌, ◌^◌, List, [], ◌∷◌, ◌++◌, length, take, flat_map, append-nil}
+use Rattle.std.proofs.Common.{length-append, All, true, false}
 use Rattle.std.proofs.Common.{Option, Some, if◌then◌else◌, refl, sym, ap, ◌∙◌, subst, arith}
 use Rattle.std.specs.Prelude.{IsTrue, option_to_list, slice_index_or}
 use Rattle.std.specs.Io.KnownBytes.{Appends}
@@ -28,7 +29,8 @@ pub record IsSpelled (r : Reply) : Type 0 where
   pub short : length (body_bytes r) < 2 ^ 32
 
 short-name : (lines : List NameLine) → All (λ line. IsTrue (is_name line.name)) lines → All FitsOneByte lines
-short-name lines names k d low = let ok = (is_name-Decides (slice_index_or lines k d).name).0 (names k d low) in let short = ok.short in omega arith
+short-name lines names k d low = let ok = (is_name-Decides (slice_index_or lines k d).name).0 (names k d low) in
+    let short = ok.short in omega arith
 
 -- the lines of a slot take at most 258 bytes each
 length-lines : (lines : List NameLine) → All FitsOneByte lines → length (flat_map line_bytes lines) ≤ 258 * length lines
@@ -37,16 +39,25 @@ length-lines [] short = omega arith
 length-lines (line ∷ lines) short =
     let here : length line.name < 256 = short 0 line (omega arith) in
     let rest = length-lines lines (λ k d low. short (suc k) d (omega arith)) in
-    omega (arith, length-append (kind_byte line.kind ∷ (truth_byte line.dead ∷ (length line.name ∷ line.name))) (flat_map line_bytes lines))
+    omega (
+      arith,
+      length-append (kind_byte line.kind ∷ (truth_byte line.dead ∷ (length line.name ∷ line.name)))
+          (flat_map line_bytes lines),
+    )
 
-names-spelled : (slot : ℕ) (lines : List NameLine) → length lines ≤ 16 → All (λ line. IsTrue (is_name line.name)) lines → IsSpelled (reply.Names slot lines)
+names-spelled : (slot : ℕ) (lines : List NameLine) → length lines ≤ 16 → All (λ line. IsTrue (is_name line.name)) lines
+    → IsSpelled (reply.Names slot lines)
 unfolding field_bytes
 names-spelled slot lines few names =
     let short = short-name lines names in
     let long = length-lines lines short in
     record {
       lists = (omega arith, short);
-      short = omega (arith, length-append (number_bytes 8 slot) (length lines ∷ flat_map line_bytes lines), length-number_bytes 8 slot);
+      short = omega (
+        arith,
+        length-append (number_bytes 8 slot) (length lines ∷ flat_map line_bytes lines),
+        length-number_bytes 8 slot,
+      );
     }
 
 content-spelled : (bytes : List ℕ) → length bytes ≡ 1024 → IsSpelled (reply.Bytes bytes)
@@ -67,7 +78,8 @@ kept-short (refusal.Full a b c d) =
       length-number_bytes 8 c,
       length-number_bytes 8 d,
     )
-kept-short (refusal.InodesFull a b) = omega (arith, length-append (number_bytes 8 a) (number_bytes 8 b), length-number_bytes 8 a, length-number_bytes 8 b)
+kept-short (refusal.InodesFull a b) =
+    omega (arith, length-append (number_bytes 8 a) (number_bytes 8 b), length-number_bytes 8 a, length-number_bytes 8 b)
 kept-short refusal.Missing = omega arith
 kept-short refusal.Exists = omega arith
 kept-short refusal.NotDirectory = omega arith
@@ -135,12 +147,18 @@ fits-spelled s (reply.Found f) fits = record {
 }
 fits-spelled s (reply.Made i g) fits = record {
   lists = tt;
-  short = omega (arith, length-append (number_bytes 4 i) (number_bytes 8 g), length-number_bytes 4 i, length-number_bytes 8 g);
+  short = omega
+      (arith, length-append (number_bytes 4 i) (number_bytes 8 g), length-number_bytes 4 i, length-number_bytes 8 g);
 }
 fits-spelled s (reply.LostNames slot) fits = record { lists = tt; short = omega (arith, length-number_bytes 8 slot) }
 fits-spelled s (reply.Stat t) fits = record {
   lists = tt;
-  short = omega (arith, length-append (number_bytes 8 t.size) (number_bytes 4 t.links), length-number_bytes 8 t.size, length-number_bytes 4 t.links);
+  short = omega (
+    arith,
+    length-append (number_bytes 8 t.size) (number_bytes 4 t.links),
+    length-number_bytes 8 t.size,
+    length-number_bytes 4 t.links,
+  );
 }
 fits-spelled s reply.Linked fits = record { lists = tt; short = omega arith }
 fits-spelled s (reply.Dropped b) fits = record { lists = tt; short = omega arith }
@@ -154,7 +172,8 @@ fits-spelled s reply.Flushed fits = record { lists = tt; short = omega arith }
 fits-spelled s (reply.Seen b) fits = record { lists = tt; short = omega arith }
 
 -- nothing was made or given
-pub answers-nothing : (o : Option Step) (made new : List Made) (given : Option (List ℕ)) → new ≡ made → AnswersInPart o made new given given
+pub answers-nothing : (o : Option Step) (made new : List Made) (given : Option (List ℕ))
+    → new ≡ made → AnswersInPart o made new given given
 answers-nothing o made new given same = record {
   steps = [];
   left = option_to_list o;
@@ -165,14 +184,17 @@ answers-nothing o made new given same = record {
 }
 
 -- a step that was made, and what was given of its reply
-pub answers-made : (a : Answered) (s : Step) (r : Reply) (made new : List Made) (given new_given : Option (List ℕ)) → is_out_of_memory r ≡ false
-    → new ≡ with_made made s r → GivesReply a (reply_bytes r) given new_given → AnswersSo a (Some s) made new given new_given
+pub answers-made : (a : Answered) (s : Step) (r : Reply) (made new : List Made) (given new_given : Option (List ℕ))
+    → is_out_of_memory r ≡ false
+    → new ≡ with_made made s r → GivesReply a (reply_bytes r) given new_given
+    → AnswersSo a (Some s) made new given new_given
 answers-made a s r made new given new_given room more gives = go a gives
   where
     added : new ≡ made ++ (s, r) ∷ []
     added = more ∙ ap (λ b. if b then made else made ++ (s, r) ∷ []) room
 
-    part : (count : ℕ) × Appends given new_given (take count (reply_bytes r)) → AnswersInPart (Some s) made new given new_given
+    part : (count : ℕ) × Appends given new_given (take count (reply_bytes r))
+        → AnswersInPart (Some s) made new given new_given
     part p = record {
       steps = (s, r) ∷ [];
       left = [];
@@ -189,7 +211,8 @@ answers-made a s r made new given new_given room more gives = go a gives
     go answered.OutOfMemory g = part g
 
 -- a step that found no memory isn't made
-pub answers-unmade : (s : Step) (r : Reply) (made new : List Made) (given : Option (List ℕ)) → is_out_of_memory r ≡ true → new ≡ with_made made s r
+pub answers-unmade : (s : Step) (r : Reply) (made new : List Made) (given : Option (List ℕ))
+    → is_out_of_memory r ≡ true → new ≡ with_made made s r
     → AnswersInPart (Some s) made new given given
 answers-unmade s r made new given none more =
     answers-nothing (Some s) made new given (more ∙ ap (λ b. if b then made else made ++ (s, r) ∷ []) none)

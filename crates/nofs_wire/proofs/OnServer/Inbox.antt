@@ -1,5 +1,6 @@
 -- Bytes that are taken behind others, and bytes that move to the front.
-use Rattle.std.proofs.Common.{◌≡◌, ℕ, ◌+◌, ◌-◌, ◌<◌, ◌≤◌, List, [], ◌++◌, length, take, drop, length-drop, None, Some, Result, Ok, Err, sym, ap, ◌∙◌, arith}
+use Rattle.std.proofs.Common.{◌≡◌, ℕ, ◌+◌, ◌-◌, ◌<◌, ◌≤◌, List, [], ◌++◌, length, take, drop, length-drop, None, Some}
+use Rattle.std.proofs.Common.{Result, Ok, Err, sym, ap, ◌∙◌, arith}
 use Rattle.std.specs.declared.option.Option.{Option}
 use Rattle.std.specs.Io.{ReadsAtMost}
 use Rattle.std.specs.Io.KnownBytes.{Consumes, Keeps, ReadConsumes}
@@ -15,16 +16,20 @@ consumes-nothing (Some x) None h = absurd h
 consumes-nothing (Some x) (Some y) h = sym h
 
 -- what was taken into the middle stands behind the front
-pub takes-into : {E : Type 0} (r : Result ℕ E) (from to : ℕ) (old into rest : List ℕ) (left new_left : Option (List ℕ)) → from ≤ length old → from < to
-    → length into ≡ to - from → ReadsAtMost r into → ReadConsumes left new_left r into → TakesInto r from to old (take from old ++ (into ++ rest)) left new_left
+pub takes-into : {E : Type 0} (r : Result ℕ E) (from to : ℕ) (old into rest : List ℕ) (left new_left : Option (List ℕ))
+    → from ≤ length old → from < to
+    → length into ≡ to - from → ReadsAtMost r into → ReadConsumes left new_left r into
+    → TakesInto r from to old (take from old ++ (into ++ rest)) left new_left
 takes-into (Ok count) from to old into rest left new_left fits some long within bytes =
     let front : length (take from old) ≡ from = length-take-le from old fits in
     let low = within.0 in
-    let joined : take (length (take from old) + count) (take from old ++ (into ++ rest)) ≡ take from old ++ take count (into ++ rest) =
+    let joined : take (length (take from old) + count) (take from old ++ (into ++ rest)) ≡ take from old
+    ++ take count (into ++ rest) =
     take-append-add (take from old) (into ++ rest) count in (
       take count into,
       bytes.0,
-      ap (λ n. take (n + count) (take from old ++ (into ++ rest))) (sym front) ∙ joined ∙ ap (λ l. take from old ++ l) (take-append-le count into rest low),
+      ap (λ n. take (n + count) (take from old ++ (into ++ rest))) (sym front)
+          ∙ joined ∙ ap (λ l. take from old ++ l) (take-append-le count into rest low),
       length-take-le count into low,
       omega arith,
       λ none. bytes.1 none (omega arith),
@@ -33,7 +38,8 @@ takes-into (Err e) from to old into rest left new_left fits some long within byt
     (consumes-nothing left new_left bytes, take_at (take from old) (into ++ rest) from (length-take-le from old fits))
 
 -- what was pasted to the front is what stood from a place on
-pub shifted : (from to : ℕ) (old : List ℕ) → from ≤ to → to ≤ length old → take (to - from) (paste old 0 (drop from old) (to - from)) ≡ drop from (take to old)
+pub shifted : (from to : ℕ) (old : List ℕ) → from ≤ to → to ≤ length old
+    → take (to - from) (paste old 0 (drop from old) (to - from)) ≡ drop from (take to old)
 shifted from to old order within =
     let n = to - from in
     let same : n ≡ 0 + n = omega arith in

@@ -1,5 +1,6 @@
 -- What a server has done so far, from turn to turn up to its end.
-use Rattle.std.proofs.Common.{◌≡◌, ℕ, ◌+◌, ◌≤◌, List, [], ◌++◌, length, take, map, append_assoc, append-nil, length-append, Option, None, refl, sym, ap, ◌∙◌}
+use Rattle.std.proofs.Common.{◌≡◌, ℕ, ◌+◌, ◌≤◌, List, [], ◌++◌, length, take, map, append_assoc, append-nil}
+use Rattle.std.proofs.Common.{length-append, Option, None, refl, sym, ap, ◌∙◌}
 use Rattle.std.proofs.Common.{subst, arith}
 use Rattle.std.specs.Io.KnownBytes.{Consumes, Appends}
 use Rattle.std.proofs.KnownBytes.{Appends-nil, Appends-trans, Consumes-nil, Consumes-trans}
@@ -20,7 +21,8 @@ use Rattle.nofs_wire.specs.Server.Inbox.{InboxState}
 use Rattle.nofs_wire.proofs.OnFrames.Split.{framed-none, framed-more, none-split, first-split}
 
 -- the frames so far are answered, and behind them stands what wasn't used yet
-pub record Along (first left first_given given : Option (List ℕ)) (first_made made : List Made) (inbox : InboxState) : Type 0 where
+pub record Along (first left first_given given : Option (List ℕ)) (first_made made : List Made)
+    (inbox : InboxState) : Type 0 where
   pub done : List ℕ
   pub steps : List Made
   pub takes : Consumes first left (done ++ inbox.window)
@@ -29,7 +31,8 @@ pub record Along (first left first_given given : Option (List ℕ)) (first_made 
   pub gives : Appends first_given given (replies_of steps)
   pub counts : inbox.taken ≡ length (done ++ inbox.window)
 
-pub along-begins : (left given : Option (List ℕ)) (made : List Made) → Along left left given given made made (record { window = []; taken = 0 })
+pub along-begins : (left given : Option (List ℕ)) (made : List Made)
+    → Along left left given given made made (record { window = []; taken = 0 })
 along-begins left given made = record {
   done = [];
   steps = [];
@@ -43,23 +46,29 @@ along-begins left given made = record {
 -- no more bytes stand behind the frames than were taken
 pub along-order : (first left first_given given : Option (List ℕ)) (first_made made : List Made) (inbox : InboxState)
     → Along first left first_given given first_made made inbox → length inbox.window ≤ inbox.taken
-along-order first left first_given given first_made made inbox a = omega (arith, a.counts, length-append a.done inbox.window)
+along-order first left first_given given first_made made inbox a =
+    omega (arith, a.counts, length-append a.done inbox.window)
 
-pub along-goes : (first left new_left first_given given new_given : Option (List ℕ)) (first_made made new_made : List Made) (old new : InboxState)
-    → Along first left first_given given first_made made old → GoesOn old new left new_left given new_given made new_made
+pub along-goes : (first left new_left first_given given new_given : Option (List ℕ))
+    (first_made made new_made : List Made) (old new : InboxState)
+    → Along first left first_given given first_made made old
+    → GoesOn old new left new_left given new_given made new_made
     → Along first new_left first_given new_given first_made new_made new
 along-goes first left new_left first_given given new_given first_made made new_made old new a g =
     let moved : (a.done ++ old.window) ++ g.bytes ≡ (a.done ++ g.front) ++ new.window =
-    append_assoc a.done old.window g.bytes ∙ ap (λ l. a.done ++ l) g.uses ∙ sym (append_assoc a.done g.front new.window) in
+    append_assoc a.done old.window g.bytes ∙ ap (λ l. a.done ++ l) g.uses
+    ∙ sym (append_assoc a.done g.front new.window) in
     record {
       done = a.done ++ g.front;
       steps = a.steps ++ g.steps;
-      takes = subst (Consumes first new_left) moved (Consumes-trans first left new_left (a.done ++ old.window) g.bytes a.takes g.takes);
+      takes = subst (Consumes first new_left) moved
+          (Consumes-trans first left new_left (a.done ++ old.window) g.bytes a.takes g.takes);
       makes = g.makes ∙ ap (λ l. l ++ g.steps) a.makes ∙ append_assoc first_made a.steps g.steps;
       framed = framed-more a.steps g.steps a.done g.front a.framed g.framed;
       gives = subst (Appends first_given new_given) (sym (flat_map-append made_bytes a.steps g.steps))
           (Appends-trans first_given given new_given (replies_of a.steps) (replies_of g.steps) a.gives g.gives);
-      counts = g.counts ∙ ap (λ n. n + length g.bytes) a.counts ∙ sym (length-append (a.done ++ old.window) g.bytes) ∙ ap length moved;
+      counts = g.counts ∙ ap (λ n. n + length g.bytes) a.counts ∙ sym (length-append (a.done ++ old.window) g.bytes)
+          ∙ ap length moved;
     }
 
 -- Where nothing whole is in front
@@ -90,7 +99,8 @@ short-none w k short = ap (λ f. step_in f w) short
 module _ (done w : List ℕ) (steps : List Made) (framed : IsFramed steps done) where
   quiet-split : HasNone w → split_of (done ++ w) ≡ (map made_step steps, w)
   quiet-split none =
-      framed w ∙ ap (λ p. (map made_step steps ++ p.0, p.1)) (none-split w none) ∙ ap (λ l. (l, w)) (append-nil (map made_step steps))
+      framed w ∙ ap (λ p. (map made_step steps ++ p.0, p.1)) (none-split w none)
+      ∙ ap (λ l. (l, w)) (append-nil (map made_step steps))
 
   served : HasNone w → IsServed (done ++ w) steps (replies_of steps)
   served none = record { steps = sym (ap (λ p. p.0) (quiet-split none)); replies = refl }
@@ -109,7 +119,8 @@ module _ (done w : List ℕ) (steps : List Made) (framed : IsFramed steps done) 
       record {
         left = left ++ front.0;
         steps = ap (λ p. p.0) (framed w)
-            ∙ ap (λ l. all ++ l) (front.1 ∙ ap (λ l. l ++ front.0) first ∙ append_assoc (map made_step more) left front.0)
+            ∙ ap (λ l. all ++ l)
+            (front.1 ∙ ap (λ l. l ++ front.0) first ∙ append_assoc (map made_step more) left front.0)
             ∙ sym (append_assoc all (map made_step more) (left ++ front.0))
             ∙ ap (λ l. l ++ (left ++ front.0)) (sym (map-append made_step steps more));
         count = length (replies_of steps) + count;
@@ -118,16 +129,21 @@ module _ (done w : List ℕ) (steps : List Made) (framed : IsFramed steps done) 
             ∙ ap (take (length (replies_of steps) + count)) (sym (flat_map-append made_bytes steps more));
       }
 
-module _ (most : ℕ) (first left new_left first_given given new_given : Option (List ℕ)) (first_made made new_made : List Made) (inbox : InboxState)
-    (a : Along first left first_given given first_made made inbox) (few : inbox.taken ≤ most) (bytes : List ℕ) (steps : List Made) (written : List ℕ)
-    (takes : Consumes left new_left bytes) (makes : new_made ≡ made ++ steps) (gives : Appends given new_given written) where
+module _ (most : ℕ) (first left new_left first_given given new_given : Option (List ℕ))
+    (first_made made new_made : List Made) (inbox : InboxState)
+    (a : Along first left first_given given first_made made inbox) (few : inbox.taken ≤ most) (bytes : List ℕ)
+    (steps : List Made) (written : List ℕ)
+    (takes : Consumes left new_left bytes) (makes : new_made ≡ made ++ steps)
+    (gives : Appends given new_given written) where
   end-so : (e : WireEnd) (taken : List ℕ) → (a.done ++ inbox.window) ++ bytes ≡ taken
-      → EndsSo most e new_left taken (a.steps ++ steps) (replies_of a.steps ++ written) → Serves most e first new_left first_given new_given first_made new_made
+      → EndsSo most e new_left taken (a.steps ++ steps) (replies_of a.steps ++ written)
+      → Serves most e first new_left first_given new_given first_made new_made
   end-so e taken same ends = record {
     taken = taken;
     steps = a.steps ++ steps;
     written = replies_of a.steps ++ written;
-    takes = subst (Consumes first new_left) same (Consumes-trans first left new_left (a.done ++ inbox.window) bytes a.takes takes);
+    takes = subst (Consumes first new_left) same
+        (Consumes-trans first left new_left (a.done ++ inbox.window) bytes a.takes takes);
     makes = makes ∙ ap (λ l. l ++ steps) a.makes ∙ append_assoc first_made a.steps steps;
     writes = Appends-trans first_given given new_given (replies_of a.steps) written a.gives gives;
     ends = ends;
@@ -148,19 +164,26 @@ module _ (most : ℕ) (first left new_left first_given given new_given : Option 
   same-served : (b : List ℕ) → steps ≡ [] → written ≡ [] → IsServed b a.steps (replies_of a.steps)
       → IsServed b (a.steps ++ steps) (replies_of a.steps ++ written)
   same-served b no_steps no_written s =
-      subst (λ w. IsServed b (a.steps ++ steps) w) (same-written no_written) (subst (λ m. IsServed b m (replies_of a.steps)) (same-steps no_steps) s)
+      subst (λ w. IsServed b (a.steps ++ steps) w) (same-written no_written)
+      (subst (λ m. IsServed b m (replies_of a.steps)) (same-steps no_steps) s)
 
   here : HasNone inbox.window → IsServed (a.done ++ inbox.window) a.steps (replies_of a.steps)
   here = served a.done inbox.window a.steps a.framed
 
-  place : (at : ℕ) → HasNone inbox.window → at + length inbox.window ≡ inbox.taken → IsRestAt at (a.done ++ inbox.window)
+  place : (at : ℕ) → HasNone inbox.window
+      → at + length inbox.window ≡ inbox.taken → IsRestAt at (a.done ++ inbox.window)
   place at none is = rest-at a.done inbox.window a.steps a.framed at none (is ∙ a.counts)
 
-  stops-so : (e : WireEnd) → StopsSo most e inbox new_left bytes steps written → Serves most e first new_left first_given new_given first_made new_made
+  stops-so : (e : WireEnd) → StopsSo most e inbox new_left bytes steps written
+      → Serves most e first new_left first_given new_given first_made new_made
   stops-so ended.End (nothing, none, at_end) =
       let quiet : HasNone inbox.window = subst HasNone (sym none) nil-none in
-      end-so ended.End (a.done ++ inbox.window) (same-bytes nothing.0)
-      (same-served _ nothing.1 nothing.2 (here quiet), rest a.done inbox.window a.steps a.framed quiet ∙ none, at_end, short)
+      end-so ended.End (a.done ++ inbox.window) (same-bytes nothing.0) (
+        same-served _ nothing.1 nothing.2 (here quiet),
+        rest a.done inbox.window a.steps a.framed quiet ∙ none,
+        at_end,
+        short,
+      )
   stops-so (ended.Cut at) (nothing, cut, is, at_end) =
       let quiet : HasNone inbox.window = cut-none inbox.window cut in
       end-so (ended.Cut at) (a.done ++ inbox.window) (same-bytes nothing.0) (
@@ -172,33 +195,45 @@ module _ (most : ℕ) (first left new_left first_given given new_given : Option 
       )
   stops-so (ended.Bad at) (nothing, bad, is) =
       let quiet : HasNone inbox.window = bad-none inbox.window bad in
-      end-so (ended.Bad at) (a.done ++ inbox.window) (same-bytes nothing.0)
-      (same-served _ nothing.1 nothing.2 (here quiet), subst IsBad (sym (rest a.done inbox.window a.steps a.framed quiet)) bad, place at quiet is, short)
+      end-so (ended.Bad at) (a.done ++ inbox.window) (same-bytes nothing.0) (
+        same-served _ nothing.1 nothing.2 (here quiet),
+        subst IsBad (sym (rest a.done inbox.window a.steps a.framed quiet)) bad,
+        place at quiet is,
+        short,
+      )
   stops-so ended.TooLong (none, is, one, no_steps, no_written) =
       let long : length (a.done ++ inbox.window) ≡ most = sym a.counts ∙ is in
-      let front : take most ((a.done ++ inbox.window) ++ bytes) ≡ a.done ++ inbox.window = take_at (a.done ++ inbox.window) bytes most long in
+      let front : take most ((a.done ++ inbox.window) ++ bytes) ≡ a.done ++ inbox.window =
+      take_at (a.done ++ inbox.window) bytes most long in
       end-so ended.TooLong ((a.done ++ inbox.window) ++ bytes) refl (
-        same-served _ no_steps no_written (subst (λ b. IsServed b a.steps (replies_of a.steps)) (sym front) (here none)),
+        same-served _ no_steps no_written
+            (subst (λ b. IsServed b a.steps (replies_of a.steps)) (sym front) (here none)),
         omega (arith, length-append (a.done ++ inbox.window) bytes),
       )
   stops-so ended.SourceFault (nothing, none) =
-      end-so ended.SourceFault (a.done ++ inbox.window) (same-bytes nothing.0) (same-served _ nothing.1 nothing.2 (here none), short)
+      end-so ended.SourceFault (a.done ++ inbox.window) (same-bytes nothing.0)
+      (same-served _ nothing.1 nothing.2 (here none), short)
   stops-so ended.SinkFault (no_bytes, in_part) =
-      end-so ended.SinkFault (a.done ++ inbox.window) (same-bytes no_bytes) (part a.done inbox.window a.steps a.framed steps written in_part, short)
+      end-so ended.SinkFault (a.done ++ inbox.window) (same-bytes no_bytes)
+      (part a.done inbox.window a.steps a.framed steps written in_part, short)
   stops-so ended.OutOfMemory (no_bytes, in_part) =
-      end-so ended.OutOfMemory (a.done ++ inbox.window) (same-bytes no_bytes) (part a.done inbox.window a.steps a.framed steps written in_part, short)
+      end-so ended.OutOfMemory (a.done ++ inbox.window) (same-bytes no_bytes)
+      (part a.done inbox.window a.steps a.framed steps written in_part, short)
 
 -- where the server ends, it has served
-pub along-stops : (most : ℕ) (e : WireEnd) (first left new_left first_given given new_given : Option (List ℕ)) (first_made made new_made : List Made)
+pub along-stops : (most : ℕ) (e : WireEnd) (first left new_left first_given given new_given : Option (List ℕ))
+    (first_made made new_made : List Made)
     (inbox : InboxState)
-    → Along first left first_given given first_made made inbox → inbox.taken ≤ most → Stops most e inbox left new_left given new_given made new_made
+    → Along first left first_given given first_made made inbox
+    → inbox.taken ≤ most → Stops most e inbox left new_left given new_given made new_made
     → Serves most e first new_left first_given new_given first_made new_made
 along-stops most e first left new_left first_given given new_given first_made made new_made inbox a few s =
     stops-so most first left new_left first_given given new_given first_made made new_made inbox a few
     s.bytes s.steps s.written s.takes s.makes s.gives e s.ends
 
 -- nothing was served
-pub serves-nothing : (most : ℕ) (left given : Option (List ℕ)) (made : List Made) → Serves most ended.OutOfMemory left left given given made made
+pub serves-nothing : (most : ℕ) (left given : Option (List ℕ)) (made : List Made)
+    → Serves most ended.OutOfMemory left left given given made made
 serves-nothing most left given made = record {
   taken = [];
   steps = [];

@@ -39,7 +39,8 @@ refusal_byte refusal.OutOfMemory = 21
 abbrev pub kept_bytes : Refusal → List ℕ
 kept_bytes (refusal.LostEntry entry) = number_bytes 4 entry
 kept_bytes (refusal.LostSlot slot) = number_bytes 8 slot
-kept_bytes (refusal.Full needed free unverified next) = number_bytes 8 needed ++ (number_bytes 8 free ++ (number_bytes 8 unverified ++ number_bytes 8 next))
+kept_bytes (refusal.Full needed free unverified next) =
+    number_bytes 8 needed ++ (number_bytes 8 free ++ (number_bytes 8 unverified ++ number_bytes 8 next))
 kept_bytes (refusal.InodesFull unverified next) = number_bytes 8 unverified ++ number_bytes 8 next
 kept_bytes refusal.Missing = []
 kept_bytes refusal.Exists = []
@@ -66,7 +67,8 @@ first_byte _ = 0
 
 -- what stands behind the first byte
 unfoldable pub field_bytes : Reply → List ℕ
-field_bytes (reply.Found found) = number_bytes 4 found.inode ++ (number_bytes 8 found.generation ++ kind_byte found.kind ∷ [])
+field_bytes (reply.Found found) =
+    number_bytes 4 found.inode ++ (number_bytes 8 found.generation ++ kind_byte found.kind ∷ [])
 field_bytes (reply.Made inode generation) = number_bytes 4 inode ++ number_bytes 8 generation
 field_bytes (reply.Dropped removed) = truth_byte removed ∷ []
 field_bytes (reply.Names slot lines) = 1 ∷ (number_bytes 8 slot ++ (length lines ∷ flat_map line_bytes lines))

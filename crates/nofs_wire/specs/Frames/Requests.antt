@@ -1,5 +1,6 @@
 -- The step that the body of a frame spells (docs/FORMAT.md, "Frames").
-use Rattle.std.specs.Prelude.{ℕ, ◌+◌, List, length, take, drop, Bool, ◌==◌, ◌&&◌, nat_lt, nat_le, Option, Some, None, option_and_then, if◌then◌else◌}
+use Rattle.std.specs.Prelude.{ℕ, ◌+◌, List, length, take, drop, Bool, ◌==◌, ◌&&◌, nat_lt, nat_le, Option, Some, None}
+use Rattle.std.specs.Prelude.{option_and_then, if◌then◌else◌}
 use Rattle.std.specs.Prelude.{slice_index}
 use Rattle.nofs_disk.specs.Number.{number_at}
 use Rattle.nofs_inode.specs.declared.inode.FileKind.{FileKind}
@@ -40,7 +41,8 @@ generation_field body = number_at 8 5 body
 
 -- the name alone
 unfoldable pub look_request : List ℕ → List ℕ → Option Step
-look_request name body = where_ends (length body == 14 + length name) (step.Look (inode_field body) (generation_field body) name)
+look_request name body =
+    where_ends (length body == 14 + length name) (step.Look (inode_field body) (generation_field body) name)
 
 -- behind the name the kind
 unfoldable pub make_of : List ℕ → List ℕ → Option Step
@@ -51,21 +53,25 @@ make_of name body = do
 -- behind the name the inode number and the generation of the file
 unfoldable pub link_of : List ℕ → List ℕ → Option Step
 link_of name body = where_ends (length body == 26 + length name)
-    (step.Link (inode_field body) (generation_field body) name (number_at 4 (14 + length name) body) (number_at 8 (18 + length name) body))
+    (step.Link (inode_field body) (generation_field body) name (number_at 4 (14 + length name) body)
+    (number_at 8 (18 + length name) body))
 
 -- the name alone
 unfoldable pub drop_of : List ℕ → List ℕ → Option Step
-drop_of name body = where_ends (length body == 14 + length name) (step.Drop (inode_field body) (generation_field body) name)
+drop_of name body =
+    where_ends (length body == 14 + length name) (step.Drop (inode_field body) (generation_field body) name)
 
 -- behind the name the new one
 unfoldable pub rename_of : List ℕ → List ℕ → Option Step
 rename_of name body = do
   new ← name_field (14 + length name) body
-  where_ends (length body == 15 + length name + length new) (step.Rename (inode_field body) (generation_field body) name new)
+  where_ends (length body == 15 + length name + length new)
+      (step.Rename (inode_field body) (generation_field body) name new)
 
 -- slot
 unfoldable pub list_of : List ℕ → Option Step
-list_of body = where_ends (length body == 21) (step.List (inode_field body) (generation_field body) (number_at 8 13 body))
+list_of body =
+    where_ends (length body == 21) (step.List (inode_field body) (generation_field body) (number_at 8 13 body))
 
 -- slot
 unfoldable pub get_of : List ℕ → Option Step
@@ -78,7 +84,8 @@ put_of body = where_ends (nat_le 25 (length body))
 
 -- size
 unfoldable pub resize_of : List ℕ → Option Step
-resize_of body = where_ends (length body == 21) (step.Resize (inode_field body) (generation_field body) (number_at 8 13 body))
+resize_of body =
+    where_ends (length body == 21) (step.Resize (inode_field body) (generation_field body) (number_at 8 13 body))
 
 unfoldable pub stat_of : List ℕ → Option Step
 stat_of body = where_ends (length body == 13) (step.Stat (inode_field body) (generation_field body))

@@ -20,17 +20,20 @@ pub record MayTake (limit : ℕ) (inbox : InboxState) : Type 0 where
 -- bytes were taken behind those that stood before a place; none at a fault, and none without one only at the end
 abbrev pub TakesInto : {E : Type 0} → Result ℕ E → ℕ → ℕ → List ℕ → List ℕ → Option (List ℕ) → Option (List ℕ) → Type 0
 TakesInto (Ok count) from to old new left new_left =
-    (part : List ℕ) × Consumes left new_left part × (take (from + count) new ≡ take from old ++ part) × (length part ≡ count) × (from + count ≤ to)
+    (part : List ℕ) × Consumes left new_left part × (take (from + count) new ≡ take from old ++ part)
+    × (length part ≡ count) × (from + count ≤ to)
     × (count ≡ 0 → IsAtEnd new_left)
 TakesInto (Err e) from to old new left new_left = Consumes left new_left [] × (take from new ≡ take from old)
 
 -- so many bytes were taken behind the others; none only at the end
 abbrev pub TakesCount : ℕ → ℕ → InboxState → InboxState → Option (List ℕ) → Option (List ℕ) → Type 0
 TakesCount count most old new left new_left =
-    (part : List ℕ) × Consumes left new_left part × (new.window ≡ old.window ++ part) × (length part ≡ count) × (count ≤ most)
+    (part : List ℕ) × Consumes left new_left part × (new.window ≡ old.window ++ part) × (length part ≡ count)
+    × (count ≤ most)
     × (new.taken ≡ old.taken + count) × (count ≡ 0 → IsAtEnd new_left)
 
 -- the same, and none at a fault
-abbrev pub TakesMore : {E : Type 0} → Result ℕ E → ℕ → InboxState → InboxState → Option (List ℕ) → Option (List ℕ) → Type 0
+abbrev pub TakesMore : {E : Type 0} → Result ℕ E → ℕ → InboxState → InboxState → Option (List ℕ)
+    → Option (List ℕ) → Type 0
 TakesMore (Ok count) most old new left new_left = TakesCount count most old new left new_left
 TakesMore (Err e) most old new left new_left = Consumes left new_left [] × (new ≡ old)

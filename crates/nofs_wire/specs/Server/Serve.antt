@@ -48,7 +48,8 @@ EndsSo most ended.SinkFault left taken made given = IsServedInPart taken made gi
 EndsSo most ended.OutOfMemory left taken made given = IsServedInPart taken made given × (length taken ≤ most)
 
 -- bytes were taken, steps made and replies written, up to an end
-pub record Serves (most : ℕ) (end : WireEnd) (left new_left given new_given : Option (List ℕ)) (made new_made : List Made) : Type 0 where
+pub record Serves (most : ℕ) (end : WireEnd) (left new_left given new_given : Option (List ℕ))
+    (made new_made : List Made) : Type 0 where
   pub taken : List ℕ
   pub steps : List Made
   pub written : List ℕ

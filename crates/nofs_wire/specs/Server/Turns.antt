@@ -1,5 +1,6 @@
 -- What one turn of the server does: it takes some bytes, or answers one frame, or ends.
-use Rattle.std.specs.Prelude.{◌≡◌, ℕ, ◌+◌, ◌*◌, ◌<◌, ◌≤◌, List, [], ◌∷◌, ◌++◌, length, take, map, option_to_list, Some, None}
+use Rattle.std.specs.Prelude.{◌≡◌, ℕ, ◌+◌, ◌*◌, ◌<◌, ◌≤◌, List, [], ◌∷◌, ◌++◌, length, take, map, option_to_list, Some}
+use Rattle.std.specs.Prelude.{None}
 use Rattle.std.specs.declared.option.Option.{Option}
 use Rattle.std.specs.Io.KnownBytes.{Consumes, Appends, IsAtEnd}
 use Rattle.nofs_io.specs.Calls.{CountRose}
@@ -30,7 +31,8 @@ GivesReply answered.SinkFault frame given new_given = (count : ℕ) × Appends g
 GivesReply answered.OutOfMemory frame given new_given = (count : ℕ) × Appends given new_given (take count frame)
 
 -- the step was made or not, and the first bytes of its reply were given
-pub record AnswersInPart (step : Option Step) (made new_made : List Made) (given new_given : Option (List ℕ)) : Type 0 where
+pub record AnswersInPart (step : Option Step) (made new_made : List Made)
+    (given new_given : Option (List ℕ)) : Type 0 where
   pub steps : List Made
   pub left : List Step
   pub count : ℕ
@@ -39,14 +41,16 @@ pub record AnswersInPart (step : Option Step) (made new_made : List Made) (given
   pub gives : Appends given new_given (take count (replies_of steps))
 
 -- the step was made, and its reply given whole
-pub record AnswersWhole (step : Option Step) (made new_made : List Made) (given new_given : Option (List ℕ)) : Type 0 where
+pub record AnswersWhole (step : Option Step) (made new_made : List Made)
+    (given new_given : Option (List ℕ)) : Type 0 where
   pub one : Made
   pub is : step ≡ Some one.0
   pub makes : new_made ≡ made ++ one ∷ []
   pub gives : Appends given new_given (reply_bytes one.1)
 
 -- no step was there to be made
-pub record AnswersNone (step : Option Step) (made new_made : List Made) (given new_given : Option (List ℕ)) : Type 0 where
+pub record AnswersNone (step : Option Step) (made new_made : List Made)
+    (given new_given : Option (List ℕ)) : Type 0 where
   pub none : step ≡ None
   pub makes : new_made ≡ made
   pub gives : Appends given new_given []
@@ -60,10 +64,12 @@ AnswersSo answered.OutOfMemory step made new_made given new_given = AnswersInPar
 
 -- these bytes are the frames of just these steps, whatever follows
 abbrev pub IsFramed : List Made → List ℕ → Type 0
-IsFramed steps front = (rest : List ℕ) → split_of (front ++ rest) ≡ (map made_step steps ++ (split_of rest).0, (split_of rest).1)
+IsFramed steps front =
+    (rest : List ℕ) → split_of (front ++ rest) ≡ (map made_step steps ++ (split_of rest).0, (split_of rest).1)
 
 -- the server goes on: it took bytes, and used others for the steps that it made and answered
-pub record GoesOn (old new : InboxState) (left new_left given new_given : Option (List ℕ)) (made new_made : List Made) : Type 0 where
+pub record GoesOn (old new : InboxState) (left new_left given new_given : Option (List ℕ))
+    (made new_made : List Made) : Type 0 where
   pub bytes : List ℕ
   pub front : List ℕ
   pub steps : List Made
@@ -86,11 +92,13 @@ HasNone window = step_in (front_of window) window ≡ None
 -- the first of these steps were made, and the first bytes of their replies given
 abbrev pub IsInPart : Option Step → List Made → List ℕ → Type 0
 IsInPart step steps written =
-    (left : List Step) × (count : ℕ) × (option_to_list step ≡ map made_step steps ++ left) × (written ≡ take count (replies_of steps))
+    (left : List Step) × (count : ℕ) × (option_to_list step ≡ map made_step steps ++ left)
+    × (written ≡ take count (replies_of steps))
 
 -- why it ends here, by the bytes that came and weren't used
 abbrev pub StopsSo : ℕ → WireEnd → InboxState → Option (List ℕ) → List ℕ → List Made → List ℕ → Type 0
-StopsSo most ended.End inbox left bytes steps written = IsNothing bytes steps written × (inbox.window ≡ []) × IsAtEnd left
+StopsSo most ended.End inbox left bytes steps written = IsNothing bytes steps written
+    × (inbox.window ≡ []) × IsAtEnd left
 StopsSo most (ended.Cut at) inbox left bytes steps written =
     IsNothing bytes steps written × IsCut inbox.window × (at + length inbox.window ≡ inbox.taken) × IsAtEnd left
 StopsSo most (ended.Bad at) inbox left bytes steps written =
@@ -98,11 +106,14 @@ StopsSo most (ended.Bad at) inbox left bytes steps written =
 StopsSo most ended.TooLong inbox left bytes steps written =
     HasNone inbox.window × (inbox.taken ≡ most) × (length bytes ≡ 1) × (steps ≡ []) × (written ≡ [])
 StopsSo most ended.SourceFault inbox left bytes steps written = IsNothing bytes steps written × HasNone inbox.window
-StopsSo most ended.SinkFault inbox left bytes steps written = (bytes ≡ []) × IsInPart (step_in (front_of inbox.window) inbox.window) steps written
-StopsSo most ended.OutOfMemory inbox left bytes steps written = (bytes ≡ []) × IsInPart (step_in (front_of inbox.window) inbox.window) steps written
+StopsSo most ended.SinkFault inbox left bytes steps written = (bytes ≡ [])
+    × IsInPart (step_in (front_of inbox.window) inbox.window) steps written
+StopsSo most ended.OutOfMemory inbox left bytes steps written = (bytes ≡ [])
+    × IsInPart (step_in (front_of inbox.window) inbox.window) steps written
 
 -- the server ends
-pub record Stops (most : ℕ) (end : WireEnd) (inbox : InboxState) (left new_left given new_given : Option (List ℕ)) (made new_made : List Made) : Type 0 where
+pub record Stops (most : ℕ) (end : WireEnd) (inbox : InboxState) (left new_left given new_given : Option (List ℕ))
+    (made new_made : List Made) : Type 0 where
   pub bytes : List ℕ
   pub steps : List Made
   pub written : List ℕ

@@ -167,7 +167,8 @@ fn push_kept(out: &mut Vec<u8>, refusal: &Refusal) -> Result<(), AllocError>
 
 fn push_found(out: &mut Vec<u8>, found: &Found) -> Result<(), AllocError>
     ensures { OnOk result (out.new.items ≡ out.old.items
-        ++ (number_bytes 4 found.now.inode ++ (number_bytes 8 found.now.generation ++ byte_of_kind found.now.kind ∷ []))) }
+        ++ (number_bytes 4 found.now.inode
+        ++ (number_bytes 8 found.now.generation ++ byte_of_kind found.now.kind ∷ []))) }
 {
     push_u32(out, found.inode)?;
     push_u64(out, found.generation)?;
@@ -184,7 +185,8 @@ fn push_made(out: &mut Vec<u8>, inode: u32, generation: u64) -> Result<(), Alloc
 fn push_names(out: &mut Vec<u8>, slot: u64, lines: &NameList) -> Result<(), AllocError>
     requires few { length lines.now < 256 }
     requires short { All FitsOneByte lines.now }
-    ensures { OnOk result (out.new.items ≡ out.old.items ++ (1 ∷ (number_bytes 8 slot ++ (length lines.now ∷ flat_map line_bytes lines.now)))) }
+    ensures { OnOk result (out.new.items ≡ out.old.items
+        ++ (1 ∷ (number_bytes 8 slot ++ (length lines.now ∷ flat_map line_bytes lines.now)))) }
 {
     push_byte(out, 1)?;
     push_u64(out, slot)?;

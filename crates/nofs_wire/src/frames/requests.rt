@@ -30,8 +30,8 @@ const NUMBER_END: usize = 21;
 /// Where the bytes of a put begin.
 const BYTES_AT: usize = 25;
 
-/// The step that a body spells; `None` exactly where it spells none to its last byte. Each step has one body, and is read
-/// from it. It fails only for want of memory for a name or for the bytes of a put.
+/// The step that a body spells; `None` exactly where it spells none to its last byte. Each step has one body, and is
+/// read from it. It fails only for want of memory for a name or for the bytes of a put.
 pub(crate) fn read_step(alloc: Global, body: &[u8]) -> Result<Option<Step>, AllocError>
     ensures value { IfOk result (λ step. step ≡ step_of body.now) }
     ensures one_spelling { IfOk result (λ step. IfSome step (λ s. body.now ≡ request_bytes s)) }
@@ -126,7 +126,8 @@ fn kind_of(number: u8) -> Option<FileKind>
 #[tactic(auto, unfolding(crate::specs::Frames::Requests::look_request, crate::specs::Frames::Requests::drop_of))]
 fn of_name(alloc: Global, first: u8, name: &[u8], body: &[u8]) -> Result<Option<Step>, AllocError>
     requires { 14 + length name.now ≤ length body.now }
-    ensures { IfOk result (λ step. step ≡ (if first == 1 then look_request name.now body.now else drop_of name.now body.now)) }
+    ensures { IfOk result
+        (λ step. step ≡ (if first == 1 then look_request name.now body.now else drop_of name.now body.now)) }
 {
     if body.len() != NAME_AT + name.len() {
         return Ok(None);
@@ -213,10 +214,12 @@ fn renamed(alloc: Global, old: &[u8], new: &[u8], body: &[u8]) -> Result<Option<
 }
 
 // A list, 6, a get, 7, or a resize, 9: behind the generation stands one number.
-#[tactic(auto, unfolding(crate::specs::Frames::Requests::list_of, crate::specs::Frames::Requests::get_of, crate::specs::Frames::Requests::resize_of))]
+#[tactic(auto, unfolding(crate::specs::Frames::Requests::list_of, crate::specs::Frames::Requests::get_of, //
+crate::specs::Frames::Requests::resize_of))]
 fn numbered(first: u8, body: &[u8]) -> Option<Step>
     requires { 13 ≤ length body.now }
-    ensures { result ≡ (if first == 6 then list_of body.now else if first == 7 then get_of body.now else resize_of body.now) }
+    ensures { result ≡ (if first == 6 then list_of body.now else if first == 7 then get_of body.now
+        else resize_of body.now) }
 {
     if body.len() != NUMBER_END {
         return None;

@@ -36,7 +36,8 @@ pub(crate) fn answer<S: Steps, K: Sink>(
     body: &[u8],
     out: &mut Vec<u8>,
 ) -> Answered
-    ensures so { AnswersSo result (step_of body.now) (S.made steps.old) (S.made steps.new) (K.state sink.old).given (K.state sink.new).given }
+    ensures so { AnswersSo result (step_of body.now) (S.made steps.old) (S.made steps.new)
+        (K.state sink.old).given (K.state sink.new).given }
     ensures goes { S.goes steps.old steps.new }
     ensures fault { result ≡ Answered.SinkFault → CountRose (K.state sink.old).faults (K.state sink.new).faults }
     ensures later { (K.state sink.old).faults ≤ (K.state sink.new).faults }
@@ -49,7 +50,8 @@ pub(crate) fn answer<S: Steps, K: Sink>(
 }
 
 fn make<S: Steps, K: Sink>(steps: &mut S, sink: &mut K, step: Step, out: &mut Vec<u8>) -> Answered
-    ensures so { AnswersSo result (Some step) (S.made steps.old) (S.made steps.new) (K.state sink.old).given (K.state sink.new).given }
+    ensures so { AnswersSo result (Some step) (S.made steps.old) (S.made steps.new)
+        (K.state sink.old).given (K.state sink.new).given }
     ensures goes { S.goes steps.old steps.new }
     ensures fault { result ≡ Answered.SinkFault → CountRose (K.state sink.old).faults (K.state sink.new).faults }
     ensures later { (K.state sink.old).faults ≤ (K.state sink.new).faults }

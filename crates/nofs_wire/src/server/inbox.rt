@@ -116,7 +116,8 @@ fn take_into<Q: Source>(
 ) -> Result<usize, Failed>
     requires some { from < to }
     requires within { to ≤ vec_len bytes.old }
-    ensures into { TakesInto result from to bytes.old.items bytes.new.items (Q.state source.old).left (Q.state source.new).left }
+    ensures into { TakesInto result from to bytes.old.items bytes.new.items
+        (Q.state source.old).left (Q.state source.new).left }
     ensures len { vec_len bytes.new ≡ vec_len bytes.old }
     ensures cause { HasCause (Q.state source.old).faults (Q.state source.new).faults result }
 {

@@ -46,9 +46,9 @@ pub enum WireEnd {
 
 /// Serves the frames of a source until it ends, a frame is bad or something fails.
 ///
-/// Each reply is given before the next frame's body is taken. At `SourceFault`, `Cut`, `Bad` and `End` the steps made are
-/// those of all whole frames taken, at `TooLong` of those in the first 16,777,216 bytes; all are answered. At `SinkFault`
-/// and `OutOfMemory` they are the first of them, and the last reply may be given in part or not at all.
+/// Each reply is given before the next frame's body is taken. At `SourceFault`, `Cut`, `Bad` and `End` the steps made
+/// are those of all whole frames taken, at `TooLong` of those in the first 16,777,216 bytes; all are answered. At
+/// `SinkFault` and `OutOfMemory` they are the first of them, and the last reply may be given in part or not at all.
 pub fn serve<S: Steps, Q: Source, K: Sink>(
     alloc: Global,
     steps: &mut S,
@@ -58,7 +58,8 @@ pub fn serve<S: Steps, Q: Source, K: Sink>(
     ensures serves { Serves 16777216 result (Q.state source.old).left (Q.state source.new).left (K.state sink.old).given
         (K.state sink.new).given (S.made steps.old) (S.made steps.new) }
     ensures goes { S.goes steps.old steps.new }
-    ensures source_fault { result ≡ WireEnd.SourceFault → CountRose (Q.state source.old).faults (Q.state source.new).faults }
+    ensures source_fault { result ≡ WireEnd.SourceFault
+        → CountRose (Q.state source.old).faults (Q.state source.new).faults }
     ensures sink_fault { result ≡ WireEnd.SinkFault → CountRose (K.state sink.old).faults (K.state sink.new).faults }
     ensures source_later { (Q.state source.old).faults ≤ (Q.state source.new).faults }
     ensures sink_later { (K.state sink.old).faults ≤ (K.state sink.new).faults }
@@ -78,7 +79,8 @@ pub fn serve_up_to<S: Steps, Q: Source, K: Sink>(
     ensures serves { Serves limit result (Q.state source.old).left (Q.state source.new).left
         (K.state sink.old).given (K.state sink.new).given (S.made steps.old) (S.made steps.new) }
     ensures goes { S.goes steps.old steps.new }
-    ensures source_fault { result ≡ WireEnd.SourceFault → CountRose (Q.state source.old).faults (Q.state source.new).faults }
+    ensures source_fault { result ≡ WireEnd.SourceFault
+        → CountRose (Q.state source.old).faults (Q.state source.new).faults }
     ensures sink_fault { result ≡ WireEnd.SinkFault → CountRose (K.state sink.old).faults (K.state sink.new).faults }
     ensures source_later { (Q.state source.old).faults ≤ (Q.state source.new).faults }
     ensures sink_later { (K.state sink.old).faults ≤ (K.state sink.new).faults }
@@ -114,7 +116,8 @@ fn turn<S: Steps, Q: Source, K: Sink>(
     ensures ends { IfSome result (λ end. Stops limit end inbox.old (Q.state source.old).left (Q.state source.new).left
         (K.state sink.old).given (K.state sink.new).given (S.made steps.old) (S.made steps.new)) }
     ensures goes { S.goes steps.old steps.new }
-    ensures source { FailsAt (result ≡ Some WireEnd.SourceFault) (Q.state source.old).faults (Q.state source.new).faults }
+    ensures source { FailsAt (result ≡ Some WireEnd.SourceFault)
+        (Q.state source.old).faults (Q.state source.new).faults }
     ensures sink { FailsAt (result ≡ Some WireEnd.SinkFault) (K.state sink.old).faults (K.state sink.new).faults }
 {
     match front_of(inbox.window()) {
@@ -184,11 +187,14 @@ fn take_more<Q: Source>(
     requires front { HasFront (short_front wanted) inbox.old.window }
     requires may { MayTake limit inbox.old }
     ensures on { (given : Option (List ℕ)) (made : List Made)
-        → IfNone result (GoesOn inbox.old inbox.new (Q.state source.old).left (Q.state source.new).left given given made made) }
+        → IfNone result
+        (GoesOn inbox.old inbox.new (Q.state source.old).left (Q.state source.new).left given given made made) }
     ensures within { IfNone result (inbox.new.taken ≤ limit) }
     ensures ends { (given : Option (List ℕ)) (made : List Made)
-        → IfSome result (λ end. Stops limit end inbox.old (Q.state source.old).left (Q.state source.new).left given given made made) }
-    ensures source { FailsAt (result ≡ Some WireEnd.SourceFault) (Q.state source.old).faults (Q.state source.new).faults }
+        → IfSome result
+        (λ end. Stops limit end inbox.old (Q.state source.old).left (Q.state source.new).left given given made made) }
+    ensures source { FailsAt (result ≡ Some WireEnd.SourceFault)
+        (Q.state source.old).faults (Q.state source.new).faults }
     ensures no_sink_fault { result ≡ Some WireEnd.SinkFault → ⊥ }
 {
     let left = limit - inbox.taken();
@@ -210,7 +216,8 @@ fn take_past<Q: Source>(source: &mut Q, inbox: &mut Inbox) -> WireEnd
     requires small { inbox.old.taken < 2 ^ 32 }
     requires order { length inbox.old.window ≤ inbox.old.taken }
     ensures ends { (given : Option (List ℕ)) (made : List Made)
-        → Stops inbox.old.taken result inbox.old (Q.state source.old).left (Q.state source.new).left given given made made }
+        → Stops inbox.old.taken result inbox.old
+        (Q.state source.old).left (Q.state source.new).left given given made made }
     ensures source { FailsAt (result ≡ WireEnd.SourceFault) (Q.state source.old).faults (Q.state source.new).faults }
     ensures no_sink_fault { result ≡ WireEnd.SinkFault → ⊥ }
 {

@@ -4,10 +4,12 @@ use Rattle.nofs_agree.proofs.chain.read_parent.Goals as goal
 
 pub returns-in-None : goal.returns-in-None
 returns-in-None g c =
-    parent-none _ _ c.args.at.now c.args.directory.now c.first_link-link.result _ c.read_pair.result c.requires.record c.first_link-link.ensures
+    parent-none _ _ c.args.at.now c.args.directory.now c.first_link-link.result _ c.read_pair.result
+    c.requires.record c.first_link-link.ensures
     c.read_pair.ensures (c.in_ok-read_pair.was ∙ ap Ok c.in-None.is)
 
 pub returns-in-Some : goal.returns-in-Some
 returns-in-Some g c =
-    parent-some _ _ c.args.at.now c.args.directory.now c.first_link-link.result _ c.read_pair.result c.in-Some.record c.requires.record
+    parent-some _ _ c.args.at.now c.args.directory.now c.first_link-link.result _ c.read_pair.result
+    c.in-Some.record c.requires.record
     c.first_link-link.ensures c.read_pair.ensures (c.in_ok-read_pair.was ∙ ap Ok c.in-Some.is)

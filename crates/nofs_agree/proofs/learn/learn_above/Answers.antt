@@ -8,5 +8,6 @@ returns-in_err-learn_link g c =
 
 pub loop-place-preserved : goal.loop-place-preserved
 loop-place-preserved g c =
-    above-goes _ _ _ c.args.at.now c.args.known.now _ _ c.args.inode c.in_ok-it.it _ _ c.learn_link.result c.loop-place.invariant c.learn_link.ensures
+    above-goes _ _ _ c.args.at.now c.args.known.now _ _ c.args.inode c.in_ok-it.it _ _ c.learn_link.result
+    c.loop-place.invariant c.learn_link.ensures
     c.in_ok-learn_link.was

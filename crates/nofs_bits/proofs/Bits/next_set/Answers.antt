@@ -8,7 +8,8 @@ returns-then-self-from-clause-none c none at low below =
     let words = c.deref.result.now in
     let places = c.self.inside.places in
     let is : truths words places ≡ c.args.self.now = ap (λ w. truths w places) c.deref.ensures.value ∙ c.self.view_is in
-    ap (λ bits. is_set bits at) (sym is) ∙ c.next_within.ensures.none none at low (omega (arith, below, ap length is, length-truths words places))
+    ap (λ bits. is_set bits at) (sym is)
+    ∙ c.next_within.ensures.none none at low (omega (arith, below, ap length is, length-truths words places))
 
 pub returns-then-self-clause-found : goal.returns-then-self-clause-found
 returns-then-self-clause-found c =
@@ -18,7 +19,8 @@ returns-then-self-clause-found c =
     let is = c.self.view_is in (
       c.if-self-from.false,
       in_map words places first c.args.self.now is c.if-self.true,
-      ap (λ bits. is_set bits first) (sym is) ∙ c.self.invariant.2.set (omega (arith, c.if-self.true, length-truths words places)),
+      ap (λ bits. is_set bits first) (sym is)
+          ∙ c.self.invariant.2.set (omega (arith, c.if-self.true, length-truths words places)),
     )
 
 pub returns-else-self-clause-none : goal.returns-else-self-clause-none
@@ -27,4 +29,5 @@ returns-else-self-clause-none c none at low below =
     let places = c.self.inside.places in
     let is = c.self.view_is in
     ap (λ bits. is_set bits at) (sym is)
-    ∙ c.self.invariant.2.none at (omega arith) (omega (arith, below, c.if-self.false, ap length is, length-truths words places))
+    ∙ c.self.invariant.2.none at (omega arith)
+    (omega (arith, below, c.if-self.false, ap length is, length-truths words places))

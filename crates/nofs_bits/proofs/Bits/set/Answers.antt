@@ -19,7 +19,8 @@ index_mut-requires c =
 pub overflow_add-self : goal.overflow_add-self
 overflow_add-self c =
     let now = c.self.view_is in
-    let counted = count_changed c.args.self.now c.args.at c.self.inside.set_places c.get-was.result c.args.value c.requires c.get-was.ensures
+    let counted = count_changed c.args.self.now c.args.at c.self.inside.set_places c.get-was.result c.args.value
+    c.requires c.get-was.ensures
     (c.self.invariant.1 ∙ ap count_set now) in
     omega (arith, counted.0, counted.2, ap length now, length-truths c.self.inside.words.items c.self.inside.places)
 
@@ -37,12 +38,14 @@ returns c =
     ∙ ap (λ bits. slice_set bits at c.args.value) c.self.view_is
 
 pub first_after-self-inside-requires-clause-at : goal.first_after-self-inside-requires-clause-at
-first_after-self-inside-requires-clause-at c = within_places c.self.inside.words.items c.self.inside.places c.args.at _ c.self.view_is c.requires
+first_after-self-inside-requires-clause-at c =
+    within_places c.self.inside.words.items c.self.inside.places c.args.at _ c.self.view_is c.requires
 
 pub invariant_of-self : goal.invariant_of-self
 invariant_of-self c =
     let places = c.self.inside.places in
-    let counted = count_changed c.args.self.now c.args.at c.self.inside.set_places c.get-was.result c.args.value c.requires c.get-was.ensures
+    let counted = count_changed c.args.self.now c.args.at c.self.inside.set_places c.get-was.result c.args.value
+    c.requires c.get-was.ensures
     (c.self.invariant.1 ∙ ap count_set c.self.view_is) in
     let first = c.self.inside.first in
     let least = subst (λ (bits : List Bool). IsFirst bits first) c.self.view_is c.self.invariant.2 in

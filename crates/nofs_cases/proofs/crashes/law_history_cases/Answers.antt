@@ -2,4 +2,5 @@ use Rattle.nofs_cases.proofs.OnCrashes.Histories.{step-case, later-case, names-c
 use Rattle.nofs_cases.proofs.crashes.law_history_cases.Goals as goal
 
 pub returns : goal.returns
-returns c = record { step = step-case; later = later-case; names = names-case; unflushed = unflushed-case; rest = rest-case }
+returns c =
+    record { step = step-case; later = later-case; names = names-case; unflushed = unflushed-case; rest = rest-case }

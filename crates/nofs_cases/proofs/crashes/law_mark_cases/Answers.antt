@@ -3,4 +3,11 @@ use Rattle.nofs_cases.proofs.OnCrashes.Writes.{images-case, moment-case, writes-
 use Rattle.nofs_cases.proofs.crashes.law_mark_cases.Goals as goal
 
 pub returns : goal.returns
-returns c = record { same_disk = same-disk; images = images-case; moment = moment-case; flush = settled-case; writes = writes-case; pointers = pointers-case }
+returns c = record {
+  same_disk = same-disk;
+  images = images-case;
+  moment = moment-case;
+  flush = settled-case;
+  writes = writes-case;
+  pointers = pointers-case;
+}

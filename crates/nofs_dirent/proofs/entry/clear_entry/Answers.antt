@@ -15,6 +15,8 @@ returns c =
     c.write_bytes_at.ensures ∙ ap (λ part. put_bytes (64 * at) part old) c.clear.ensures in
     record {
       put = put;
-      empty = ap (λ l. entry_in l at) put ∙ ap entry_of (entry_bytes-put at (zeros 64) old (length-zeros 64) fits) ∙ entry_of-zeros;
-      others = λ j other below. ap (λ l. entry_in l j) put ∙ ap entry_of (entry_bytes-beside at j (zeros 64) old (length-zeros 64) fits other);
+      empty = ap (λ l. entry_in l at) put ∙ ap entry_of (entry_bytes-put at (zeros 64) old (length-zeros 64) fits)
+          ∙ entry_of-zeros;
+      others = λ j other below. ap (λ l. entry_in l j) put
+          ∙ ap entry_of (entry_bytes-beside at j (zeros 64) old (length-zeros 64) fits other);
     }

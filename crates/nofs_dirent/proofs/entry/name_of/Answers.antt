@@ -3,7 +3,8 @@ use Rattle.nofs_dirent.specs.EntryLaws.{name_of-none, name_of-rest, name_of-some
 use Rattle.nofs_dirent.proofs.entry.name_of.Goals as goal
 
 pub returns-then-not-has_zeros_after : goal.returns-then-not-has_zeros_after
-returns-then-not-has_zeros_after c = name_of-rest c.args.bytes.now c.read_u32_at-size.result c.read_u32_at-size.ensures (sym c.if-not-has_zeros_after.ensures)
+returns-then-not-has_zeros_after c = name_of-rest c.args.bytes.now c.read_u32_at-size.result
+    c.read_u32_at-size.ensures (sym c.if-not-has_zeros_after.ensures)
 
 -- the bytes from the place of the name to its end
 name-bytes : (size : ℕ) (bytes : List ℕ) → take size (drop 16 bytes) ≡ take (16 + size - 16) (drop 16 bytes)

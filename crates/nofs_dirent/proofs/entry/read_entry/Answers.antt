@@ -11,7 +11,8 @@ returns c =
     let at = c.args.at in
     let low = c.requires in
     let len = c.told-payload in
-    let rest : length (drop (64 * at) payload) ≡ 1024 - 64 * at = length-drop (64 * at) payload ∙ ap (λ n. n - 64 * at) len in
+    let rest : length (drop (64 * at) payload) ≡ 1024 - 64 * at = length-drop (64 * at) payload
+    ∙ ap (λ n. n - 64 * at) len in
     let is : IsBytes 64 (entry_bytes payload at) = record {
       len = length-take-le 64 (drop (64 * at) payload) (omega arith);
       each = take-byte 64 (drop (64 * at) payload) (drop-byte (64 * at) payload c.fits-payload);

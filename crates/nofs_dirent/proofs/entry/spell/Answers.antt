@@ -13,9 +13,11 @@ returns c =
     let named = c.write_bytes_at.ensures ∙ ap (put_bytes 16 name) (c.clear.ensures ∙ ap zeros c.told-into) in
     let numbered = c.write_u64_at.ensures.put ∙ ap (put_number 8 8 generation) named in
     let sized = c.write_u32_at.ensures.put ∙ ap (put_number 4 4 (length name)) numbered in
-    let bytes : c.write_u32_at-2.new.bytes ≡ spelled_entry inode generation name = c.write_u32_at-2.ensures.put ∙ ap (put_number 4 0 inode) sized in
+    let bytes : c.write_u32_at-2.new.bytes ≡ spelled_entry inode generation name =
+    c.write_u32_at-2.ensures.put ∙ ap (put_number 4 0 inode) sized in
     record {
       bytes = bytes;
       spells = subst (λ (l : List ℕ). Spells l (entry_with inode generation name)) (sym bytes)
-          (spelled_entry-spells inode generation name c.requires.inode c.ranges.inode.fits c.requires.generation c.ranges.generation.fits c.requires.name);
+          (spelled_entry-spells inode generation name c.requires.inode c.ranges.inode.fits c.requires.generation
+          c.ranges.generation.fits c.requires.name);
     }

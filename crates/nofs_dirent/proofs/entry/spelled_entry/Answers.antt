@@ -10,7 +10,9 @@ returns-in_ok-from_slice-in-Some c =
     let i = c.read_u32_at.ensures in
     let g = c.read_u64_at.ensures in
     let n = c.in_ok-from_slice-in-Some.ensures in
-    let entry : entry_with c.read_u32_at.result c.read_u64_at.result c.in_ok-from_slice-in-Some.field-0 ≡ entry_with (number_at 4 0 bytes)
+    let entry : entry_with c.read_u32_at.result c.read_u64_at.result c.in_ok-from_slice-in-Some.field-0
+    ≡ entry_with (number_at 4 0 bytes)
     (number_at 8 8 bytes) c.in-Some.name.now =
     λ k. record { inode = i k; generation = g k; name = n k } in
-    ap Some entry ∙ sym (entry_of-named bytes c.in-Some.name.now c.in-Some.ensures) ∙ ap entry_of c.bytes_of-bytes.ensures.bytes
+    ap Some entry ∙ sym (entry_of-named bytes c.in-Some.name.now c.in-Some.ensures)
+    ∙ ap entry_of c.bytes_of-bytes.ensures.bytes

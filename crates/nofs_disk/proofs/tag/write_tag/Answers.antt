@@ -18,5 +18,12 @@ returns c =
     let len3 : length c.write_u64_at.new.bytes ≡ 32 = grind puts in
     let len4 : length c.write_u64_at-2.new.bytes ≡ 32 = grind puts in
     let spells : SpellsTag c.write_u64_at-3.new.bytes c.args.tag.now =
-    record { kind = grind puts; inode = grind puts; generation = grind puts; slot = grind puts; stamp = grind puts; allowed = c.requires } in
+    record {
+      kind = grind puts;
+      inode = grind puts;
+      generation = grind puts;
+      slot = grind puts;
+      stamp = grind puts;
+      allowed = c.requires;
+    } in
     record { spells = spells; bytes = cc; read = tag_of-spells c.write_u64_at-3.new.bytes c.args.tag.now spells }

@@ -10,5 +10,6 @@ returns-clause-ok c =
     let part = c.args.part.now in
     let old = c.args.bytes.now.items in
     let some = eqb-false (length part) 0 (sym c.is_empty.ensures ∙ c.if-is_empty.false) in
-    let over = put-over at part old c.grow.new.bytes.items c.in_ok-grow.ensures.same c.in_ok-grow.ensures.len (omega (arith, some)) in
+    let over = put-over at part old c.grow.new.bytes.items c.in_ok-grow.ensures.same c.in_ok-grow.ensures.len
+    (omega (arith, some)) in
     subst (λ (l : List ℕ). IsPut at part old l) (sym c.put_at.ensures) over

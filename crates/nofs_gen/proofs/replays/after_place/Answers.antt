@@ -7,5 +7,6 @@ pub returns-in-None : goal.returns-in-None
 returns-in-None c = absurd (is-there c.args.history.now.entries c.args.at c.requires (sym c.in-None.ensures))
 
 pub returns-in-Some : goal.returns-in-Some
-returns-in-Some c = pass-entry c.args.wanted.now.inode c.args.wanted.now.generation (replayed_file c.args.file) c.take.result
+returns-in-Some c =
+    pass-entry c.args.wanted.now.inode c.args.wanted.now.generation (replayed_file c.args.file) c.take.result
     c.args.history.now.entries c.args.at c.in-Some.entry.now (sym c.in-Some.ensures) c.take.ensures

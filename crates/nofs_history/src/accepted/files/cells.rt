@@ -87,7 +87,8 @@ impl FilesNow {
         inode: u32,
         slot: u64,
     ) -> Result<Box<[u8; 1024]>, AllocError>
-        ensures { IfOk result (λ cell. cell.value ≡ machine.bytes_in (machine.value_of (kept_files_of self.now) inode slot)) }
+        ensures { IfOk result
+            (λ cell. cell.value ≡ machine.bytes_in (machine.value_of (kept_files_of self.now) inode slot)) }
     {
         let mut cell = Box::new(alloc, [0; 1024])?;
         self.write_slot(inode, slot, &mut *cell);
@@ -116,7 +117,8 @@ impl FilesNow {
     ) -> Result<Box<[u8; 1024]>, AllocError>
         requires slot { slot < slot_limit }
         requires range { at + length bytes.now ≤ 1024 }
-        ensures { IfOk result (λ cell. cell.value ≡ machine.put_content (machine.value_of (kept_files_of self.now) inode slot)
+        ensures { IfOk result
+            (λ cell. cell.value ≡ machine.put_content (machine.value_of (kept_files_of self.now) inode slot)
             (machine.size_of (kept_files_of self.now) inode) slot at bytes.now) }
     {
         let mut cell = self.bytes_in(alloc, inode, slot)?;

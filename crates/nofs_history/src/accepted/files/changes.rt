@@ -1,7 +1,8 @@
 //! How one inode's file changes.
 ghost use Rattle.std.specs.Prelude.{◌≡◌, ◌<◌, IfOk, IfSome, IsNone, OnOk, Some, None, false, option_map};
 ghost use Rattle.nofs_ptrs.specs.Paths.{slot_limit};
-ghost use Rattle.nofs_history.specs.Accepted.Files.{value_now, file_of, kept_files_of, with_file, with_value, has_generation};
+ghost use Rattle.nofs_history.specs.Accepted.Files.{value_now, file_of, kept_files_of, with_file, with_value};
+ghost use Rattle.nofs_history.specs.Accepted.Files.{has_generation};
 
 use crate::accepted::files::file::{FileNow, FilesNow, ValueNow};
 use crate::accepted::files::growing::{grow_files, grow_values};
@@ -61,7 +62,8 @@ impl FilesNow {
     /// Gives an inode a file.
     pub fn put(&mut self, inode: u32, file: FileNow) -> Result<(), AllocError>
         requires { 0 < inode }
-        ensures { OnOk result (kept_files_of self.new ≡ with_file (kept_files_of self.old) inode (Some (file_of file))) }
+        ensures { OnOk result
+            (kept_files_of self.new ≡ with_file (kept_files_of self.old) inode (Some (file_of file))) }
     {
         grow_files(&mut self.files, inode as usize)?;
         self.files[inode as usize - 1] = Some(file);

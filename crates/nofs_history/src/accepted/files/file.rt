@@ -76,7 +76,8 @@ impl FilesNow {
 
     /// What is kept of a slot. A slot of which nothing is kept is a hole.
     pub(crate) fn kept(&self, inode: u32, slot: u64) -> Option<&ValueNow>
-        ensures some { IfSome result (λ kept. machine.value_of (kept_files_of self.now) inode slot ≡ value_now kept.now) }
+        ensures some { IfSome result
+            (λ kept. machine.value_of (kept_files_of self.now) inode slot ≡ value_now kept.now) }
         ensures none { IsNone result → machine.value_of (kept_files_of self.now) inode slot ≡ value.Hole }
     {
         match self.file(inode) {

@@ -46,7 +46,8 @@ pub(crate) fn with_link(links: [BackLink; 4], place: usize, link: BackLink) -> [
 }
 
 /// The first empty place of these links, from a place on.
-#[tactic(auto, using(crate::proofs::OnAccepted::LinkLists::place_none, crate::proofs::OnAccepted::LinkLists::place_here, crate::proofs::OnAccepted::LinkLists::place_next))]
+#[tactic(auto, using(crate::proofs::OnAccepted::LinkLists::place_none, //
+crate::proofs::OnAccepted::LinkLists::place_here, crate::proofs::OnAccepted::LinkLists::place_next))]
 fn empty_from(links: &[BackLink; 4], at: usize) -> Option<usize>
     ensures place { result ≡ machine.place_for_link is_empty_link (drop at links.now) at }
     ensures range { IfSome result (λ b. b < 4) }
@@ -62,7 +63,8 @@ fn empty_from(links: &[BackLink; 4], at: usize) -> Option<usize>
 
 impl FilesNow {
     /// Whether one of these links, from a place on, is a pair.
-    #[tactic(auto, using(crate::proofs::OnAccepted::LinkLists::any_none, crate::proofs::OnAccepted::LinkLists::any_next))]
+    #[tactic(auto, using(crate::proofs::OnAccepted::LinkLists::any_none, //
+    crate::proofs::OnAccepted::LinkLists::any_next))]
     fn pairs_from(
         &self,
         alloc: Global,
@@ -70,7 +72,8 @@ impl FilesNow {
         links: &[BackLink; 4],
         at: usize,
     ) -> Result<bool, AllocError>
-        ensures { IfOk result (λ is. is ≡ list_any (λ l. files.is_pair (kept_files_of self.now) inode l) (drop at links.now)) }
+        ensures { IfOk result
+            (λ is. is ≡ list_any (λ l. files.is_pair (kept_files_of self.now) inode l) (drop at links.now)) }
     {
         if at >= 4 {
             return Ok(false);
@@ -82,7 +85,8 @@ impl FilesNow {
     }
 
     /// The first of these links, from a place on, that is no pair.
-    #[tactic(auto, using(crate::proofs::OnAccepted::LinkLists::place_none, crate::proofs::OnAccepted::LinkLists::place_here, crate::proofs::OnAccepted::LinkLists::place_next))]
+    #[tactic(auto, using(crate::proofs::OnAccepted::LinkLists::place_none, //
+    crate::proofs::OnAccepted::LinkLists::place_here, crate::proofs::OnAccepted::LinkLists::place_next))]
     fn dead_link(
         &self,
         alloc: Global,
@@ -92,7 +96,8 @@ impl FilesNow {
     ) -> Result<Option<usize>, AllocError>
         ensures range { IfOk result (λ place. IfSome place (λ b. b < 4)) }
         ensures place { IfOk result (λ place. place
-            ≡ machine.place_for_link (λ link. not (files.is_pair (kept_files_of self.now) inode link)) (drop at links.now) at) }
+            ≡ machine.place_for_link (λ link. not (files.is_pair (kept_files_of self.now) inode link))
+            (drop at links.now) at) }
     {
         if at >= 4 {
             return Ok(None);
@@ -110,8 +115,10 @@ impl FilesNow {
         file: &FileNow,
     ) -> Result<Option<usize>, AllocError>
         ensures range { IfOk result (λ place. IfSome place (λ b. b < 4)) }
-        ensures place { IfOk result (λ place. place ≡ first_of (machine.place_for_link is_empty_link (file_of file.now).links 0
-            ∷ machine.place_for_link (λ link. not (files.is_pair (kept_files_of self.now) inode link)) (file_of file.now).links 0 ∷ [])) }
+        ensures place { IfOk result
+            (λ place. place ≡ first_of (machine.place_for_link is_empty_link (file_of file.now).links 0
+            ∷ machine.place_for_link (λ link. not (files.is_pair (kept_files_of self.now) inode link))
+            (file_of file.now).links 0 ∷ [])) }
     {
         match empty_from(&file.links, 0) {
             Some(place) => Ok(Some(place)),

@@ -89,7 +89,8 @@ impl FilesNow {
         file: &FileNow,
         link: &BackLink,
     ) -> Result<bool, AllocError>
-        ensures { IfOk result (λ is. is ≡ files.pairs (Some (file_of file.now)) (kept_files_of self.now link.now.directory) inode link.now) }
+        ensures { IfOk result (λ is. is ≡ files.pairs (Some (file_of file.now))
+            (kept_files_of self.now link.now.directory) inode link.now) }
     {
         if !self.is_directory(link.directory, link.generation) {
             return Ok(false);
@@ -102,7 +103,8 @@ impl FilesNow {
     }
 
     fn has_link(&self, inode: u32, link: &BackLink) -> bool
-        ensures { result ≡ list_any (λ l. machine.same_link l link.now) (files.links_of (kept_files_of self.now) inode) }
+        ensures { result ≡ list_any (λ l. machine.same_link l link.now)
+            (files.links_of (kept_files_of self.now) inode) }
     {
         match self.file(inode) {
             None => false,
@@ -123,7 +125,8 @@ impl FilesNow {
 
     /// Whether the inode has this back link, as a pair.
     fn is_linked(&self, alloc: Global, inode: u32, link: &BackLink) -> Result<bool, AllocError>
-        ensures { IfOk result (λ is. is ≡ list_any (λ l. machine.same_link l link.now && files.is_pair (kept_files_of self.now) inode l)
+        ensures { IfOk result
+            (λ is. is ≡ list_any (λ l. machine.same_link l link.now && files.is_pair (kept_files_of self.now) inode l)
             (files.links_of (kept_files_of self.now) inode)) }
     {
         self.has_pair(alloc, inode, link)
@@ -158,7 +161,8 @@ impl FilesNow {
         name: &DirectoryName<'_>,
         entry: u32,
     ) -> Result<bool, AllocError>
-        ensures { IfOk result (λ has. has ≡ machine.entry_has_name (kept_files_of self.now) name.now.directory name.now.name.now entry) }
+        ensures { IfOk result
+            (λ has. has ≡ machine.entry_has_name (kept_files_of self.now) name.now.directory name.now.name.now entry) }
     {
         match self.entry_at(alloc, name.directory, entry)? {
             None => Ok(false),
@@ -174,7 +178,8 @@ impl FilesNow {
         to_file: bool,
         entry: u32,
     ) -> Result<bool, AllocError>
-        ensures { IfOk result (λ is. is ≡ leads (kept_files_of self.now) name.now.directory name.now.name.now to_file entry) }
+        ensures { IfOk result
+            (λ is. is ≡ leads (kept_files_of self.now) name.now.directory name.now.name.now to_file entry) }
     {
         if !self.has_name(alloc, name, entry)? {
             return Ok(false);
@@ -182,7 +187,8 @@ impl FilesNow {
         Ok(self.is_paired(alloc, name.directory, entry)? == to_file)
     }
 
-    #[tactic(auto, using(crate::proofs::Links::least_none, crate::proofs::Links::least_here, crate::proofs::Links::least_further))]
+    #[tactic(auto, using(crate::proofs::Links::least_none, crate::proofs::Links::least_here, //
+    crate::proofs::Links::least_further))]
     fn first_from(
         &self,
         alloc: Global,
@@ -193,7 +199,8 @@ impl FilesNow {
     ) -> Result<Option<u32>, AllocError>
         requires { at + count ≤ entry_limit }
         ensures first { IfOk result (λ found. found
-            ≡ least_from (λ e. leads (kept_files_of self.now) name.now.directory name.now.name.now to_file e) at count) }
+            ≡ least_from
+            (λ e. leads (kept_files_of self.now) name.now.directory name.now.name.now to_file e) at count) }
         ensures range { IfOk result (λ found. IfSome found (λ e. e < entry_limit)) }
     {
         if count == 0 {
@@ -208,7 +215,8 @@ impl FilesNow {
     /// The least entry by which a name leads to a file.
     #[tactic(auto, unfolding(crate::specs::Machine::found))]
     pub fn found(&self, alloc: Global, name: &DirectoryName<'_>) -> Result<Option<u32>, AllocError>
-        ensures found { IfOk result (λ found. found ≡ machine.found (kept_files_of self.now) name.now.directory name.now.name.now) }
+        ensures found { IfOk result
+            (λ found. found ≡ machine.found (kept_files_of self.now) name.now.directory name.now.name.now) }
         ensures range { IfOk result (λ found. IfSome found (λ e. e < entry_limit)) }
     {
         self.first_from(alloc, name, true, 0, ENTRY_LIMIT)
@@ -221,7 +229,8 @@ impl FilesNow {
         alloc: Global,
         name: &DirectoryName<'_>,
     ) -> Result<Option<u32>, AllocError>
-        ensures found { IfOk result (λ found. found ≡ machine.first_dead (kept_files_of self.now) name.now.directory name.now.name.now) }
+        ensures found { IfOk result
+            (λ found. found ≡ machine.first_dead (kept_files_of self.now) name.now.directory name.now.name.now) }
         ensures range { IfOk result (λ found. IfSome found (λ e. e < entry_limit)) }
     {
         self.first_from(alloc, name, false, 0, ENTRY_LIMIT)

@@ -1,5 +1,6 @@
 //! Where a new entry goes.
-ghost use Rattle.std.specs.Prelude.{◌≡◌, ◌<◌, ◌≤◌, ◌+◌, ◌*◌, ◌/◌, ◌&&◌, ◌∷◌, [], not, IfOk, IfSome, Some, None, is_some, option_map};
+ghost use Rattle.std.specs.Prelude.{◌≡◌, ◌<◌, ◌≤◌, ◌+◌, ◌*◌, ◌/◌, ◌&&◌, ◌∷◌, [], not, IfOk, IfSome, Some, None};
+ghost use Rattle.std.specs.Prelude.{is_some, option_map};
 ghost use Rattle.nofs_dirent.specs.Entries.{entry_limit};
 ghost use Rattle.nofs_history.specs.Machine as machine;
 ghost use Rattle.nofs_history.specs.Meta as meta;
@@ -54,7 +55,8 @@ impl FilesNow {
 
     /// Whether an entry's place is empty, in a slot with bytes.
     fn is_empty(&self, alloc: Global, directory: u32, entry: u32) -> Result<bool, AllocError>
-        ensures { IfOk result (λ is. is ≡ (meta.is_bytes (machine.value_of (kept_files_of self.now) directory (entry / 16))
+        ensures { IfOk result
+            (λ is. is ≡ (meta.is_bytes (machine.value_of (kept_files_of self.now) directory (entry / 16))
             && not (is_some (files.entry_at (kept_files_of self.now) directory entry)))) }
     {
         if !self.has_bytes(directory, u64::from(entry / 16)) {
@@ -63,7 +65,8 @@ impl FilesNow {
         Ok(self.entry_at(alloc, directory, entry)?.is_none())
     }
 
-    #[tactic(auto, using(crate::proofs::Links::least_none, crate::proofs::Links::least_here, crate::proofs::Links::least_further))]
+    #[tactic(auto, using(crate::proofs::Links::least_none, crate::proofs::Links::least_here, //
+    crate::proofs::Links::least_further))]
     fn empty_from(
         &self,
         alloc: Global,
@@ -73,7 +76,8 @@ impl FilesNow {
     ) -> Result<Option<u32>, AllocError>
         requires { at + count ≤ entry_limit }
         ensures range { IfOk result (λ found. IfSome found (λ e. e < entry_limit)) }
-        ensures found { IfOk result (λ found. found ≡ least_from (λ e. meta.is_bytes (machine.value_of (kept_files_of self.now) directory (e / 16))
+        ensures found { IfOk result (λ found.
+            found ≡ least_from (λ e. meta.is_bytes (machine.value_of (kept_files_of self.now) directory (e / 16))
             && not (is_some (files.entry_at (kept_files_of self.now) directory e))) at count) }
     {
         if count == 0 {
@@ -85,10 +89,12 @@ impl FilesNow {
         self.empty_from(alloc, directory, at + 1, count - 1)
     }
 
-    #[tactic(auto, using(crate::proofs::Links::least_none, crate::proofs::Links::least_here, crate::proofs::Links::least_further))]
+    #[tactic(auto, using(crate::proofs::Links::least_none, crate::proofs::Links::least_here, //
+    crate::proofs::Links::least_further))]
     fn hole_from(&self, directory: u32, at: u32, count: u32) -> Option<u32>
         requires { at + count ≤ 72 }
-        ensures found { result ≡ least_from (λ k. machine.is_hole (machine.value_of (kept_files_of self.now) directory k)) at count }
+        ensures found { result ≡ least_from
+            (λ k. machine.is_hole (machine.value_of (kept_files_of self.now) directory k)) at count }
         ensures range { IfSome result (λ k. k < 72) }
     {
         if count == 0 {
@@ -102,7 +108,8 @@ impl FilesNow {
 
     fn hole_place(&self, directory: u32) -> Option<u32>
         ensures range { IfSome result (λ e. e < entry_limit) }
-        ensures place { result ≡ option_map (λ k. 16 * k) (least_from (λ k. machine.is_hole (machine.value_of (kept_files_of self.now) directory k)) 0 72) }
+        ensures place { result ≡ option_map (λ k. 16 * k)
+            (least_from (λ k. machine.is_hole (machine.value_of (kept_files_of self.now) directory k)) 0 72) }
     {
         match self.hole_from(directory, 0, 72) {
             None => None,
@@ -115,7 +122,8 @@ impl FilesNow {
         ensures place { IfOk result (λ place. place ≡ first_of (
             least_from (λ e. meta.is_bytes (machine.value_of (kept_files_of self.now) directory (e / 16))
             && not (is_some (files.entry_at (kept_files_of self.now) directory e))) 0 entry_limit
-            ∷ option_map (λ k. 16 * k) (least_from (λ k. machine.is_hole (machine.value_of (kept_files_of self.now) directory k)) 0 72)
+            ∷ option_map (λ k. 16 * k)
+            (least_from (λ k. machine.is_hole (machine.value_of (kept_files_of self.now) directory k)) 0 72)
             ∷ [])) }
     {
         match self.empty_from(alloc, directory, 0, ENTRY_LIMIT)? {
@@ -132,7 +140,8 @@ impl FilesNow {
         name: &DirectoryName<'_>,
     ) -> Result<Option<u32>, AllocError>
         ensures range { IfOk result (λ place. IfSome place (λ e. e < entry_limit)) }
-        ensures place { IfOk result (λ place. place ≡ machine.place_for (kept_files_of self.now) name.now.directory name.now.name.now) }
+        ensures place { IfOk result
+            (λ place. place ≡ machine.place_for (kept_files_of self.now) name.now.directory name.now.name.now) }
     {
         match self.first_dead(alloc, name)? {
             Some(entry) => Ok(Some(entry)),

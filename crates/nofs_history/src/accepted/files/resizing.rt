@@ -30,7 +30,8 @@ fn trimmed(kept: ValueNow, cut: usize) -> ValueNow
 
 fn trim_slot(values: &mut Vec<ValueNow>, slot: usize, cut: usize)
     requires { cut ≤ 1024 }
-    ensures { (k : ℕ) → value_at (slice_get values.new.items k) ≡ (if slot == k then machine.trimmed_value cut (value_at (slice_get values.old.items slot))
+    ensures { (k : ℕ) → value_at (slice_get values.new.items k)
+        ≡ (if slot == k then machine.trimmed_value cut (value_at (slice_get values.old.items slot))
         else value_at (slice_get values.old.items k)) }
 {
     if slot < values.len() {
@@ -41,7 +42,8 @@ fn trim_slot(values: &mut Vec<ValueNow>, slot: usize, cut: usize)
 
 /// Puts zeros behind the old end, where the file does not shrink and the last of its slots is not full.
 fn trim_end(values: &mut Vec<ValueNow>, old: u64, size: u64, slots: u64)
-    ensures { (k : ℕ) → value_at (slice_get values.new.items k) ≡ end_value old size slots k (value_at (slice_get values.old.items k)) }
+    ensures { (k : ℕ) → value_at (slice_get values.new.items k) ≡ end_value old size slots k
+        (value_at (slice_get values.old.items k)) }
 {
     if old <= size && old % 1024 != 0 && slots > 0 {
         trim_slot(values, slots as usize - 1, old as usize % 1024);

@@ -87,7 +87,8 @@ fn name_given(
     claims: &Claims,
 ) -> Result<GivenNow, AllocError>
     requires { is_fit step.now claims.now ≡ true }
-    ensures given { IfOk result (λ it. given_of (kept_files_of files.now) it ≡ name_gives (kept_files_of files.now) step.now claims.now) }
+    ensures given { IfOk result
+        (λ it. given_of (kept_files_of files.now) it ≡ name_gives (kept_files_of files.now) step.now claims.now) }
     ensures sound { IfOk result (λ it. is_sound it ≡ true) }
 {
     match step {
@@ -142,7 +143,8 @@ pub(crate) fn step_given(
     claims: &Claims,
 ) -> Result<GivenNow, AllocError>
     requires { is_fit step.now claims.now ≡ true }
-    ensures given { IfOk result (λ it. given_of (kept_files_of files.now) it ≡ machine.gives (kept_files_of files.now) step.now claims.now) }
+    ensures given { IfOk result
+        (λ it. given_of (kept_files_of files.now) it ≡ machine.gives (kept_files_of files.now) step.now claims.now) }
     ensures sound { IfOk result (λ it. is_sound it ≡ true) }
 {
     match step {
@@ -184,7 +186,8 @@ pub(crate) fn value_by_entry(
     entry: &Entry1,
 ) -> Result<Option<Value>, AllocError>
     requires { wanted.now.slot < slot_limit }
-    ensures { IfOk result (λ it. IsFit entry.now → it ≡ value_for (machine.given_by (kept_files_of files.now) entry.now) wanted.now) }
+    ensures { IfOk result
+        (λ it. IsFit entry.now → it ≡ value_for (machine.given_by (kept_files_of files.now) entry.now) wanted.now) }
 {
     let may_give = !is_refused(&entry.reply) || is_write_fault(&entry.reply);
     if may_give && is_fit(&entry.step, &entry.claims) {

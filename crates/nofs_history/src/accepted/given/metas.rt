@@ -13,7 +13,8 @@ use std::alloc::{AllocError, Global};
 
 /// A file that reaches to this end at least.
 pub(crate) fn grown(files: &FilesNow, inode: u32, end: u64) -> MetaNow
-    ensures { meta_now result ≡ machine.meta_with (kept_files_of files.now) inode (λ f. Is f.kind (max f.size end) f.links) }
+    ensures { meta_now result ≡ machine.meta_with (kept_files_of files.now) inode
+        (λ f. Is f.kind (max f.size end) f.links) }
 {
     match files.file(inode) {
         None => MetaNow::Gone,
@@ -28,7 +29,8 @@ pub(crate) fn grown(files: &FilesNow, inode: u32, end: u64) -> MetaNow
 /// A file with a back link at a place.
 pub(crate) fn linked(files: &FilesNow, inode: u32, place: usize, link: BackLink) -> MetaNow
     requires { place < 4 }
-    ensures { meta_now result ≡ machine.meta_with (kept_files_of files.now) inode (λ f. Is f.kind f.size (machine.set_link f.links place link)) }
+    ensures { meta_now result ≡ machine.meta_with (kept_files_of files.now) inode
+        (λ f. Is f.kind f.size (machine.set_link f.links place link)) }
 {
     match files.file(inode) {
         None => MetaNow::Gone,

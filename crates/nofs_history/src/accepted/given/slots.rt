@@ -31,7 +31,8 @@ impl Wanted {
     }
 
     fn is(&self, inode: u32, generation: u64, slot: u64) -> bool
-        ensures { result ≡ (machine.is_at inode generation self.now.inode self.now.generation && (slot == self.now.slot)) }
+        ensures { result ≡ (machine.is_at inode generation self.now.inode self.now.generation
+            && (slot == self.now.slot)) }
     {
         self.is_in(inode, generation) && slot == self.slot
     }
@@ -61,7 +62,8 @@ impl GivenCell {
         wanted: &Wanted,
         birth: &Birth,
     ) -> Result<Option<Value>, AllocError>
-        ensures { IfOk result (λ it. it ≡ value_for (with_birth (cell_of self.now machine.no_meta) birth.now) wanted.now) }
+        ensures { IfOk result
+            (λ it. it ≡ value_for (with_birth (cell_of self.now machine.no_meta) birth.now) wanted.now) }
     {
         if wanted.is_in(birth.inode, birth.generation) {
             return Ok(Some(Value::Hole));
@@ -80,7 +82,8 @@ fn end_given(
 ) -> Result<Option<Value>, AllocError>
     requires { cut < 1024 }
     ensures { IfOk result (λ it. it ≡ (if meta.is_bytes (machine.value_of (kept_files_of files.now) inode slot)
-        then Some (value.Bytes (machine.trimmed cut (machine.bytes_in (machine.value_of (kept_files_of files.now) inode slot)))) else None)) }
+        then Some (value.Bytes
+        (machine.trimmed cut (machine.bytes_in (machine.value_of (kept_files_of files.now) inode slot)))) else None)) }
 {
     if !files.has_bytes(inode, slot) {
         return Ok(None);
@@ -121,7 +124,8 @@ fn resize_given(
     size: u64,
 ) -> Result<Option<Value>, AllocError>
     requires { wanted.now.slot < slot_limit }
-    ensures { IfOk result (λ it. it ≡ value_for (machine.resize_given (kept_files_of files.now) inode generation size) wanted.now) }
+    ensures { IfOk result
+        (λ it. it ≡ value_for (machine.resize_given (kept_files_of files.now) inode generation size) wanted.now) }
 {
     if !wanted.is_in(inode, generation) {
         return Ok(None);

@@ -55,7 +55,8 @@ pub(crate) fn put_given(
     requires slot { put.now.slot < slot_limit }
     requires range { put.now.at + length put.now.bytes.now ≤ 1024 }
     ensures given { IfOk result (λ it. given_of (kept_files_of files.now) it
-        ≡ machine.put_given (kept_files_of files.now) put.now.inode put.now.generation put.now.slot put.now.at put.now.bytes.now) }
+        ≡ machine.put_given (kept_files_of files.now) put.now.inode put.now.generation put.now.slot put.now.at
+        put.now.bytes.now) }
     ensures sound { IfOk result (λ it. is_sound it ≡ true) }
 {
     let end = 1024 * put.slot + u64::from(put.at) + put.bytes.len() as u64;
@@ -151,7 +152,8 @@ pub(crate) fn make_given(
     requires inode { 0 < claims.now.inode }
     ensures given { IfOk result (λ it. given_of (kept_files_of files.now) it
         ≡ machine.at_place (machine.place_for (kept_files_of files.now) name.now.directory name.now.name.now) (λ e.
-        machine.make_given (kept_files_of files.now) name.now.directory name.now.generation name.now.name.now kind claims.now e)) }
+        machine.make_given (kept_files_of files.now) name.now.directory name.now.generation name.now.name.now kind
+        claims.now e)) }
     ensures sound { IfOk result (λ it. is_sound it ≡ true) }
 {
     let said = Says {
@@ -175,7 +177,8 @@ fn link_given_in(
     requires name { length said.now.name.now ≤ 48 }
     ensures given { IfOk result (λ it. given_of (kept_files_of files.now) it
         ≡ machine.at_place (machine.link_place (kept_files_of files.now) said.now.inode) (λ b.
-        machine.link_given (kept_files_of files.now) at.directory at.generation said.now.name.now said.now.inode said.now.generation at.entry b)) }
+        machine.link_given (kept_files_of files.now) at.directory at.generation said.now.name.now said.now.inode
+        said.now.generation at.entry b)) }
     ensures sound { IfOk result (λ it. is_sound it ≡ true) }
 {
     match files.link_place(alloc, said.inode)? {
@@ -203,7 +206,8 @@ pub(crate) fn link_given(
     ensures given { IfOk result (λ it. given_of (kept_files_of files.now) it
         ≡ machine.at_place (machine.place_for (kept_files_of files.now) name.now.directory name.now.name.now) (λ e.
         machine.at_place (machine.link_place (kept_files_of files.now) inode) (λ b.
-        machine.link_given (kept_files_of files.now) name.now.directory name.now.generation name.now.name.now inode of e b))) }
+        machine.link_given (kept_files_of files.now) name.now.directory name.now.generation name.now.name.now
+        inode of e b))) }
     ensures sound { IfOk result (λ it. is_sound it ≡ true) }
 {
     let said = Says {

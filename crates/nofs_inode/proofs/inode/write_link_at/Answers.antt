@@ -18,7 +18,8 @@ returns c =
     let third = SameBeside-number 8 (at + 8) c.args.it.generation two new (omega arith) c.write_u64_at.ensures.put in
     let tail = SameBeside-then (at + 4) 4 (at + 8) 8 one two new (omega arith) second third in
     let directory = number_at-beside (at + 4) 12 4 at one new tail (inl (omega arith)) ∙ c.write_u32_at.ensures.value in
-    let entry = number_at-beside (at + 8) 8 4 (at + 4) two new third (inl (omega arith)) ∙ c.write_u32_at-2.ensures.value in
+    let entry = number_at-beside (at + 8) 8 4 (at + 4) two new third (inl (omega arith))
+    ∙ c.write_u32_at-2.ensures.value in
     let generation = c.write_u64_at.ensures.value in
     record {
       value = λ i. record { directory = directory i; entry = entry i; generation = generation i };

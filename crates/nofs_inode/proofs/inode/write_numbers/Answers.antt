@@ -25,10 +25,14 @@ returns c =
     let from_second = SameBeside-then (at + 8) 4 (at + 12) 20 b1 b2 new (omega arith) second from_third in
     record {
       value = record {
-        generation = number_at-beside (at + 8) 24 8 at b1 new from_second (inl (omega arith)) ∙ c.write_u64_at.ensures.value;
-        kind = number_at-beside (at + 12) 20 4 (at + 8) b2 new from_third (inl (omega arith)) ∙ c.write_u32_at.ensures.value ∙ c.number_of_kind.ensures;
-        count = number_at-beside (at + 16) 16 4 (at + 12) b3 new from_fourth (inl (omega arith)) ∙ c.write_u32_at-2.ensures.value ∙ c.count_links.ensures;
-        size = number_at-beside (at + 24) 8 8 (at + 16) b4 new fifth (inl (omega arith)) ∙ c.write_u64_at-2.ensures.value;
+        generation = number_at-beside (at + 8) 24 8 at b1 new from_second (inl (omega arith))
+            ∙ c.write_u64_at.ensures.value;
+        kind = number_at-beside (at + 12) 20 4 (at + 8) b2 new from_third (inl (omega arith))
+            ∙ c.write_u32_at.ensures.value ∙ c.number_of_kind.ensures;
+        count = number_at-beside (at + 16) 16 4 (at + 12) b3 new from_fourth (inl (omega arith))
+            ∙ c.write_u32_at-2.ensures.value ∙ c.count_links.ensures;
+        size = number_at-beside (at + 24) 8 8 (at + 16) b4 new fifth (inl (omega arith))
+            ∙ c.write_u64_at-2.ensures.value;
         zero = c.write_u64_at-3.ensures.value;
       };
       beside = SameBeside-then at 8 (at + 8) 24 old b1 new (omega arith) first from_second;

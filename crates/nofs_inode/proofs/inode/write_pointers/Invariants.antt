@@ -5,4 +5,5 @@ use Rattle.nofs_inode.specs.Beside.{SameBeside}
 use Rattle.nofs_inode.proofs.inode.write_pointers.Given as goal
 
 abbrev pub invariant-loop-j : goal.invariant-loop-j
-invariant-loop-j l = SameBeside l.at 128 l.initial.bytes l.bytes × ((k : ℕ) → k < l.j → pointer_in (l.at + 16 * k) l.bytes ≡ slice_index_or l.pointers k null)
+invariant-loop-j l = SameBeside l.at 128 l.initial.bytes l.bytes
+    × ((k : ℕ) → k < l.j → pointer_in (l.at + 16 * k) l.bytes ≡ slice_index_or l.pointers k null)

@@ -11,7 +11,8 @@ loop-block-preserved g c =
     let room = before.2 in
     let used = c.in-Ok.ensures.spare in (
       Copies-trans _ _ _ _ _ _ before.0 c.copy_cell.ensures.copies,
-      copied_more (g.A.Disk.state c.args.lead.now) (g.A.Disk.state c.loop-block.lead) (g.B.Disk.state c.loop-block.other)
+      copied_more (g.A.Disk.state c.args.lead.now) (g.A.Disk.state c.loop-block.lead)
+          (g.B.Disk.state c.loop-block.other)
           (g.B.Disk.state c.copy_cell.new.other) c.loop-block.block before.0.lead c.in-Ok.ensures.copied before.1,
       omega arith,
     )

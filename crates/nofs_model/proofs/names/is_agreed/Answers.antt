@@ -7,9 +7,12 @@ pub returns-then-is_agreed_at_once : goal.returns-then-is_agreed_at_once
 returns-then-is_agreed_at_once c = sym (c.if-is_agreed_at_once.ensures.yes refl)
 
 pub returns-then-is_special : goal.returns-then-is_special
-returns-then-is_special c = sym (special-is (files_in c.args.cells.now) c.args.inode (c.if-is_agreed_at_once.ensures.no refl) (sym c.if-is_special.ensures))
+returns-then-is_special c = sym (special-is (files_in c.args.cells.now) c.args.inode
+    (c.if-is_agreed_at_once.ensures.no refl) (sym c.if-is_special.ensures))
 
 pub returns : goal.returns
 returns c =
-    c.has_agreed_link.ensures ∙ any-links c.args.cells.now c.args.inode c.read_inode-it.result c.read_inode-it.ensures.same
-    ∙ sym (linked-is (files_in c.args.cells.now) c.args.inode (c.if-is_agreed_at_once.ensures.no refl) (sym c.if-is_special.ensures))
+    c.has_agreed_link.ensures ∙ any-links c.args.cells.now c.args.inode c.read_inode-it.result
+    c.read_inode-it.ensures.same
+    ∙ sym (linked-is (files_in c.args.cells.now) c.args.inode (c.if-is_agreed_at_once.ensures.no refl)
+    (sym c.if-is_special.ensures))

@@ -11,7 +11,8 @@ returns-then-is_agreed_at_once c = sym (c.loop-directory.invariant.0 ∙ c.if-is
 
 pub returns-then-is_special : goal.returns-then-is_special
 returns-then-is_special c = sym (c.loop-directory.invariant.0
-    ∙ special-is (files_in c.args.cells.now) c.loop-directory.here (c.if-is_agreed_at_once.ensures.no refl) (sym c.if-is_special.ensures))
+    ∙ special-is (files_in c.args.cells.now) c.loop-directory.here (c.if-is_agreed_at_once.ensures.no refl)
+    (sym c.if-is_special.ensures))
 
 pub returns-in-None : goal.returns-in-None
 returns-in-None c =

@@ -5,7 +5,8 @@ use Rattle.nofs_model.specs.Geometry as image
 use Rattle.nofs_model.proofs.names.is_agreed_directory.Given as goal
 
 abbrev pub invariant-loop-directory : goal.invariant-loop-directory
-invariant-loop-directory l = (files.agreed (files.files_in l.cells) l.directory ≡ files.agreed (files.files_in l.cells) l.here) ×
+invariant-loop-directory l =
+    (files.agreed (files.files_in l.cells) l.directory ≡ files.agreed (files.files_in l.cells) l.here) ×
     ((image.inode l.cells l.here).kind ≡ Some kind.Directory)
 
 abbrev pub decreases-loop-directory : goal.decreases-loop-directory

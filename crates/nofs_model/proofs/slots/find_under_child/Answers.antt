@@ -3,4 +3,5 @@ use Rattle.nofs_model.specs.Slots as slots
 use Rattle.nofs_model.proofs.slots.find_under_child.Goals as goal
 
 pub returns-clause-found : goal.returns-clause-found
-returns-clause-found c = c.find_under.ensures.found (slots.child c.args.child) c.find_under_record-node.ensures.found refl
+returns-clause-found c =
+    c.find_under.ensures.found (slots.child c.args.child) c.find_under_record-node.ensures.found refl

@@ -13,18 +13,22 @@ use Rattle.nofs_names.proofs.OnRenames.Rows.{rename-exists, rename-passes}
 use Rattle.nofs_names.proofs.renames.rename_with_room.Goals as goal
 
 pub returns-then-core : goal.returns-then-core
-returns-then-core g c = goes-stopped (g.D.Disk.state c.args.core.now.disk) (g.D.Disk.state c.args.core.now.disk) c.args.core.now.books
-    (step.Rename c.args.at.directory c.args.at.generation c.args.at.name.now c.args.new.now) (g.met.D.Disk.is_disk c.args.core.now.disk) c.requires.safe
+returns-then-core g c =
+    goes-stopped (g.D.Disk.state c.args.core.now.disk) (g.D.Disk.state c.args.core.now.disk) c.args.core.now.books
+    (step.Rename c.args.at.directory c.args.at.generation c.args.at.name.now c.args.new.now)
+    (g.met.D.Disk.is_disk c.args.core.now.disk) c.requires.safe
     (StaysButFaults-refl (g.D.Disk.state c.args.core.now.disk)) c.if-core.true
 
 pub returns-then-not-name_ok : goal.returns-then-not-name_ok
 returns-then-not-name_ok g c = rename-bad (g.D.Disk.state c.args.core.now.disk)
-    c.args.core.now.books c.args.at.directory c.args.at.generation c.args.at.name.now c.args.new.now (g.met.D.Disk.is_disk c.args.core.now.disk)
+    c.args.core.now.books c.args.at.directory c.args.at.generation c.args.at.name.now c.args.new.now
+    (g.met.D.Disk.is_disk c.args.core.now.disk)
     c.requires.safe c.if-core.false (sym c.if-not-name_ok.ensures.value)
 
 pub returns-then-not-name_ok-2 : goal.returns-then-not-name_ok-2
 returns-then-not-name_ok-2 g c = rename-bad-new (g.D.Disk.state c.args.core.now.disk)
-    c.args.core.now.books c.args.at.directory c.args.at.generation c.args.at.name.now c.args.new.now (g.met.D.Disk.is_disk c.args.core.now.disk)
+    c.args.core.now.books c.args.at.directory c.args.at.generation c.args.at.name.now c.args.new.now
+    (g.met.D.Disk.is_disk c.args.core.now.disk)
     c.requires.safe c.if-core.false (sym c.if-not-name_ok.ensures.value) (sym c.if-not-name_ok-2.ensures.value)
 
 pub returns-in-Err : goal.returns-in-Err
@@ -33,20 +37,26 @@ returns-in-Err g c =
     let new = g.D.Disk.state c.open_named.new.disk in
     let k = c.args.core.now.books in
     let good = sym c.if-not-name_ok-2.ensures.value in
-    unopened-goes old new k c.args.at c.in-Err.why (step.Rename c.args.at.directory c.args.at.generation c.args.at.name.now c.args.new.now)
+    unopened-goes old new k c.args.at c.in-Err.why
+    (step.Rename c.args.at.directory c.args.at.generation c.args.at.name.now c.args.new.now)
     (g.met.D.Disk.is_disk c.args.core.now.disk) c.requires.safe c.open_named.ensures.stays
     (λ safe going bad. rename-bad new k c.args.at.directory c.args.at.generation c.args.at.name.now c.args.new.now
     (g.met.D.Disk.is_disk c.open_named.new.disk) safe going bad)
-    (λ going ok last opens. rename-unopened old k c.args.at.directory c.args.at.generation c.args.at.name.now c.args.new.now
-    (g.met.D.Disk.is_disk c.args.core.now.disk) c.requires.safe going ok good new last (Err c.in-Err.why) c.in-Err.why opens refl)
+    (λ going ok last opens.
+    rename-unopened old k c.args.at.directory c.args.at.generation c.args.at.name.now c.args.new.now
+    (g.met.D.Disk.is_disk c.args.core.now.disk) c.requires.safe going ok good new last
+    (Err c.in-Err.why) c.in-Err.why opens refl)
     c.in-Err.ensures.refused
 
 pub returns-in-Err-find_pair : goal.returns-in-Err-find_pair
 returns-in-Err-find_pair g c = rename-missing (g.D.Disk.state c.args.core.now.disk)
-    c.args.core.now.books c.args.at.directory c.args.at.generation c.args.at.name.now c.args.new.now (g.met.D.Disk.is_disk c.args.core.now.disk)
-    c.requires.safe c.if-core.false (sym c.if-not-name_ok.ensures.value) (sym c.if-not-name_ok-2.ensures.value) (g.D.Disk.state c.open_named.new.disk)
+    c.args.core.now.books c.args.at.directory c.args.at.generation c.args.at.name.now c.args.new.now
+    (g.met.D.Disk.is_disk c.args.core.now.disk)
+    c.requires.safe c.if-core.false (sym c.if-not-name_ok.ensures.value) (sym c.if-not-name_ok-2.ensures.value)
+    (g.D.Disk.state c.open_named.new.disk)
     c.open_named.new.last c.in-Ok.it c.in-Ok.ensures.opened (g.D.Disk.state c.find_pair.new.disk)
-    c.find_pair.new.names c.find_pair.new.records c.find_pair.result c.in-Err-find_pair.why c.find_pair.ensures c.in-Err-find_pair.is
+    c.find_pair.new.names c.find_pair.new.records c.find_pair.result c.in-Err-find_pair.why
+    c.find_pair.ensures c.in-Err-find_pair.is
 
 pub rename_found-requires-clause-may : goal.rename_found-requires-clause-may
 rename_found-requires-clause-may g c =
@@ -62,15 +72,20 @@ rename_found-requires-clause-may g c =
     record {
       directory = directory-on opened new next k.at d r.generation r c.in-Ok.ensures.opened.directory;
       generation = c.in-Ok.ensures.opened.generation;
-      there = there-on old new (StaysButFaults-trans old opened new c.open_named.ensures.stays next) k d c.in-Ok.ensures.opened.there;
+      there = there-on old new
+          (StaysButFaults-trans old opened new c.open_named.ensures.stays next) k d c.in-Ok.ensures.opened.there;
       known = paired-on found new last k.at c.in-Ok-find_pair.found c.in-Ok-find_pair.ensures.known;
       found = found-on opened new next d c.args.at.name.now c.in-Ok-find_pair.found c.in-Ok-find_pair.ensures.found;
       good = c.if-not-name_ok-2.ensures.fact.0 refl;
       rows = rename-passes (g.D.Disk.state c.args.core.now.disk)
-          c.args.core.now.books c.args.at.directory c.args.at.generation c.args.at.name.now c.args.new.now (g.met.D.Disk.is_disk c.args.core.now.disk)
-          c.requires.safe c.if-core.false (sym c.if-not-name_ok.ensures.value) (sym c.if-not-name_ok-2.ensures.value) (g.D.Disk.state c.open_named.new.disk)
-          c.open_named.new.last c.in-Ok.it c.in-Ok.ensures.opened (g.D.Disk.state c.find_pair.new.disk) c.find_pair.new.names c.find_pair.new.records
-          (g.D.Disk.state c.find_unused.new.disk) c.find_unused.new.names c.find_unused.new.records c.in-Ok-find_pair.found c.in-Ok-find_pair.ensures
+          c.args.core.now.books c.args.at.directory c.args.at.generation c.args.at.name.now c.args.new.now
+          (g.met.D.Disk.is_disk c.args.core.now.disk)
+          c.requires.safe c.if-core.false (sym c.if-not-name_ok.ensures.value) (sym c.if-not-name_ok-2.ensures.value)
+          (g.D.Disk.state c.open_named.new.disk)
+          c.open_named.new.last c.in-Ok.it c.in-Ok.ensures.opened
+          (g.D.Disk.state c.find_pair.new.disk) c.find_pair.new.names c.find_pair.new.records
+          (g.D.Disk.state c.find_unused.new.disk) c.find_unused.new.names c.find_unused.new.records
+          c.in-Ok-find_pair.found c.in-Ok-find_pair.ensures
           c.in-Ok-find_unused.field-0 c.in-Ok-find_unused.ensures;
     }
 
@@ -81,14 +96,20 @@ returns-in-Ok-find_unused g c =
     let stays = StaysButFaults-trans a (g.D.Disk.state c.find_pair.new.disk) b
     (StaysButFaults-trans a (g.D.Disk.state c.open_named.new.disk) (g.D.Disk.state c.find_pair.new.disk)
     c.in-Ok.ensures.stays c.in-Ok-find_pair.ensures.stays) c.in-Ok-find_unused.ensures.stays in
-    goes-after a b (reads-keep a b stays) (g.D.Disk.state c.rename_found.new.core.disk) c.args.core.now.books c.rename_found.new.core.books
-    (step.Rename c.args.at.directory c.args.at.generation c.args.at.name.now c.args.new.now) no_claims (done_answer reply.Renamed c.rename_found.result)
+    goes-after a b (reads-keep a b stays)
+    (g.D.Disk.state c.rename_found.new.core.disk) c.args.core.now.books c.rename_found.new.core.books
+    (step.Rename c.args.at.directory c.args.at.generation c.args.at.name.now c.args.new.now) no_claims
+    (done_answer reply.Renamed c.rename_found.result)
     c.rename_found.ensures
 
 pub returns-in-Err-find_unused : goal.returns-in-Err-find_unused
 returns-in-Err-find_unused g c = rename-exists (g.D.Disk.state c.args.core.now.disk)
-    c.args.core.now.books c.args.at.directory c.args.at.generation c.args.at.name.now c.args.new.now (g.met.D.Disk.is_disk c.args.core.now.disk)
-    c.requires.safe c.if-core.false (sym c.if-not-name_ok.ensures.value) (sym c.if-not-name_ok-2.ensures.value) (g.D.Disk.state c.open_named.new.disk)
-    c.open_named.new.last c.in-Ok.it c.in-Ok.ensures.opened (g.D.Disk.state c.find_pair.new.disk) c.find_pair.new.names c.find_pair.new.records
-    (g.D.Disk.state c.find_unused.new.disk) c.find_unused.new.names c.find_unused.new.records c.in-Ok-find_pair.found c.in-Ok-find_pair.ensures
+    c.args.core.now.books c.args.at.directory c.args.at.generation c.args.at.name.now c.args.new.now
+    (g.met.D.Disk.is_disk c.args.core.now.disk)
+    c.requires.safe c.if-core.false (sym c.if-not-name_ok.ensures.value) (sym c.if-not-name_ok-2.ensures.value)
+    (g.D.Disk.state c.open_named.new.disk)
+    c.open_named.new.last c.in-Ok.it c.in-Ok.ensures.opened
+    (g.D.Disk.state c.find_pair.new.disk) c.find_pair.new.names c.find_pair.new.records
+    (g.D.Disk.state c.find_unused.new.disk) c.find_unused.new.names c.find_unused.new.records c.in-Ok-find_pair.found
+    c.in-Ok-find_pair.ensures
     c.find_unused.result c.in-Err-find_unused.why c.find_unused.ensures c.in-Err-find_unused.is

@@ -5,7 +5,8 @@ use Rattle.nofs_script.proofs.session.read_lines.Goals as goal
 
 pub returns-in-None : goal.returns-in-None
 returns-in-None c =
-    gives_last c.read_at.result c.loop-number.number c.loop-number.reading c.loop-number.rest.now _ c.in-None.ensures.first c.read_at.ensures
+    gives_last c.read_at.result c.loop-number.number c.loop-number.reading c.loop-number.rest.now _
+    c.in-None.ensures.first c.read_at.ensures
     c.loop-number.invariant.0
 
 pub returns-in_err-reading-in-Some : goal.returns-in_err-reading-in-Some
@@ -19,7 +20,8 @@ returns-in_err-reading-in-Some c =
 pub loop-number-preserved : goal.loop-number-preserved
 loop-number-preserved c =
     let here = c.in-Some.ensures.first in (
-      goes_on c.loop-number.number c.loop-number.reading c.loop-number.rest.now c.line_before.result.now c.text_after-rest.result.now c.in-Some.end _ here.0
+      goes_on c.loop-number.number c.loop-number.reading c.loop-number.rest.now c.line_before.result.now
+          c.text_after-rest.result.now c.in-Some.end _ here.0
           here.1 c.line_before.ensures c.loop-number.invariant.0
           c.in_ok-reading-in-Some.reading c.text_after-rest.ensures c.in_ok-reading-in-Some.ensures,
       omega (

@@ -15,7 +15,8 @@ pub spaces-preserved : goal.spaces-preserved
 spaces-preserved c =
     let pushed = c.in_ok-push_word-in-Some.ensures in
     let here = c.in-Some.ensures.first in (
-      goes_on _ _ _ c.spaces.rest.now c.spaces.invariant.0 c.text_after-rest.result.now c.in-Some.end here.0 here.1 pushed.words c.text_after-rest.ensures,
+      goes_on _ _ _ c.spaces.rest.now c.spaces.invariant.0 c.text_after-rest.result.now c.in-Some.end here.0 here.1
+          pushed.words c.text_after-rest.ensures,
       omega (arith, pushed.one, c.len.ensures, c.spaces-test.true),
     )
 

@@ -7,25 +7,33 @@ use Rattle.nofs_serve.proofs.OnSession.{team-unserved, team-closed}
 use Rattle.nofs_serve.proofs.session.serve.Goals as goal
 
 pub returns-in_default-clause-served : goal.returns-in_default-clause-served
-returns-in_default-clause-served g c = team-unserved (map (λ p. p.commands) c.args.plans.items) c.args.sweeps.inodes c.args.sweeps.blocks _ _
-    (g.V.Kept.entries c.args.mount) _ (let same : c.unserved.result.mount ≡ c.args.mount = search rules in ap g.V.Kept.entries same) c.unserved.ensures.1
+returns-in_default-clause-served g c =
+    team-unserved (map (λ p. p.commands) c.args.plans.items) c.args.sweeps.inodes c.args.sweeps.blocks _ _
+    (g.V.Kept.entries c.args.mount) _
+    (let same : c.unserved.result.mount ≡ c.args.mount = search rules in ap g.V.Kept.entries same) c.unserved.ensures.1
 
 pub returns-in_default-with_capacity-clause-served : goal.returns-in_default-with_capacity-clause-served
-returns-in_default-with_capacity-clause-served g c = team-unserved (map (λ p. p.commands) c.args.plans.items) c.args.sweeps.inodes c.args.sweeps.blocks _ _
-    (g.V.Kept.entries c.args.mount) _ (let same : c.unserved-in_default-with_capacity.result.mount ≡ c.args.mount = search rules in ap g.V.Kept.entries same)
+returns-in_default-with_capacity-clause-served g c =
+    team-unserved (map (λ p. p.commands) c.args.plans.items) c.args.sweeps.inodes c.args.sweeps.blocks _ _
+    (g.V.Kept.entries c.args.mount) _ (let same : c.unserved-in_default-with_capacity.result.mount ≡ c.args.mount =
+    search rules in ap g.V.Kept.entries same)
     c.unserved-in_default-with_capacity.ensures.1
 
 pub returns-in-Err-clause-served : goal.returns-in-Err-clause-served
-returns-in-Err-clause-served g c = team-unserved (map (λ p. p.commands) c.args.plans.items) c.args.sweeps.inodes c.args.sweeps.blocks _ _
-    (g.V.Kept.entries c.args.mount) _ (let same : c.unserved-in-Err.result.mount ≡ c.args.mount = search rules in ap g.V.Kept.entries same)
+returns-in-Err-clause-served g c =
+    team-unserved (map (λ p. p.commands) c.args.plans.items) c.args.sweeps.inodes c.args.sweeps.blocks _ _
+    (g.V.Kept.entries c.args.mount) _
+    (let same : c.unserved-in-Err.result.mount ≡ c.args.mount = search rules in ap g.V.Kept.entries same)
     c.unserved-in-Err.ensures.1
 
 pub run_team-pass-requires-clause-passes : goal.run_team-pass-requires-clause-passes
-run_team-pass-requires-clause-passes g c κs within = (search rules, λ k d h. (let e = c.in-Ok-new.ensures.passes.1 k d h in (e.0, ap (λ z. z.mine) e.1)))
+run_team-pass-requires-clause-passes g c κs within =
+    (search rules, λ k d h. (let e = c.in-Ok-new.ensures.passes.1 k d h in (e.0, ap (λ z. z.mine) e.1)))
 
 pub unreachable-requires : goal.unreachable-requires
 unreachable-requires g c =
-    let t = c.run_team-pass.ensures.gathered (fresh (g.V.Kept.fixed c.args.mount) (g.V.Kept.entries c.args.mount) _) refl refl
+    let t = c.run_team-pass.ensures.gathered
+    (fresh (g.V.Kept.fixed c.args.mount) (g.V.Kept.entries c.args.mount) _) refl refl
     (λ k d h. (c.in-Ok-new.ensures.passes.1 k d h).1) in
     let e = c.in_default-close.ensures.out in
     let low = e.2 in
@@ -38,15 +46,20 @@ unreachable-requires g c =
 
 pub returns-clause-fixed : goal.returns-clause-fixed
 returns-clause-fixed g c =
-    let t = c.run_team-pass.ensures.gathered (fresh (g.V.Kept.fixed c.args.mount) (g.V.Kept.entries c.args.mount) _) refl refl
+    let t = c.run_team-pass.ensures.gathered
+    (fresh (g.V.Kept.fixed c.args.mount) (g.V.Kept.entries c.args.mount) _) refl refl
     (λ k d h. (c.in-Ok-new.ensures.passes.1 k d h).1) in
-    ap (λ o. option_map_or (λ x. x) o (g.V.Kept.fixed c.args.mount)) (sym c.in-Ok-close.ensures.closed.0.same_part ∙ t.gathers.fixed)
+    ap (λ o. option_map_or (λ x. x) o (g.V.Kept.fixed c.args.mount))
+    (sym c.in-Ok-close.ensures.closed.0.same_part ∙ t.gathers.fixed)
 
 pub returns-clause-served : goal.returns-clause-served
 returns-clause-served g c =
-    let t = c.run_team-pass.ensures.gathered (fresh (g.V.Kept.fixed c.args.mount) (g.V.Kept.entries c.args.mount) _) refl refl
+    let t = c.run_team-pass.ensures.gathered
+    (fresh (g.V.Kept.fixed c.args.mount) (g.V.Kept.entries c.args.mount) _) refl refl
     (λ k d h. (c.in-Ok-new.ensures.passes.1 k d h).1) in
     let closes = c.in-Ok-close.ensures.closed.0 in
-    team-closed (map (λ p. p.commands) c.args.plans.items) c.args.sweeps.inodes c.args.sweeps.blocks c.run_team-pass.result.out_of_memory
-    c.run_team-pass.result.lines.items (g.V.Kept.entries c.args.mount) (g.V.Kept.entries c.in-Ok-close.mount) _ (view_of c.run_team-pass.result.pass)
+    team-closed (map (λ p. p.commands) c.args.plans.items) c.args.sweeps.inodes c.args.sweeps.blocks
+    c.run_team-pass.result.out_of_memory
+    c.run_team-pass.result.lines.items (g.V.Kept.entries c.args.mount) (g.V.Kept.entries c.in-Ok-close.mount) _
+    (view_of c.run_team-pass.result.pass)
     refl refl t closes.begins closes.all_mine

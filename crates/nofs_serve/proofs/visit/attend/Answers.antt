@@ -6,11 +6,13 @@ use Rattle.nofs_serve.proofs.OnVisit.{visit-closed}
 use Rattle.nofs_serve.proofs.visit.attend.Goals as goal
 
 pub run_visit-pass-requires-clause-passes : goal.run_visit-pass-requires-clause-passes
-run_visit-pass-requires-clause-passes g c κs within = (search rules, λ k d h. (let e = c.in-Ok.ensures.passes.1 k d h in (e.0, ap (λ z. z.mine) e.1)))
+run_visit-pass-requires-clause-passes g c κs within =
+    (search rules, λ k d h. (let e = c.in-Ok.ensures.passes.1 k d h in (e.0, ap (λ z. z.mine) e.1)))
 
 pub unreachable-requires : goal.unreachable-requires
 unreachable-requires g c =
-    let t = c.run_visit-pass.ensures.gathered (fresh (g.V.Kept.fixed c.args.mount) (g.V.Kept.entries c.args.mount) _) refl refl
+    let t = c.run_visit-pass.ensures.gathered
+    (fresh (g.V.Kept.fixed c.args.mount) (g.V.Kept.entries c.args.mount) _) refl refl
     (λ k d h. (c.in-Ok.ensures.passes.1 k d h).1) in
     let e = c.in_default.ensures.out in
     let low = e.2 in
@@ -21,15 +23,19 @@ unreachable-requires g c =
 
 pub returns-clause-fixed : goal.returns-clause-fixed
 returns-clause-fixed g c =
-    let t = c.run_visit-pass.ensures.gathered (fresh (g.V.Kept.fixed c.args.mount) (g.V.Kept.entries c.args.mount) _) refl refl
+    let t = c.run_visit-pass.ensures.gathered
+    (fresh (g.V.Kept.fixed c.args.mount) (g.V.Kept.entries c.args.mount) _) refl refl
     (λ k d h. (c.in-Ok.ensures.passes.1 k d h).1) in
-    ap (λ o. option_map_or (λ x. x) o (g.V.Kept.fixed c.args.mount)) (sym c.in-Ok-close.ensures.closed.0.same_part ∙ t.gathers.fixed)
+    ap (λ o. option_map_or (λ x. x) o (g.V.Kept.fixed c.args.mount))
+    (sym c.in-Ok-close.ensures.closed.0.same_part ∙ t.gathers.fixed)
 
 pub returns-clause-visited : goal.returns-clause-visited
 returns-clause-visited g c =
-    let t = c.run_visit-pass.ensures.gathered (fresh (g.V.Kept.fixed c.args.mount) (g.V.Kept.entries c.args.mount) _) refl refl
+    let t = c.run_visit-pass.ensures.gathered
+    (fresh (g.V.Kept.fixed c.args.mount) (g.V.Kept.entries c.args.mount) _) refl refl
     (λ k d h. (c.in-Ok.ensures.passes.1 k d h).1) in
     let closes = c.in-Ok-close.ensures.closed.0 in
     visit-closed (g.G.Visits.visited c.args.visitor.now c.run_visit-pass.new.visitor [])
     c.args.sweeps.inodes c.args.sweeps.blocks c.run_visit-pass.result.out_of_memory (g.V.Kept.entries c.args.mount)
-    (g.V.Kept.entries c.in-Ok-close.mount) _ (view_of c.run_visit-pass.result.pass) refl refl t closes.begins closes.all_mine
+    (g.V.Kept.entries c.in-Ok-close.mount) _
+    (view_of c.run_visit-pass.result.pass) refl refl t closes.begins closes.all_mine

@@ -48,28 +48,36 @@ returns-clause-gathered g c v one none all =
     let w_is : view_of c.into_inner-2.result.pass ≡ w = ap (λ s. view_of s.pass) c.into_inner-2.ensures in
     let f_is : view_of c.into_inner-3.result.pass ≡ f = ap (λ s. view_of s.pass) c.into_inner-3.ensures in
     let z : View Entry1 g.row.V-Fixed.Denot = view_of c.join_way-2.new.into in
-    let team = team-gathers [] c.args.sweeps.inodes c.args.sweeps.blocks c.either-out_of_memory.result c.either-out_of_memory.result
+    let team = team-gathers [] c.args.sweeps.inodes c.args.sweeps.blocks c.either-out_of_memory.result
+    c.either-out_of_memory.result
     c.work_beside.new.inodes.out_of_memory c.work_beside.new.blocks.out_of_memory
     [] v p w (view_of c.join_way.new.into) f z z
     (omega arith)
     one
     (subst (λ z. SameSeat z p) view9 went.2)
-    (subst (λ (x : ℕ × View Entry1 g.row.V-Fixed.Denot). all_by x.0 x.1.mine ≡ true) (λ i. (caller9 i, p_is i)) c.back-pass.ensures.own)
-    (subst (λ (x : ℕ × List Made). Sweeps (λ place item. item ≡ place) Inode 0 x.0 c.work_beside.new.inodes.out_of_memory x.1 (own_steps p.mine))
+    (subst (λ (x : ℕ × View Entry1 g.row.V-Fixed.Denot). all_by x.0 x.1.mine ≡ true)
+    (λ i. (caller9 i, p_is i)) c.back-pass.ensures.own)
+    (subst (λ (x : ℕ × List Made).
+    Sweeps (λ place item. item ≡ place) Inode 0 x.0 c.work_beside.new.inodes.out_of_memory x.1 (own_steps p.mine))
     (λ i. (ap (λ o. o.count) c.new-inodes.ensures.1 i, (ap (λ z. own_steps z.mine) view9 ∙ ap own_steps none) i)) swept)
     (subst (λ z. SameSeat z w) view10 went2.2)
-    (subst (λ (x : ℕ × View Entry1 g.row.V-Fixed.Denot × View Entry1 g.row.V-Fixed.Denot). JoinsOwn x.0 x.1 x.2 (view_of c.join_way.new.into))
+    (subst (λ (x : ℕ × View Entry1 g.row.V-Fixed.Denot × View Entry1 g.row.V-Fixed.Denot). JoinsOwn x.0 x.1 x.2
+    (view_of c.join_way.new.into))
     (λ i. (caller10 i, p_is i, w_is i)) c.join_way.ensures.joined)
-    (subst (λ (x : ℕ × List Made). Sweeps (λ place item. item ≡ x.0 - 1 - place) Block 0 x.0 c.work_beside.new.blocks.out_of_memory x.1
+    (subst (λ (x : ℕ × List Made).
+    Sweeps (λ place item. item ≡ x.0 - 1 - place) Block 0 x.0 c.work_beside.new.blocks.out_of_memory x.1
     (own_steps w.mine))
-    (λ i. (ap (λ o. o.count) c.new-blocks.ensures.1 i, (ap (λ z. own_steps z.mine) view10 ∙ ap own_steps none) i)) swept2)
+    (λ i. (ap (λ o. o.count) c.new-blocks.ensures.1 i, (ap (λ z. own_steps z.mine) view10 ∙ ap own_steps none) i))
+    swept2)
     (subst (λ z. SameSeat z f) view11 flushed.goes_on.2)
-    (subst (λ (x : ℕ × View Entry1 g.row.V-Fixed.Denot). JoinsOwn x.0 (view_of c.join_way.new.into) x.1 z) (λ i. (caller11 i, f_is i))
+    (subst (λ (x : ℕ × View Entry1 g.row.V-Fixed.Denot). JoinsOwn x.0 (view_of c.join_way.new.into) x.1 z)
+    (λ i. (caller11 i, f_is i))
     c.join_way-2.ensures.joined)
     (flushed.none_made ∙ (ap (λ z. own_steps z.mine) view11 ∙ ap own_steps none))
     c.either-out_of_memory.ensures
     (λ absent three. (three, users-none c.either-out_of_memory.result z)) in
-    visit-gathers (g.G.Visits.visited c.args.visitor.now c.work_beside.new.visitor []) c.args.sweeps.inodes c.args.sweeps.blocks c.either-out_of_memory.result
+    visit-gathers (g.G.Visits.visited c.args.visitor.now c.work_beside.new.visitor []) c.args.sweeps.inodes
+    c.args.sweeps.blocks c.either-out_of_memory.result
     [] v z o (view_of c.join_way-3.new.into) one team
     (subst (λ z. SameSeat z o) s1.0 seat.2)
     (subst (λ (n : ℕ). JoinsOwn n z o (view_of c.join_way-3.new.into)) caller1 c.join_way-3.ensures.joined)

@@ -28,4 +28,5 @@ pub returns-clause-read_back : goal.returns-clause-read_back
 unfolding super_payload
 returns-clause-read_back c device can =
     let same : c.write_u64_at-3.new.bytes ≡ super_payload c.args.it.now = grind (arith, common_steps) in
-    ap (check_super device) same ∙ check_super-payload c.args.it.now (omega arith) (omega arith) (omega arith) (omega arith) device can
+    ap (check_super device) same
+    ∙ check_super-payload c.args.it.now (omega arith) (omega arith) (omega arith) (omega arith) device can

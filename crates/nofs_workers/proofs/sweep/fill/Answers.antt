@@ -10,7 +10,8 @@ loop-at-preserved g c =
     let within : c.loop-at.at < length c.loop-at.into = search rules in
     let kind = c.args.kind in (
       search rules,
-      filled-more (λ k x. IsOrdered (g.O.Course.has_item c.args.order.now) kind (c.args.place + k) x) c.loop-at.into c.loop-at.at _ within ordered
+      filled-more (λ k x. IsOrdered (g.O.Course.has_item c.args.order.now) kind (c.args.place + k) x) c.loop-at.into
+          c.loop-at.at _ within ordered
           (c.item_at.result, c.item_at.ensures.item, c.number_of.ensures),
       filled-more (λ k x. kind ≡ Inode → x < 2 ^ 32) c.loop-at.into c.loop-at.at _ within small (λ is. search rules),
     )

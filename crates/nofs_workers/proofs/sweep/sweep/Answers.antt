@@ -3,7 +3,8 @@ use Rattle.nofs_workers.proofs.OnSweep.{sweeps-none, sweeps-more, sweeps-short}
 use Rattle.nofs_workers.proofs.sweep.sweep.Goals as goal
 
 pub loop-place-init : goal.loop-place-init
-loop-place-init g c = (sweeps-none (g.O.Course.has_item c.args.order.now) c.args.kind _, omega arith, g.met.S.Steps.goes_none _)
+loop-place-init g c =
+    (sweeps-none (g.O.Course.has_item c.args.order.now) c.args.kind _, omega arith, g.met.S.Steps.goes_none _)
 
 pub returns-then-sweep_batch-clause-swept : goal.returns-then-sweep_batch-clause-swept
 returns-then-sweep_batch-clause-swept g c =

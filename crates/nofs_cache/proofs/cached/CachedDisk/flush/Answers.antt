@@ -12,16 +12,19 @@ invariant_of-self g c =
     let room = below.ensures.room in
     let no_more = below.ensures.no_more in
     let spare = below.ensures.spare in
-    flush_holds old below.new.dirty (g.met.D.Disk.is_disk below.new.under) c.requires c.is_ok.ensures.value c.moment-began.ensures c.moment-ended.ensures
+    flush_holds old below.new.dirty (g.met.D.Disk.is_disk below.new.under) c.requires c.is_ok.ensures.value
+    c.moment-began.ensures c.moment-ended.ensures
     below.ensures.settles below.ensures.blocks c.add.ensures (omega arith) (omega arith)
 
 pub returns-clause-flushes : goal.returns-clause-flushes
 returns-clause-flushes g c =
     let below = c.write_back_and_flush-result in
-    rw c.add.ensures (flush_does c.args.self.now below.new.dirty (g.met.D.Disk.is_disk below.new.under) c.requires c.is_ok.ensures.value c.moment-began.ensures
+    rw c.add.ensures (flush_does c.args.self.now below.new.dirty
+    (g.met.D.Disk.is_disk below.new.under) c.requires c.is_ok.ensures.value c.moment-began.ensures
     c.moment-ended.ensures below.ensures.settles)
 
 pub returns-clause-left : goal.returns-clause-left
 returns-clause-left g c =
     rw c.add.ensures
-    (call_leaves c.args.self.now (Flush c.is_ok.result c.moment-began.result c.moment-ended.result) _ _ c.moment-began.ensures c.moment-ended.ensures)
+    (call_leaves c.args.self.now (Flush c.is_ok.result c.moment-began.result c.moment-ended.result) _ _
+    c.moment-began.ensures c.moment-ended.ensures)

@@ -13,4 +13,5 @@ pub returns-in-None-clause-reads : goal.returns-in-None-clause-reads
 returns-in-None-clause-reads g c = below_reads c.args.self.now c.in-None.ensures.none c.read.ensures
 
 pub returns-in-None-clause-memory : goal.returns-in-None-clause-memory
-returns-in-None-clause-memory g c = λ dirty. absurd (clean_not_dirty (entries_of c.args.self.now.dirty) c.args.block c.in-None.ensures.none dirty)
+returns-in-None-clause-memory g c =
+    λ dirty. absurd (clean_not_dirty (entries_of c.args.self.now.dirty) c.args.block c.in-None.ensures.none dirty)

@@ -4,7 +4,8 @@ use Rattle.nofs_cache.proofs.OnCached.WritesBelow.{WrittenBack-trans}
 use Rattle.nofs_cache.proofs.dirty.writes.write_back_all.Goals as goal
 
 pub returns-in-Err-clause-writes_back : goal.returns-in-Err-clause-writes_back
-returns-in-Err-clause-writes_back g c = WrittenBack-trans _ _ _ _ _ _ c.loop.invariant.0 c.write_back.ensures.writes_back
+returns-in-Err-clause-writes_back g c =
+    WrittenBack-trans _ _ _ _ _ _ c.loop.invariant.0 c.write_back.ensures.writes_back
 
 pub loop-preserved : goal.loop-preserved
 loop-preserved g c =

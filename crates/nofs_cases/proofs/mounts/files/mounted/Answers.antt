@@ -10,4 +10,5 @@ returns-in-Ok-clause-open g c sound =
     let begun = c.in-Ok.ensures.mount in
     let S = g.D.Disk.state in
     let held : IsSoundDisk (S m.found.value) = subst (λ (d : g.row.D.Denot). IsSoundDisk (S d)) (sym begun.0) sound in
-    ∥∥₁_elim m.stands ∥∥₁_prop (λ is. ∣ begun-open c.law_homes.ensures.good (S m.found.value) (S m.core.disk) m.first m.core.books is held begun.2 ∣₁)
+    ∥∥₁_elim m.stands ∥∥₁_prop (λ is. ∣ begun-open c.law_homes.ensures.good (S m.found.value)
+    (S m.core.disk) m.first m.core.books is held begun.2 ∣₁)

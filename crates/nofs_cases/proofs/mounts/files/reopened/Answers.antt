@@ -8,4 +8,5 @@ returns-in-Ok c sound =
     let cells = cells_in c.file-file.result.durable.items in
     settled-sound _ cells c.in-Ok.ensures.tells (length-cells_in c.file-file.result.durable.items)
     (c.in-Ok.ensures.now ∙ ap cells_in c.durable.ensures) c.in-Ok.ensures.settled
-    (c.note_sound.ensures sound cells (c.below.ensures.left.each _ cells (omega arith) (omega arith) (c.file-file.ensures.left refl)))
+    (c.note_sound.ensures sound cells
+    (c.below.ensures.left.each _ cells (omega arith) (omega arith) (c.file-file.ensures.left refl)))

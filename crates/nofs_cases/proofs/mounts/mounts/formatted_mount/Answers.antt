@@ -10,6 +10,8 @@ pub returns-in-Ok-begin-clause-open : goal.returns-in-Ok-begin-clause-open
 returns-in-Ok-begin-clause-open c =
     let m = c.in-Ok-begin.mount in
     let begun = c.in-Ok-begin.ensures.mount in
-    let sound : IsSoundDisk (memory_state m.found.value) = subst (λ (d : MemDisk). IsSoundDisk (memory_state d)) (sym begun.0) c.in-Ok.ensures.sound in
-    ∥∥₁_elim m.stands ∥∥₁_prop (λ is. ∣ begun-open c.law_homes.ensures.good (memory_state m.found.value) (memory_state m.core.disk)
+    let sound : IsSoundDisk (memory_state m.found.value) =
+    subst (λ (d : MemDisk). IsSoundDisk (memory_state d)) (sym begun.0) c.in-Ok.ensures.sound in
+    ∥∥₁_elim m.stands ∥∥₁_prop
+    (λ is. ∣ begun-open c.law_homes.ensures.good (memory_state m.found.value) (memory_state m.core.disk)
     m.first m.core.books is sound begun.2 ∣₁)

@@ -17,13 +17,15 @@ pub returns-in_err-progress-clause-partly : goal.returns-in_err-progress-clause-
 returns-in_err-progress-clause-partly g c =
     let (made, more, asked, is, stands, goes) = c.loop-progress.invariant in
     let e = c.step-reply.ensures.made in
-    let (more', asked') = step-more _ _ _ _ _ made _ _ more asked is (rw c.in-Some.is at c.in_ok-step.ensures) (grind arith) e in
+    let (more', asked') = step-more _ _ _ _ _ made _ _ more asked is (rw c.in-Some.is at c.in_ok-step.ensures)
+    (grind arith) e in
     (made ++ (c.in-Some.step, c.step-reply.result) ∷ [], more', asked')
 
 pub loop-progress-preserved : goal.loop-progress-preserved
 loop-progress-preserved g c =
     let (made, more, asked, is, stands, goes) = c.loop-progress.invariant in
-    let (more', asked') = step-more _ _ _ _ _ made _ _ more asked is (rw c.in-Some.is at c.in_ok-step.ensures) (grind arith) c.step-reply.ensures.made in (
+    let (more', asked') = step-more _ _ _ _ _ made _ _ more asked is (rw c.in-Some.is at c.in_ok-step.ensures)
+    (grind arith) c.step-reply.ensures.made in (
       made ++ (c.in-Some.step, c.step-reply.result) ∷ [],
       more',
       asked',
@@ -36,7 +38,10 @@ loop-progress-preserved g c =
 pub loop-progress-smaller : goal.loop-progress-smaller
 loop-progress-smaller g c =
     let (made, more, asked, is, stands, goes) = c.loop-progress.invariant in
-    let asks-it : asks c.args.command.now c.loop-progress.progress ≡ Do c.in-Some.step = rw c.in-Some.is at c.in_ok-step.ensures in
+    let asks-it : asks c.args.command.now c.loop-progress.progress ≡ Do c.in-Some.step =
+    rw c.in-Some.is at c.in_ok-step.ensures in
     let room : is_out_of_memory c.step-reply.result ≡ false = grind arith in
-    let answers : Answers (asks c.args.command.now c.loop-progress.progress) c.step-reply.result = rw asks-it (c.step-reply.ensures.fits, room) in
-    rw c.in_ok-progress.ensures.is (rank-falls c.args.command.now c.loop-progress.progress c.step-reply.result stands answers)
+    let answers : Answers (asks c.args.command.now c.loop-progress.progress) c.step-reply.result =
+    rw asks-it (c.step-reply.ensures.fits, room) in
+    rw c.in_ok-progress.ensures.is
+    (rank-falls c.args.command.now c.loop-progress.progress c.step-reply.result stands answers)

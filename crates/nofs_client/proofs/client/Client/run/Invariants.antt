@@ -8,7 +8,8 @@ use Rattle.nofs_client.proofs.client.Client.run.Given as goal
 
 abbrev pub invariant-loop-progress : goal.invariant-loop-progress
 invariant-loop-progress g l =
-    (made : List Made) × (g.S.Steps.made l.self.steps ≡ g.S.Steps.made l.initial.self.steps ++ made) × Asked l.command (start_of l.command) made
+    (made : List Made) × (g.S.Steps.made l.self.steps ≡ g.S.Steps.made l.initial.self.steps ++ made)
+    × Asked l.command (start_of l.command) made
     × (l.progress ≡ progress l.command (map made_reply made))
     × TaskStands l.command l.progress.task
     × g.S.Steps.goes l.initial.self.steps l.self.steps

@@ -8,7 +8,8 @@ returns-clause-here c =
     let size = run.size in
     let place = c.requires.place.fits in
     let low = c.requires.place.low in
-    cell-put run.bytes.items c.put_parts.new.bytes.items (c.args.block - run.first) (1056 * (c.args.block - run.first)) c.args.cell.now refl (omega arith)
+    cell-put run.bytes.items c.put_parts.new.bytes.items (c.args.block - run.first)
+    (1056 * (c.args.block - run.first)) c.args.cell.now refl (omega arith)
     c.note_sizes.ensures.payload.len c.note_sizes.ensures.tag.len c.put_parts.ensures.value
 
 pub returns-clause-others : goal.returns-clause-others
@@ -17,5 +18,6 @@ returns-clause-others c k other =
     let size = run.size in
     let place = c.requires.place.fits in
     let low = c.requires.place.low in
-    cell-beside run.bytes.items c.put_parts.new.bytes.items (c.args.block - run.first) (1056 * (c.args.block - run.first)) k c.args.cell.now refl
+    cell-beside run.bytes.items c.put_parts.new.bytes.items (c.args.block - run.first)
+    (1056 * (c.args.block - run.first)) k c.args.cell.now refl
     (omega arith) c.note_sizes.ensures.payload.len c.note_sizes.ensures.tag.len c.put_parts.ensures.value other

@@ -5,8 +5,13 @@ use Rattle.nofs_files.proofs.puts.cells.pointers_cell.Goals as goal
 
 pub returns : goal.returns
 returns c = record {
-  tag = c.empty_cell-cell.ensures.tag ∙ ap (λ (n : ℕ). Some (record
-      { kind = Leaf; inode = c.args.put.now.inode; generation = c.args.put.now.generation; slot = n; stamp = c.args.stamp })) c.slot_number.ensures;
+  tag = c.empty_cell-cell.ensures.tag ∙ ap (λ (n : ℕ). Some (record {
+    kind = Leaf;
+    inode = c.args.put.now.inode;
+    generation = c.args.put.now.generation;
+    slot = n;
+    stamp = c.args.stamp;
+  })) c.slot_number.ensures;
   pointer = c.write_pointer.ensures.written;
   others = λ j ne lt. ap is_null (c.write_pointer.ensures.others j ne lt ∙ ap (λ
       (q : List ℕ). pointer_at q j) c.empty_cell-cell.ensures.payload)

@@ -11,20 +11,27 @@ use Rattle.nofs_files.proofs.puts.holes.put_in_hole.Goals as goal
 
 pub returns-in-Err : goal.returns-in-Err
 returns-in-Err g c = ended c.refused.ensures (goes-no-room
-    (direct-asked (g.met.D.Disk.is_disk c.args.core.now.disk) c.requires.may c.requires.empty c.requires.rows c.requires.direct)
+    (direct-asked (g.met.D.Disk.is_disk c.args.core.now.disk) c.requires.may c.requires.empty c.requires.rows
+    c.requires.direct)
     c.in-Err.ensures.refused)
 
 pub returns-in-Err-read_table : goal.returns-in-Err-read_table
 returns-in-Err-read_table g c = ended c.refused-in-Err-read_table.ensures (goes-untabled
-    (direct-asked (g.met.D.Disk.is_disk c.args.core.now.disk) c.requires.may c.requires.empty c.requires.rows c.requires.direct)
-    c.in-Ok.ensures.room (StaysButFaults-refl (g.D.Disk.state c.args.core.now.disk)) c.read_table.ensures.stays c.in-Err-read_table.ensures.refused)
+    (direct-asked (g.met.D.Disk.is_disk c.args.core.now.disk) c.requires.may c.requires.empty c.requires.rows
+    c.requires.direct)
+    c.in-Ok.ensures.room (StaysButFaults-refl (g.D.Disk.state c.args.core.now.disk)) c.read_table.ensures.stays
+    c.in-Err-read_table.ensures.refused)
 
 pub returns : goal.returns
 returns g c = direct-ends
-    (direct-asked (g.met.D.Disk.is_disk c.args.core.now.disk) c.requires.may c.requires.empty c.requires.rows c.requires.direct)
+    (direct-asked (g.met.D.Disk.is_disk c.args.core.now.disk) c.requires.may c.requires.empty c.requires.rows
+    c.requires.direct)
     c.in-Ok.ensures.room
-    (takes-one c.requires.may.safe c.in-Ok.ensures.found c.in-Ok.ensures.room c.claim_one-claims.ensures.claims c.claim_one-claims.ensures.books)
-    (g.met.D.Disk.is_disk c.read_table.new.disk) (g.met.D.Disk.is_disk c.write_two.new.core.disk) c.read_table.ensures.stays c.requires.direct
+    (takes-one c.requires.may.safe c.in-Ok.ensures.found c.in-Ok.ensures.room c.claim_one-claims.ensures.claims
+    c.claim_one-claims.ensures.books)
+    (g.met.D.Disk.is_disk c.read_table.new.disk)
+    (g.met.D.Disk.is_disk c.write_two.new.core.disk) c.read_table.ensures.stays c.requires.direct
     c.requires.may.eight (c.content_cell-cell.ensures c.args.it.now.size) c.in-Ok-read_table.ensures.cell
-    (recorded (c.pointed-it.ensures ∙ ap (λ (n : ℕ). pointed c.args.it.now n c.args.put.now.slot c.claim_one-claims.result.cell) c.size_after.ensures)
+    (recorded (c.pointed-it.ensures ∙ ap
+    (λ (n : ℕ). pointed c.args.it.now n c.args.put.now.slot c.claim_one-claims.result.cell) c.size_after.ensures)
     c.record_cell-table.ensures) c.table_block.ensures c.write_two.ensures

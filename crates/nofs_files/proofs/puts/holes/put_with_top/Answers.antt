@@ -11,21 +11,28 @@ use Rattle.nofs_files.proofs.puts.holes.put_with_top.Goals as goal
 
 pub returns-in-Err-read_table : goal.returns-in-Err-read_table
 returns-in-Err-read_table g c = ended c.refused-in-Err-read_table.ensures (goes-untabled
-    (top-asked (g.met.D.Disk.is_disk c.args.core.now.disk) c.requires.may c.requires.empty c.requires.rows c.requires.path c.requires.hole)
-    c.in-Ok.ensures.room (StaysButFaults-refl (g.D.Disk.state c.args.core.now.disk)) c.read_table.ensures.stays c.in-Err-read_table.ensures.refused)
+    (top-asked (g.met.D.Disk.is_disk c.args.core.now.disk) c.requires.may c.requires.empty c.requires.rows
+    c.requires.path c.requires.hole)
+    c.in-Ok.ensures.room (StaysButFaults-refl (g.D.Disk.state c.args.core.now.disk)) c.read_table.ensures.stays
+    c.in-Err-read_table.ensures.refused)
 
 pub returns : goal.returns
-returns g c = top-ends (g.met.D.Disk.is_disk c.read_table.new.disk) (g.met.D.Disk.is_disk c.write_four.new.core.disk) c.read_table.ensures.stays
+returns g c = top-ends (g.met.D.Disk.is_disk c.read_table.new.disk)
+    (g.met.D.Disk.is_disk c.write_four.new.core.disk) c.read_table.ensures.stays
     c.in-Ok-read_table.ensures.cell c.table_block-number.ensures
-    (top-asked (g.met.D.Disk.is_disk c.args.core.now.disk) c.requires.may c.requires.empty c.requires.rows c.requires.path c.requires.hole)
+    (top-asked (g.met.D.Disk.is_disk c.args.core.now.disk) c.requires.may c.requires.empty c.requires.rows
+    c.requires.path c.requires.hole)
     c.in-Ok.ensures.room
-    (takes-three c.requires.may.safe c.in-Ok.ensures.found c.in-Ok.ensures.room c.claim_three-claims.ensures.claims c.claim_three-claims.ensures.books)
+    (takes-three c.requires.may.safe c.in-Ok.ensures.found c.in-Ok.ensures.room c.claim_three-claims.ensures.claims
+    c.claim_three-claims.ensures.books)
     c.requires.path c.requires.hole (c.content_cell-cell.ensures c.args.it.now.size) c.pointers_cell-pointers.ensures
     c.pointers_cell-tops.ensures
-    (recorded (c.rooted-it.ensures ∙ ap (λ (n : ℕ). rooted c.args.it.now n 9 c.claim_three-claims.result.top) c.size_after.ensures)
+    (recorded (c.rooted-it.ensures ∙ ap (λ (n : ℕ). rooted c.args.it.now n 9 c.claim_three-claims.result.top)
+    c.size_after.ensures)
     c.record_cell-table.ensures) c.write_four.ensures
 
 pub returns-in-Err : goal.returns-in-Err
 returns-in-Err g c = ended c.refused.ensures (goes-no-room
-    (top-asked (g.met.D.Disk.is_disk c.args.core.now.disk) c.requires.may c.requires.empty c.requires.rows c.requires.path c.requires.hole)
+    (top-asked (g.met.D.Disk.is_disk c.args.core.now.disk) c.requires.may c.requires.empty c.requires.rows
+    c.requires.path c.requires.hole)
     c.in-Err.ensures.refused)

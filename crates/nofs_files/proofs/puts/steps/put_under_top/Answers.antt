@@ -5,24 +5,30 @@ use Rattle.nofs_files.proofs.OnPuts.LostBlocks.{top-ruins, top-spares}
 use Rattle.nofs_files.proofs.puts.steps.put_under_top.Goals as goal
 
 pub returns-in-Err : goal.returns-in-Err
-returns-in-Err g c = ended c.refused.ensures (goes-unread-above (reached (g.met.D.Disk.is_disk c.args.core.now.disk) c.requires.may c.requires.rows)
+returns-in-Err g c = ended c.refused.ensures (goes-unread-above
+    (reached (g.met.D.Disk.is_disk c.args.core.now.disk) c.requires.may c.requires.rows)
     c.find_slot.ensures.stays c.in-Err.ensures.cause)
 
 pub returns-in-Lost : goal.returns-in-Lost
-returns-in-Lost g c = ended c.refused-in-Lost.ensures (goes-lost-above (reached (g.met.D.Disk.is_disk c.args.core.now.disk) c.requires.may c.requires.rows)
-    c.find_slot.ensures.stays (top-ruins (there c.requires.may) c.args.put.now.slot (far-path c.requires.from c.requires.empty.slot).path
+returns-in-Lost g c = ended c.refused-in-Lost.ensures (goes-lost-above
+    (reached (g.met.D.Disk.is_disk c.args.core.now.disk) c.requires.may c.requires.rows)
+    c.find_slot.ensures.stays
+    (top-ruins (there c.requires.may) c.args.put.now.slot (far-path c.requires.from c.requires.empty.slot).path
     (λ t. sym c.in-Lost.is ∙ c.in-Ok.ensures.found t)))
 
 pub put_with_top-requires-clause-rows : goal.put_with_top-requires-clause-rows
-put_with_top-requires-clause-rows g c = lead-above (reached (g.met.D.Disk.is_disk c.args.core.now.disk) c.requires.may c.requires.rows)
+put_with_top-requires-clause-rows g c =
+    lead-above (reached (g.met.D.Disk.is_disk c.args.core.now.disk) c.requires.may c.requires.rows)
     c.find_slot.ensures.stays (let far = far-path c.requires.from c.requires.empty.slot in
-    top-spares (there c.requires.may) c.args.put.now.slot far.child far.path (λ t. sym c.in-Hole.is ∙ c.in-Ok.ensures.found t))
+    top-spares (there c.requires.may) c.args.put.now.slot far.child far.path
+    (λ t. sym c.in-Hole.is ∙ c.in-Ok.ensures.found t))
 
 pub returns-in-Hole : goal.returns-in-Hole
 returns-in-Hole g c = after-reads c.find_slot.ensures.stays c.put_with_top.ensures
 
 pub put_under_child-requires-clause-rows : goal.put_under_child-requires-clause-rows
-put_under_child-requires-clause-rows g c = reach-above (reached (g.met.D.Disk.is_disk c.args.core.now.disk) c.requires.may c.requires.rows)
+put_under_child-requires-clause-rows g c =
+    reach-above (reached (g.met.D.Disk.is_disk c.args.core.now.disk) c.requires.may c.requires.rows)
     c.find_slot.ensures.stays
 
 pub returns-in-Holds : goal.returns-in-Holds

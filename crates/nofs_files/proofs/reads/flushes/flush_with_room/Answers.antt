@@ -6,24 +6,32 @@ use Rattle.nofs_files.proofs.OnReads.Flushes.{ends-flush, opened-flush, settled-
 use Rattle.nofs_files.proofs.reads.flushes.flush_with_room.Goals as goal
 
 pub returns-then-core-clause-goes : goal.returns-then-core-clause-goes
-returns-then-core-clause-goes g c = goes-stopped (g.D.Disk.state c.args.core.now.disk) (g.D.Disk.state c.args.core.now.disk) c.args.core.now.books
+returns-then-core-clause-goes g c =
+    goes-stopped (g.D.Disk.state c.args.core.now.disk) (g.D.Disk.state c.args.core.now.disk) c.args.core.now.books
     (step.Flush c.args.inode c.args.generation) (g.met.D.Disk.is_disk c.args.core.now.disk) c.requires.safe
     (StaysButFaults-refl (g.D.Disk.state c.args.core.now.disk)) c.if-core.true
 
 pub returns-then-names_disk-clause-goes : goal.returns-then-names_disk-clause-goes
-returns-then-names_disk-clause-goes g c = ends-flush (g.D.Disk.state c.args.core.now.disk) (g.D.Disk.state c.flush_disk.new.core.disk) c.args.core.now.books
+returns-then-names_disk-clause-goes g c =
+    ends-flush (g.D.Disk.state c.args.core.now.disk) (g.D.Disk.state c.flush_disk.new.core.disk) c.args.core.now.books
     c.flush_disk.new.core.books c.args.inode c.args.generation c.flush_disk.result
-    (g.met.D.Disk.is_disk c.args.core.now.disk) (g.met.D.Disk.is_disk c.flush_disk.new.core.disk) c.requires.safe c.if-core.false
-    (λ tells H p o V. whole-row p.world V c.args.inode c.args.generation (sym c.names_disk.ensures ∙ c.if-names_disk.true)) c.flush_disk.ensures
+    (g.met.D.Disk.is_disk c.args.core.now.disk)
+    (g.met.D.Disk.is_disk c.flush_disk.new.core.disk) c.requires.safe c.if-core.false
+    (λ tells H p o V. whole-row p.world V c.args.inode c.args.generation
+    (sym c.names_disk.ensures ∙ c.if-names_disk.true)) c.flush_disk.ensures
 
 pub returns-in-Ok-clause-goes : goal.returns-in-Ok-clause-goes
-returns-in-Ok-clause-goes g c = opened-flush (g.D.Disk.state c.args.core.now.disk) (g.D.Disk.state c.open_inode.new.disk) c.args.core.now.books c.args.inode
+returns-in-Ok-clause-goes g c = opened-flush (g.D.Disk.state c.args.core.now.disk)
+    (g.D.Disk.state c.open_inode.new.disk) c.args.core.now.books c.args.inode
     c.args.generation c.open_inode.new.last (g.met.D.Disk.is_disk c.args.core.now.disk) c.requires.safe c.if-core.false
-    (g.D.Disk.state c.flush_disk-in-Ok.new.core.disk) c.flush_disk-in-Ok.new.core.books c.in-Ok.field-0 c.flush_disk-in-Ok.result
-    (g.met.D.Disk.is_disk c.open_inode.new.disk) (g.met.D.Disk.is_disk c.flush_disk-in-Ok.new.core.disk) c.in-Ok.ensures c.flush_disk-in-Ok.ensures
+    (g.D.Disk.state c.flush_disk-in-Ok.new.core.disk) c.flush_disk-in-Ok.new.core.books c.in-Ok.field-0
+    c.flush_disk-in-Ok.result
+    (g.met.D.Disk.is_disk c.open_inode.new.disk)
+    (g.met.D.Disk.is_disk c.flush_disk-in-Ok.new.core.disk) c.in-Ok.ensures c.flush_disk-in-Ok.ensures
 
 pub returns-in-Err-clause-goes : goal.returns-in-Err-clause-goes
-returns-in-Err-clause-goes g c = unopened-flush (g.D.Disk.state c.args.core.now.disk) (g.D.Disk.state c.open_inode.new.disk) c.args.core.now.books c.args.inode
+returns-in-Err-clause-goes g c = unopened-flush (g.D.Disk.state c.args.core.now.disk)
+    (g.D.Disk.state c.open_inode.new.disk) c.args.core.now.books c.args.inode
     c.args.generation c.open_inode.new.last (g.met.D.Disk.is_disk c.args.core.now.disk) c.requires.safe c.if-core.false
     c.open_inode.result c.in-Err.why (sym c.names_disk.ensures ∙ c.if-names_disk.false) c.open_inode.ensures c.in-Err.is
 

@@ -24,18 +24,22 @@ returns-then-slot-slots_of-clause-goes g c = get-large c.args.inode c.args.gener
 pub returns-in-Err-clause-goes : goal.returns-in-Err-clause-goes
 returns-in-Err-clause-goes g c = get-unfiled c.args.inode c.args.generation c.args.slot
     (g.met.D.Disk.is_disk c.args.core.now.disk) c.requires c.if-core.false
-    (let e = c.slots_of.ensures in let h = c.if-slot-slots_of.false in omega (arith, e, h)) c.open_file.ensures c.in-Err.is
+    (let e = c.slots_of.ensures in let h = c.if-slot-slots_of.false in
+    omega (arith, e, h)) c.open_file.ensures c.in-Err.is
 
 pub returns-in-Err-find_content-clause-goes : goal.returns-in-Err-find_content-clause-goes
 returns-in-Err-find_content-clause-goes g c = get-unread c.args.inode c.args.generation c.args.slot
     (g.met.D.Disk.is_disk c.args.core.now.disk) c.requires c.if-core.false
-    (let e = c.slots_of.ensures in let h = c.if-slot-slots_of.false in omega (arith, e, h)) c.in-Ok.ensures c.in-Err-find_content.ensures
+    (let e = c.slots_of.ensures in let h = c.if-slot-slots_of.false in
+    omega (arith, e, h)) c.in-Ok.ensures c.in-Err-find_content.ensures
 
 pub returns-in-Hole-clause-goes : goal.returns-in-Hole-clause-goes
 returns-in-Hole-clause-goes g c = get-found c.args.inode c.args.generation c.args.slot
     (g.met.D.Disk.is_disk c.args.core.now.disk) c.requires c.if-core.false
-    (let e = c.slots_of.ensures in let h = c.if-slot-slots_of.false in omega (arith, e, h)) c.in-Ok.ensures reply.Hole refl refl c.in-Ok-find_content.ensures
-    (λ tells. ap (λ (q : PathAnswer). got_reply (value_in (g.D.Disk.state c.args.core.now.disk).now q)) (sym c.in-Hole.is))
+    (let e = c.slots_of.ensures in let h = c.if-slot-slots_of.false in
+    omega (arith, e, h)) c.in-Ok.ensures reply.Hole refl refl c.in-Ok-find_content.ensures
+    (λ tells. ap (λ (q : PathAnswer). got_reply (value_in (g.D.Disk.state c.args.core.now.disk).now q))
+    (sym c.in-Hole.is))
 
 pub returns-in-Holds-clause-goes : goal.returns-in-Holds-clause-goes
 returns-in-Holds-clause-goes g c = get-found c.args.inode c.args.generation c.args.slot
@@ -47,8 +51,10 @@ returns-in-Holds-clause-goes g c = get-found c.args.inode c.args.generation c.ar
 pub returns-in-Lost-clause-goes : goal.returns-in-Lost-clause-goes
 returns-in-Lost-clause-goes g c = get-found c.args.inode c.args.generation c.args.slot
     (g.met.D.Disk.is_disk c.args.core.now.disk) c.requires c.if-core.false
-    (let e = c.slots_of.ensures in let h = c.if-slot-slots_of.false in omega (arith, e, h)) c.in-Ok.ensures reply.Lost refl refl c.in-Ok-find_content.ensures
-    (λ tells. ap (λ (q : PathAnswer). got_reply (value_in (g.D.Disk.state c.args.core.now.disk).now q)) (sym c.in-Lost.is))
+    (let e = c.slots_of.ensures in let h = c.if-slot-slots_of.false in
+    omega (arith, e, h)) c.in-Ok.ensures reply.Lost refl refl c.in-Ok-find_content.ensures
+    (λ tells. ap (λ (q : PathAnswer). got_reply (value_in (g.D.Disk.state c.args.core.now.disk).now q))
+    (sym c.in-Lost.is))
 
 -- it has only read
 pub returns-then-core-clause-memory : goal.returns-then-core-clause-memory

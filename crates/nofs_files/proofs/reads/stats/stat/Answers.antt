@@ -6,22 +6,31 @@ use Rattle.nofs_files.proofs.OnReads.Stats.{goes-counted, goes-uncounted, stat-s
 use Rattle.nofs_files.proofs.reads.stats.stat.Goals as goal
 
 pub returns-then-core : goal.returns-then-core
-returns-then-core g c = goes-stopped (g.D.Disk.state c.args.core.now.disk) (g.D.Disk.state c.args.core.now.disk) c.args.core.now.books
+returns-then-core g c =
+    goes-stopped (g.D.Disk.state c.args.core.now.disk) (g.D.Disk.state c.args.core.now.disk) c.args.core.now.books
     (step.Stat c.args.inode c.args.generation) (g.met.D.Disk.is_disk c.args.core.now.disk) c.requires
     (StaysButFaults-refl (g.D.Disk.state c.args.core.now.disk)) c.if-core.true
 
 pub returns-in-Err : goal.returns-in-Err
-returns-in-Err g c = goes-unopened (g.D.Disk.state c.args.core.now.disk) (g.D.Disk.state c.open_inode.new.disk) c.args.core.now.books
-    (step.Stat c.args.inode c.args.generation) c.args.inode c.args.generation c.open_inode.new.last c.open_inode.result c.in-Err.why
+returns-in-Err g c =
+    goes-unopened (g.D.Disk.state c.args.core.now.disk) (g.D.Disk.state c.open_inode.new.disk) c.args.core.now.books
+    (step.Stat c.args.inode c.args.generation) c.args.inode c.args.generation c.open_inode.new.last
+    c.open_inode.result c.in-Err.why
     (g.met.D.Disk.is_disk c.args.core.now.disk) c.requires c.if-core.false c.open_inode.ensures c.in-Err.is
     (λ W e. stat-stale W c.args.inode c.args.generation e) (λ W. stat-late W c.args.inode c.args.generation)
 
 pub returns-in-Ok-count_links : goal.returns-in-Ok-count_links
-returns-in-Ok-count_links g c = goes-counted (g.D.Disk.state c.args.core.now.disk) (g.D.Disk.state c.open_inode.new.disk)
-    (g.D.Disk.state c.count_links.new.disk) c.args.core.now.books c.args.inode c.args.generation c.open_inode.new.last c.in-Ok.it
-    (g.met.D.Disk.is_disk c.args.core.now.disk) c.requires c.if-core.false c.in-Ok.ensures c.in-Ok-count_links.links c.in-Ok-count_links.ensures
+returns-in-Ok-count_links g c =
+    goes-counted (g.D.Disk.state c.args.core.now.disk) (g.D.Disk.state c.open_inode.new.disk)
+    (g.D.Disk.state c.count_links.new.disk) c.args.core.now.books c.args.inode c.args.generation
+    c.open_inode.new.last c.in-Ok.it
+    (g.met.D.Disk.is_disk c.args.core.now.disk) c.requires c.if-core.false c.in-Ok.ensures c.in-Ok-count_links.links
+    c.in-Ok-count_links.ensures
 
 pub returns-in-Err-count_links : goal.returns-in-Err-count_links
-returns-in-Err-count_links g c = goes-uncounted (g.D.Disk.state c.args.core.now.disk) (g.D.Disk.state c.open_inode.new.disk)
-    (g.D.Disk.state c.count_links.new.disk) c.args.core.now.books c.args.inode c.args.generation c.open_inode.new.last c.in-Ok.it
-    (g.met.D.Disk.is_disk c.args.core.now.disk) c.requires c.if-core.false c.in-Ok.ensures c.in-Err-count_links.field-0 c.in-Err-count_links.ensures
+returns-in-Err-count_links g c =
+    goes-uncounted (g.D.Disk.state c.args.core.now.disk) (g.D.Disk.state c.open_inode.new.disk)
+    (g.D.Disk.state c.count_links.new.disk) c.args.core.now.books c.args.inode c.args.generation
+    c.open_inode.new.last c.in-Ok.it
+    (g.met.D.Disk.is_disk c.args.core.now.disk) c.requires c.if-core.false c.in-Ok.ensures c.in-Err-count_links.field-0
+    c.in-Err-count_links.ensures

@@ -6,11 +6,14 @@ use Rattle.nofs_files.proofs.resizes.steps.resize.Goals as goal
 
 pub returns-in-Ok : goal.returns-in-Ok
 returns-in-Ok g c = goes-after (g.D.Disk.state c.args.core.now.disk) (g.D.Disk.state c.ready.new.self)
-    (ready-keeps (g.D.Disk.state c.args.core.now.disk) (g.D.Disk.state c.ready.new.self) 4 c.ready.result c.ready.ensures)
+    (ready-keeps (g.D.Disk.state c.args.core.now.disk)
+    (g.D.Disk.state c.ready.new.self) 4 c.ready.result c.ready.ensures)
     (g.D.Disk.state c.resize_with_room.new.core.disk) c.args.core.now.books c.resize_with_room.new.core.books
-    (step.Resize c.args.inode c.args.generation c.args.size) no_claims (resize_answer c.resize_with_room.result) c.resize_with_room.ensures
+    (step.Resize c.args.inode c.args.generation c.args.size) no_claims
+    (resize_answer c.resize_with_room.result) c.resize_with_room.ensures
 
 pub returns-in-Err : goal.returns-in-Err
 returns-in-Err g c = goes-memory (g.D.Disk.state c.args.core.now.disk) (g.D.Disk.state c.ready.new.self)
-    (ready-keeps (g.D.Disk.state c.args.core.now.disk) (g.D.Disk.state c.ready.new.self) 4 c.ready.result c.ready.ensures)
+    (ready-keeps (g.D.Disk.state c.args.core.now.disk)
+    (g.D.Disk.state c.ready.new.self) 4 c.ready.result c.ready.ensures)
     c.args.core.now.books (step.Resize c.args.inode c.args.generation c.args.size) no_claims c.requires

@@ -7,5 +7,6 @@ use Rattle.nofs_gen.proofs.file.Replayed.resized.Goals as goal
 pub returns : goal.returns
 returns c =
     let slots : c.min-slots.result ≡ min (slots_in c.args.self.size) (slots_in c.args.size) = search rules in
-    resized-is (replayed_file c.args.self) c.args.size c.min-slots.result c.trim_end.new.self.values.items c.truncate.new.self.items c.pad.new.values.items
+    resized-is (replayed_file c.args.self) c.args.size c.min-slots.result c.trim_end.new.self.values.items
+    c.truncate.new.self.items c.pad.new.values.items
     c.in_ok-trim_end.ensures.values c.truncate.ensures.items slots c.in_ok-pad.ensures

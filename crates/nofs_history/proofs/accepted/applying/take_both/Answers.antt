@@ -6,6 +6,8 @@ use Rattle.nofs_history.proofs.OnAccepted.Taking.{meta_and_cell}
 use Rattle.nofs_history.proofs.accepted.applying.take_both.Goals as goal
 
 pub returns : goal.returns
-returns c = meta_and_cell (kept_files_of c.args.files.now) (kept_files_of c.take_metas.new.files) (kept_files_of c.take_cell.new.files)
-    c.args.cell.inode c.args.cell.generation c.args.cell.slot (value.Bytes c.args.cell.cell.value) (metas_of c.args.meta)
+returns c = meta_and_cell (kept_files_of c.args.files.now) (kept_files_of c.take_metas.new.files)
+    (kept_files_of c.take_cell.new.files)
+    c.args.cell.inode c.args.cell.generation c.args.cell.slot (value.Bytes c.args.cell.cell.value)
+    (metas_of c.args.meta)
     c.in_ok-take_metas.ensures c.in_ok-take_cell.ensures

@@ -6,4 +6,5 @@ use Rattle.nofs_history.proofs.accepted.base.files_at.Goals as goal
 pub returns : goal.returns
 returns c =
     let files = c.in_ok-files.files in
-    files-whole c.args.base.now (record { files = files }) (subst (λ (n : ℕ). AreFiles c.args.base.now n files.items) c.inodes_of.ensures c.in_ok-files.ensures)
+    files-whole c.args.base.now (record { files = files })
+    (subst (λ (n : ℕ). AreFiles c.args.base.now n files.items) c.inodes_of.ensures c.in_ok-files.ensures)

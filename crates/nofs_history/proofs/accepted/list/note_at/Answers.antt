@@ -12,6 +12,8 @@ returns-in_ok-note_entry-in-Some c = λ fit.
     let here = sym c.in-Some.ensures in
     let keeps = fit-at c.args.history.now.entries c.args.at c.in-Some.entry.now here fit in
     gather-next c.args.history.now.entries c.args.at c.in-Some.entry.now (kept_files_of c.args.files.now)
-    (kept_files_of c.note_entry.new.files) c.args.wanted.now.inode c.args.wanted.now.generation c.args.wanted.now.slot c.args.values.now.items
+    (kept_files_of c.note_entry.new.files) c.args.wanted.now.inode c.args.wanted.now.generation c.args.wanted.now.slot
+    c.args.values.now.items
     c.note_entry.new.values.items
-    here c.requires.slot (c.in_ok-note_entry-in-Some.ensures.values keeps) (c.in_ok-note_entry-in-Some.ensures.files keeps)
+    here c.requires.slot (c.in_ok-note_entry-in-Some.ensures.values keeps)
+    (c.in_ok-note_entry-in-Some.ensures.files keeps)

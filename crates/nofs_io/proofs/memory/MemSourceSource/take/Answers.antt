@@ -8,9 +8,13 @@ returns-clause-takes c =
     let at = c.self.inside.at in
     let bytes = c.self.inside.bytes.items in
     let n = c.min-count.result in
-    let front = moved_front bytes c.copy_from_slice.new.self (drop n c.args.into.now) at n (grind (arith, common_steps)) (grind (arith, common_steps)) in
+    let front = moved_front bytes c.copy_from_slice.new.self (drop n c.args.into.now) at n (grind (arith, common_steps))
+    (grind (arith, common_steps)) in
     record {
       within = grind (arith, common_steps);
-      bytes = (grind (arith, front), λ none room. ended bytes at n c.min-most.result 0 (grind arith) (grind (arith, common_steps)) none);
+      bytes = (
+        grind (arith, front),
+        λ none room. ended bytes at n c.min-most.result 0 (grind arith) (grind (arith, common_steps)) none,
+      );
       cause = grind (arith, common_steps);
     }

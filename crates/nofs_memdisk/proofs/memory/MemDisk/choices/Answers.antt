@@ -13,10 +13,12 @@ loop-call-preserved c =
     let v = c.choices_after-count.ensures in
     let t = c.loop-call-test.true in
     let e = c.deref-call-items.ensures in (
-      v.value ∙ count_seen c.args.self.now.base.items _ c.args.self.now.calls.items c.loop-call.call-index c.args.block c.loop-call.count _ e.value t
+      v.value ∙ count_seen c.args.self.now.base.items _ c.args.self.now.calls.items c.loop-call.call-index c.args.block
+          c.loop-call.count _ e.value t
           c.loop-call.invariant.0,
       let m = c.loop-call.invariant.1 in omega arith,
     )
 
 pub returns-clause-leaves : goal.returns-clause-leaves
-returns-clause-leaves c image picks = leaves_rest c.args.self.now.start c.args.self.now.base.items c.args.self.now.calls.items image picks
+returns-clause-leaves c image picks =
+    leaves_rest c.args.self.now.start c.args.self.now.base.items c.args.self.now.calls.items image picks

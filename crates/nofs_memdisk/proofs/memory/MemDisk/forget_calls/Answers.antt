@@ -17,16 +17,19 @@ invariant_of-self-2 c =
     let Sized : List Cell → Type 0 = λ l. (b : ℕ) → b < length l → IsSizedCell (cell_at l b) in
     let is_now = base ∙ old.present in
     record {
-      present = sym base ∙ sym (after_none c.copy_from_slice.new.self.items c.clear.new.self.items c.clear.ensures.items);
+      present = sym base
+          ∙ sym (after_none c.copy_from_slice.new.self.items c.clear.new.self.items c.clear.ensures.items);
       whole = ap length (sym base);
       room = let e = old.room in let l = c.len-made.ensures in grind (arith, common_steps);
       counted = old.counted;
       kept = let e = old.kept in let l = c.clear.ensures.capacity in omega arith;
       sized = sized_base c.copy_from_slice.new.self.items c.clear.new.self.items c.clear.ensures.items
-          (subst Sized (sym is_now) (λ b low. sized_now old.base.items old.calls.items old.sized b (let w = old.whole in let p =
+          (subst Sized (sym is_now)
+          (λ b low. sized_now old.base.items old.calls.items old.sized b (let w = old.whole in let p =
           ap length old.present in omega arith)));
     }
 
 pub returns-then-made-eq0 : goal.returns-then-made-eq0
 returns-then-made-eq0 c = forgets_none (parts_of c.args.self.now)
-    (nil_from_length c.args.self.now.calls.items (let l = c.len-made.ensures in let t = c.if-made-eq0.true in grind (arith, common_steps)))
+    (nil_from_length c.args.self.now.calls.items
+    (let l = c.len-made.ensures in let t = c.if-made-eq0.true in grind (arith, common_steps)))

@@ -19,12 +19,14 @@ invariant_of-self c =
     let sized : Sized mid.base.items = λ b low. subst (λ (l : List Cell). IsSizedCell (cell_at l b)) now
     (sized_now mid.base.items mid.calls.items mid.sized b low) in
     record {
-      present = ap (λ l. set l block cell) (mid.present ∙ now) ∙ sym (after_none (set mid.base.items block cell) mid.calls.items none);
+      present = ap (λ l. set l block cell) (mid.present ∙ now)
+          ∙ sym (after_none (set mid.base.items block cell) mid.calls.items none);
       whole = ap (λ l. length (set l block cell)) (mid.present ∙ now);
       room = mid.room;
       counted = mid.counted;
       kept = mid.kept;
-      sized = sized_base (set mid.base.items block cell) mid.calls.items none (sized_set mid.base.items block cell c.note_sizes.ensures sized);
+      sized = sized_base (set mid.base.items block cell) mid.calls.items none
+          (sized_set mid.base.items block cell c.note_sizes.ensures sized);
     }
 
 pub returns : goal.returns

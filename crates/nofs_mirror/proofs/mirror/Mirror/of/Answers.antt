@@ -16,16 +16,22 @@ invariant_of-result g c =
     } in
     let log = c.new.result in
     let past = c.new.ensures.past in
-    let F : List MirrorCall → Type 0 = λ l. c.new.result.sides.lead_in ≡ (last_span (λ x. x.lead) opening.lead l).is_in in
-    let G : List MirrorCall → Type 0 = λ l. c.new.result.sides.other_in ≡ (last_span (λ x. x.other) opening.other l).is_in in
+    let F : List MirrorCall → Type 0 =
+    λ l. c.new.result.sides.lead_in ≡ (last_span (λ x. x.lead) opening.lead l).is_in in
+    let G : List MirrorCall → Type 0 =
+    λ l. c.new.result.sides.other_in ≡ (last_span (λ x. x.other) opening.other l).is_in in
     record {
-      lead_side = side_begins c.args.blocks log.spare (λ x. x.lead) opening.lead (mirror_calls log.past.value) (g.A.Disk.state c.args.lead)
+      lead_side = side_begins c.args.blocks log.spare (λ x. x.lead) opening.lead (mirror_calls log.past.value)
+          (g.A.Disk.state c.args.lead)
           c.requires.lead c.new.ensures.spare past c.moment-lead_at.ensures;
-      other_side = side_begins c.args.blocks log.spare (λ x. x.other) opening.other (mirror_calls log.past.value) (g.B.Disk.state c.args.other)
+      other_side = side_begins c.args.blocks log.spare (λ x. x.other) opening.other (mirror_calls log.past.value)
+          (g.B.Disk.state c.args.other)
           c.requires.other c.new.ensures.spare past c.moment-other_at.ensures;
       lead_in = subst F (sym past) c.new.ensures.lead_in;
       other_in = subst G (sym past) c.new.ensures.other_in;
       some_in = or_left log.sides.lead_in log.sides.other_in c.new.ensures.lead_in;
-      kept = kept_begins (g.A.Disk.state c.args.lead) (g.B.Disk.state c.args.other) (g.A.Disk.state c.args.first.value) opening (mirror_calls log.past.value)
-          (g.met.A.Disk.is_disk c.args.lead) (g.met.B.Disk.is_disk c.args.other) c.requires.lead c.requires.other c.requires.first past refl c.requires.copied;
+      kept = kept_begins (g.A.Disk.state c.args.lead) (g.B.Disk.state c.args.other)
+          (g.A.Disk.state c.args.first.value) opening (mirror_calls log.past.value)
+          (g.met.A.Disk.is_disk c.args.lead) (g.met.B.Disk.is_disk c.args.other) c.requires.lead c.requires.other
+          c.requires.first past refl c.requires.copied;
     }

@@ -11,7 +11,9 @@ pub invariant_of-self-in-Err-1 : goal.invariant_of-self-in-Err-1
 invariant_of-self-in-Err-1 g c = rest_stays c.args.self.now c.ready_both.ensures.lead c.ready_both.ensures.other
 
 pub returns-in-Ok : goal.returns-in-Ok
-returns-in-Ok g c = mirror_ready c.args.self.now c.ready_both.ensures.lead c.ready_both.ensures.other c.args.calls _ (omega arith) (omega arith)
+returns-in-Ok g c = mirror_ready c.args.self.now c.ready_both.ensures.lead c.ready_both.ensures.other c.args.calls _
+    (omega arith) (omega arith)
 
 pub returns-in-Err : goal.returns-in-Err
-returns-in-Err g c = mirror_ready c.args.self.now c.ready_both.ensures.lead c.ready_both.ensures.other c.args.self.now.log.spare _ (omega arith) tt
+returns-in-Err g c = mirror_ready c.args.self.now c.ready_both.ensures.lead c.ready_both.ensures.other
+    c.args.self.now.log.spare _ (omega arith) tt

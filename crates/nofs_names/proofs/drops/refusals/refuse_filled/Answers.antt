@@ -5,16 +5,21 @@ use Rattle.nofs_names.proofs.OnDrops.Refusals.{a-file, is-empty, is-filled}
 use Rattle.nofs_names.proofs.drops.refusals.refuse_filled.Goals as goal
 
 pub returns-in-File : goal.returns-in-File
-returns-in-File g c = a-file (g.D.Disk.state c.args.disk.now) c.args.at.now c.args.found.now c.requires.known c.in-File.is
+returns-in-File g c =
+    a-file (g.D.Disk.state c.args.disk.now) c.args.at.now c.args.found.now c.requires.known c.in-File.is
 
 pub returns-in-Ok-true : goal.returns-in-Ok-true
-returns-in-Ok-true g c = is-filled (g.D.Disk.state c.args.disk.now) c.args.at.now c.args.found.now c.requires.known (g.D.Disk.state c.has_names.new.disk)
+returns-in-Ok-true g c = is-filled (g.D.Disk.state c.args.disk.now) c.args.at.now c.args.found.now c.requires.known
+    (g.D.Disk.state c.has_names.new.disk)
     c.has_names.new.records c.in-Directory.is
     (subst (λ (b : Bool). NamesOn (g.D.Disk.state c.args.disk.now) (g.D.Disk.state c.has_names.new.disk)
-    c.args.found.now.inode 0 entry_limit c.has_names.new.records (Ok b)) c.in-Ok-true.field-0-test c.in-Ok-true.ensures.search)
+    c.args.found.now.inode 0 entry_limit c.has_names.new.records (Ok b)) c.in-Ok-true.field-0-test
+    c.in-Ok-true.ensures.search)
 
 pub returns-in-Ok-false : goal.returns-in-Ok-false
-returns-in-Ok-false g c = is-empty (g.D.Disk.state c.args.disk.now) c.args.at.now c.args.found.now c.requires.known (g.D.Disk.state c.has_names.new.disk)
+returns-in-Ok-false g c = is-empty (g.D.Disk.state c.args.disk.now) c.args.at.now c.args.found.now c.requires.known
+    (g.D.Disk.state c.has_names.new.disk)
     c.has_names.new.records c.in-Directory.is
     (subst (λ (b : Bool). NamesOn (g.D.Disk.state c.args.disk.now) (g.D.Disk.state c.has_names.new.disk)
-    c.args.found.now.inode 0 entry_limit c.has_names.new.records (Ok b)) c.in-Ok-false.field-0-test c.in-Ok-false.ensures.search)
+    c.args.found.now.inode 0 entry_limit c.has_names.new.records (Ok b)) c.in-Ok-false.field-0-test
+    c.in-Ok-false.ensures.search)

@@ -13,21 +13,28 @@ returns-in-Err g c =
     let old = g.D.Disk.state c.args.core.now.disk in
     let new = g.D.Disk.state c.open_named.new.disk in
     let k = c.args.core.now.books in
-    unopened-goes old new k c.args.at c.in-Err.why (step.Drop c.args.at.directory c.args.at.generation c.args.at.name.now) (g.met.D.Disk.is_disk
+    unopened-goes old new k c.args.at c.in-Err.why
+    (step.Drop c.args.at.directory c.args.at.generation c.args.at.name.now) (g.met.D.Disk.is_disk
     c.args.core.now.disk)
     c.requires.safe c.open_named.ensures.stays
-    (λ safe going bad. drop-bad new k c.args.at.directory c.args.at.generation c.args.at.name.now (g.met.D.Disk.is_disk c.open_named.new.disk) safe going bad)
-    (λ going good last opens. drop-unopened old k c.args.at.directory c.args.at.generation c.args.at.name.now (g.met.D.Disk.is_disk c.args.core.now.disk)
+    (λ safe going bad. drop-bad new k c.args.at.directory c.args.at.generation c.args.at.name.now
+    (g.met.D.Disk.is_disk c.open_named.new.disk) safe going bad)
+    (λ going good last opens. drop-unopened old k c.args.at.directory c.args.at.generation c.args.at.name.now
+    (g.met.D.Disk.is_disk c.args.core.now.disk)
     c.requires.safe going good new last (Err c.in-Err.why) c.in-Err.why opens refl) c.in-Err.ensures.refused
 
 pub returns-in-Err-find_pair : goal.returns-in-Err-find_pair
-returns-in-Err-find_pair g c = drop-missing _ _ _ _ _ (g.met.D.Disk.is_disk c.args.core.now.disk) c.requires.safe c.in-Ok.ensures.going
-    c.in-Ok.ensures.name_is _ _ c.in-Ok.it c.in-Ok.ensures.opened _ _ _ c.find_pair.result c.in-Err-find_pair.why c.find_pair.ensures
+returns-in-Err-find_pair g c =
+    drop-missing _ _ _ _ _ (g.met.D.Disk.is_disk c.args.core.now.disk) c.requires.safe c.in-Ok.ensures.going
+    c.in-Ok.ensures.name_is _ _ c.in-Ok.it c.in-Ok.ensures.opened _ _ _ c.find_pair.result c.in-Err-find_pair.why
+    c.find_pair.ensures
     c.in-Err-find_pair.is
 
 pub drop_found-requires-clause-finds : goal.drop_found-requires-clause-finds
-drop_found-requires-clause-finds g c = drop-may _ _ _ _ _ (g.met.D.Disk.is_disk c.args.core.now.disk) c.requires.safe c.in-Ok.ensures.going
-    c.in-Ok.ensures.name_is _ _ c.in-Ok.it c.in-Ok.ensures.opened _ _ _ _ c.in-Ok-find_pair.found c.in-Ok-find_pair.ensures
+drop_found-requires-clause-finds g c =
+    drop-may _ _ _ _ _ (g.met.D.Disk.is_disk c.args.core.now.disk) c.requires.safe c.in-Ok.ensures.going
+    c.in-Ok.ensures.name_is _ _ c.in-Ok.it c.in-Ok.ensures.opened _ _ _ _ c.in-Ok-find_pair.found
+    c.in-Ok-find_pair.ensures
     c.in-Ok-refuse_filled.ensures
 
 pub returns-in-Ok-refuse_filled : goal.returns-in-Ok-refuse_filled
@@ -35,12 +42,17 @@ returns-in-Ok-refuse_filled g c =
     let a = (g.D.Disk.state c.args.core.now.disk) in
     let b = g.D.Disk.state c.refuse_filled.new.disk in
     let stays = StaysButFaults-trans a (g.D.Disk.state c.find_pair.new.disk) b
-    (StaysButFaults-trans a (g.D.Disk.state c.open_named.new.disk) (g.D.Disk.state c.find_pair.new.disk) c.in-Ok.ensures.stays
+    (StaysButFaults-trans a (g.D.Disk.state c.open_named.new.disk)
+    (g.D.Disk.state c.find_pair.new.disk) c.in-Ok.ensures.stays
     c.in-Ok-find_pair.ensures.stays) c.in-Ok-refuse_filled.ensures.stays in
-    goes-after a b (reads-keep a b stays) (g.D.Disk.state c.drop_found.new.core.disk) c.args.core.now.books c.drop_found.new.core.books
-    (step.Drop c.args.at.directory c.args.at.generation c.args.at.name.now) no_claims (drop_answer c.drop_found.result) c.drop_found.ensures
+    goes-after a b (reads-keep a b stays)
+    (g.D.Disk.state c.drop_found.new.core.disk) c.args.core.now.books c.drop_found.new.core.books
+    (step.Drop c.args.at.directory c.args.at.generation c.args.at.name.now) no_claims
+    (drop_answer c.drop_found.result) c.drop_found.ensures
 
 pub returns-in-Err-refuse_filled : goal.returns-in-Err-refuse_filled
-returns-in-Err-refuse_filled g c = drop-filled _ _ _ _ _ (g.met.D.Disk.is_disk c.args.core.now.disk) c.requires.safe c.in-Ok.ensures.going
-    c.in-Ok.ensures.name_is _ _ c.in-Ok.it c.in-Ok.ensures.opened _ _ _ _ c.in-Ok-find_pair.found c.in-Ok-find_pair.ensures c.refuse_filled.result
+returns-in-Err-refuse_filled g c =
+    drop-filled _ _ _ _ _ (g.met.D.Disk.is_disk c.args.core.now.disk) c.requires.safe c.in-Ok.ensures.going
+    c.in-Ok.ensures.name_is _ _ c.in-Ok.it c.in-Ok.ensures.opened _ _ _ _ c.in-Ok-find_pair.found
+    c.in-Ok-find_pair.ensures c.refuse_filled.result
     c.in-Err-refuse_filled.why c.refuse_filled.ensures c.in-Err-refuse_filled.is

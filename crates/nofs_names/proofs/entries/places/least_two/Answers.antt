@@ -4,12 +4,14 @@ use Rattle.nofs_state.proofs.OnBooks.Free.{one-free, two-free}
 use Rattle.nofs_names.proofs.entries.places.least_two.Goals as goal
 
 pub returns-in-None-clause-none : goal.returns-in-None-clause-none
-returns-in-None-clause-none c e = let z = none-free c.args.books.now.free_blocks (c.in-None.ensures.none refl) in omega (arith, z)
+returns-in-None-clause-none c e = let z = none-free c.args.books.now.free_blocks (c.in-None.ensures.none refl) in
+    omega (arith, z)
 
 pub returns-in-None-next_set-clause-none : goal.returns-in-None-next_set-clause-none
 returns-in-None-next_set-clause-none c e =
     let f = c.in-Some.ensures.found in
-    let z = one-free c.args.books.now.free_blocks c.in-Some.cell f.1 f.2 c.in-Some.ensures.least (c.in-None-next_set.ensures.none refl) in omega (arith, z)
+    let z = one-free c.args.books.now.free_blocks c.in-Some.cell f.1 f.2 c.in-Some.ensures.least
+    (c.in-None-next_set.ensures.none refl) in omega (arith, z)
 
 pub returns-in-Some-next_set-clause-found : goal.returns-in-Some-next_set-clause-found
 returns-in-Some-next_set-clause-found c =

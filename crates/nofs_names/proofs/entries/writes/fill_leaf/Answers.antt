@@ -4,5 +4,6 @@ use Rattle.nofs_state.proofs.OnWrites.ZeroPointers.{zeros-null}
 use Rattle.nofs_names.proofs.entries.writes.fill_leaf.Goals as goal
 
 pub returns-clause-others : goal.returns-clause-others
-returns-clause-others c j ne lt = ap is_null (c.add_pointer.ensures.others j ne lt ∙ ap (λ (q : List ℕ). pointer_at q j) c.clear_payload.ensures) ∙ zeros-null
+returns-clause-others c j ne lt = ap is_null
+    (c.add_pointer.ensures.others j ne lt ∙ ap (λ (q : List ℕ). pointer_at q j) c.clear_payload.ensures) ∙ zeros-null
     1024 j

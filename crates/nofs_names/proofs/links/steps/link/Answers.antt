@@ -10,15 +10,19 @@ use Rattle.nofs_names.proofs.links.steps.link.Goals as goal
 
 pub returns-in-Ok : goal.returns-in-Ok
 returns-in-Ok g c = goes-after (g.D.Disk.state c.args.core.now.disk) (g.D.Disk.state c.ready.new.self)
-    (ready-keeps (g.D.Disk.state c.args.core.now.disk) (g.D.Disk.state c.ready.new.self) 4 c.ready.result c.ready.ensures)
+    (ready-keeps (g.D.Disk.state c.args.core.now.disk)
+    (g.D.Disk.state c.ready.new.self) 4 c.ready.result c.ready.ensures)
     (g.D.Disk.state c.link_with_room.new.core.disk) c.args.core.now.books c.link_with_room.new.core.books
     (step.Link c.args.directory c.args.generation c.args.name.now c.args.inode c.args.of) c.link_with_room.result.claims
     (done_answer reply.Linked c.link_with_room.result.result) c.link_with_room.ensures
 
 pub returns-in-Err : goal.returns-in-Err
-returns-in-Err g c = subst (λ (r : Ended). Goes (g.D.Disk.state c.args.core.now.disk) c.args.core.now.books (g.D.Disk.state c.ready.new.self)
-    c.args.core.now.books (step.Link c.args.directory c.args.generation c.args.name.now c.args.inode c.args.of) r.claims (done_answer reply.Linked r.result))
+returns-in-Err g c = subst
+    (λ (r : Ended). Goes (g.D.Disk.state c.args.core.now.disk) c.args.core.now.books (g.D.Disk.state c.ready.new.self)
+    c.args.core.now.books (step.Link c.args.directory c.args.generation c.args.name.now c.args.inode c.args.of) r.claims
+    (done_answer reply.Linked r.result))
     (sym c.refused.ensures)
     (goes-memory (g.D.Disk.state c.args.core.now.disk) (g.D.Disk.state c.ready.new.self)
-    (ready-keeps (g.D.Disk.state c.args.core.now.disk) (g.D.Disk.state c.ready.new.self) 4 c.ready.result c.ready.ensures) c.args.core.now.books
+    (ready-keeps (g.D.Disk.state c.args.core.now.disk)
+    (g.D.Disk.state c.ready.new.self) 4 c.ready.result c.ready.ensures) c.args.core.now.books
     (step.Link c.args.directory c.args.generation c.args.name.now c.args.inode c.args.of) no_claims c.requires)

@@ -10,36 +10,47 @@ use Rattle.nofs_names.proofs.OnLinks.Rows.{link-bad, link-unopened, link-stands,
 use Rattle.nofs_names.proofs.links.steps.link_with_room.Goals as goal
 
 pub returns-then-core : goal.returns-then-core
-returns-then-core g c = link-refused _ (g.D.Disk.state c.args.core.now.disk) c.args.core.now.books c.args.new c.refused.result _ c.refused.ensures
+returns-then-core g c = link-refused _
+    (g.D.Disk.state c.args.core.now.disk) c.args.core.now.books c.args.new c.refused.result _ c.refused.ensures
     (goes-stopped (g.D.Disk.state c.args.core.now.disk) (g.D.Disk.state c.args.core.now.disk) c.args.core.now.books
-    (step.Link c.args.new.at.directory c.args.new.at.generation c.args.new.at.name.now c.args.new.inode c.args.new.of) (g.met.D.Disk.is_disk
+    (step.Link c.args.new.at.directory c.args.new.at.generation c.args.new.at.name.now c.args.new.inode c.args.new.of)
+    (g.met.D.Disk.is_disk
     c.args.core.now.disk) c.requires.safe
     (StaysButFaults-refl (g.D.Disk.state c.args.core.now.disk)) c.if-core.true)
 
 pub returns-then-not-name_ok : goal.returns-then-not-name_ok
-returns-then-not-name_ok g c = link-refused _ (g.D.Disk.state c.args.core.now.disk) c.args.core.now.books c.args.new c.refused-then-not-name_ok.result _
+returns-then-not-name_ok g c = link-refused _
+    (g.D.Disk.state c.args.core.now.disk) c.args.core.now.books c.args.new c.refused-then-not-name_ok.result _
     c.refused-then-not-name_ok.ensures
-    (link-bad (g.D.Disk.state c.args.core.now.disk) c.args.core.now.books c.args.new.at.directory c.args.new.at.generation c.args.new.at.name.now
+    (link-bad (g.D.Disk.state c.args.core.now.disk) c.args.core.now.books c.args.new.at.directory
+    c.args.new.at.generation c.args.new.at.name.now
     c.args.new.inode c.args.new.of
     (g.met.D.Disk.is_disk c.args.core.now.disk) c.requires.safe c.if-core.false (sym c.if-not-name_ok.ensures.value))
 
 pub returns-in-Err : goal.returns-in-Err
-returns-in-Err g c = link-refused _ (g.D.Disk.state c.open_both.new.disk) c.args.core.now.books c.args.new c.refused-in-Err.result _ c.refused-in-Err.ensures
-    (link-unopened (g.D.Disk.state c.args.core.now.disk) c.args.core.now.books c.args.new.at.directory c.args.new.at.generation c.args.new.at.name.now
+returns-in-Err g c = link-refused _ (g.D.Disk.state c.open_both.new.disk) c.args.core.now.books c.args.new
+    c.refused-in-Err.result _ c.refused-in-Err.ensures
+    (link-unopened (g.D.Disk.state c.args.core.now.disk) c.args.core.now.books c.args.new.at.directory
+    c.args.new.at.generation c.args.new.at.name.now
     c.args.new.inode c.args.new.of
-    (g.met.D.Disk.is_disk c.args.core.now.disk) c.requires.safe c.if-core.false (sym c.if-not-name_ok.ensures.value) (g.D.Disk.state c.open_both.new.disk)
+    (g.met.D.Disk.is_disk c.args.core.now.disk) c.requires.safe c.if-core.false (sym c.if-not-name_ok.ensures.value)
+    (g.D.Disk.state c.open_both.new.disk)
     c.open_both.result c.in-Err.why c.open_both.ensures c.in-Err.is)
 
 pub link_opened-requires-clause-stands : goal.link_opened-requires-clause-stands
-link_opened-requires-clause-stands g c = link-stands (g.D.Disk.state c.args.core.now.disk) c.args.core.now.books c.args.new.at.directory
+link_opened-requires-clause-stands g c =
+    link-stands (g.D.Disk.state c.args.core.now.disk) c.args.core.now.books c.args.new.at.directory
     c.args.new.at.generation
-    c.args.new.at.name.now c.args.new.inode c.args.new.of (g.met.D.Disk.is_disk c.args.core.now.disk) c.requires.safe c.if-core.false (sym
+    c.args.new.at.name.now c.args.new.inode c.args.new.of
+    (g.met.D.Disk.is_disk c.args.core.now.disk) c.requires.safe c.if-core.false (sym
     c.if-not-name_ok.ensures.value)
     (g.D.Disk.state c.open_both.new.disk) c.in-Ok.both c.in-Ok.ensures
 
 pub link_opened-requires-clause-lead : goal.link_opened-requires-clause-lead
-link_opened-requires-clause-lead g c = link-leads (g.D.Disk.state c.args.core.now.disk) c.args.core.now.books c.args.new.at.directory c.args.new.at.generation
-    c.args.new.at.name.now c.args.new.inode c.args.new.of (g.met.D.Disk.is_disk c.args.core.now.disk) c.requires.safe c.if-core.false (sym
+link_opened-requires-clause-lead g c = link-leads (g.D.Disk.state c.args.core.now.disk) c.args.core.now.books
+    c.args.new.at.directory c.args.new.at.generation
+    c.args.new.at.name.now c.args.new.inode c.args.new.of
+    (g.met.D.Disk.is_disk c.args.core.now.disk) c.requires.safe c.if-core.false (sym
     c.if-not-name_ok.ensures.value)
     (g.D.Disk.state c.open_both.new.disk) c.in-Ok.both c.in-Ok.ensures
 
@@ -47,5 +58,6 @@ pub returns : goal.returns
 returns g c = goes-after (g.D.Disk.state c.args.core.now.disk) (g.D.Disk.state c.open_both.new.disk)
     (reads-keep (g.D.Disk.state c.args.core.now.disk) (g.D.Disk.state c.open_both.new.disk) c.open_both.ensures.stays)
     (g.D.Disk.state c.link_opened.new.core.disk) c.args.core.now.books c.link_opened.new.core.books
-    (step.Link c.args.new.at.directory c.args.new.at.generation c.args.new.at.name.now c.args.new.inode c.args.new.of) c.link_opened.result.claims
+    (step.Link c.args.new.at.directory c.args.new.at.generation c.args.new.at.name.now c.args.new.inode c.args.new.of)
+    c.link_opened.result.claims
     (done_answer reply.Linked c.link_opened.result.result) c.link_opened.ensures

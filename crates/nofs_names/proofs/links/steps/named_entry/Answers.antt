@@ -4,8 +4,11 @@ use Rattle.nofs_names.proofs.links.steps.named_entry.Goals as goal
 
 pub returns-clause-spells : goal.returns-clause-spells
 returns-clause-spells c = spelled_entry-spells c.args.inode c.args.generation c.args.name.now c.requires.inode
-    (let h = c.ranges.inode.fits in omega (arith, h)) c.requires.generation (let h = c.ranges.generation.fits in omega (arith, h)) c.requires.name
+    (let h = c.ranges.inode.fits in omega (arith, h)) c.requires.generation
+    (let h = c.ranges.generation.fits in omega (arith, h)) c.requires.name
 
 pub returns-in_err-from_slice-clause-spells : goal.returns-in_err-from_slice-clause-spells
-returns-in_err-from_slice-clause-spells c = spelled_entry-spells c.args.inode c.args.generation c.args.name.now c.requires.inode
-    (let h = c.ranges.inode.fits in omega (arith, h)) c.requires.generation (let h = c.ranges.generation.fits in omega (arith, h)) c.requires.name
+returns-in_err-from_slice-clause-spells c =
+    spelled_entry-spells c.args.inode c.args.generation c.args.name.now c.requires.inode
+    (let h = c.ranges.inode.fits in omega (arith, h)) c.requires.generation
+    (let h = c.ranges.generation.fits in omega (arith, h)) c.requires.name

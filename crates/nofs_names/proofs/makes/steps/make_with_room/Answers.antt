@@ -17,66 +17,88 @@ returns-in-Err g c =
     let old = g.D.Disk.state c.args.core.now.disk in
     let new = g.D.Disk.state c.open_named.new.disk in
     let k = c.args.core.now.books in
-    refused-goes old new k c.args.at.directory c.args.at.generation c.args.at.name.now c.args.kind c.refused.result c.in-Err.why c.refused.ensures
-    (unopened-goes old new k c.args.at c.in-Err.why (step.Make c.args.at.directory c.args.at.generation c.args.at.name.now c.args.kind)
+    refused-goes old new k c.args.at.directory c.args.at.generation c.args.at.name.now c.args.kind c.refused.result
+    c.in-Err.why c.refused.ensures
+    (unopened-goes old new k c.args.at c.in-Err.why
+    (step.Make c.args.at.directory c.args.at.generation c.args.at.name.now c.args.kind)
     (g.met.D.Disk.is_disk c.args.core.now.disk) c.requires.safe c.open_named.ensures.stays
     (λ safe going bad. make-bad new k c.args.at.directory c.args.at.generation c.args.at.name.now c.args.kind
     (g.met.D.Disk.is_disk c.open_named.new.disk) safe going bad)
-    (λ going good last opens. make-unopened old k c.args.at.directory c.args.at.generation c.args.at.name.now c.args.kind
-    (g.met.D.Disk.is_disk c.args.core.now.disk) c.requires.safe going good new last (Err c.in-Err.why) c.in-Err.why opens refl) c.in-Err.ensures.refused)
+    (λ going good last opens.
+    make-unopened old k c.args.at.directory c.args.at.generation c.args.at.name.now c.args.kind
+    (g.met.D.Disk.is_disk c.args.core.now.disk) c.requires.safe going good new last
+    (Err c.in-Err.why) c.in-Err.why opens refl) c.in-Err.ensures.refused)
 
 pub returns-in-Err-find_unused : goal.returns-in-Err-find_unused
 returns-in-Err-find_unused g c = refused-goes (g.D.Disk.state c.args.core.now.disk)
-    (g.D.Disk.state c.find_unused.new.disk) c.args.core.now.books c.args.at.directory c.args.at.generation c.args.at.name.now c.args.kind
+    (g.D.Disk.state c.find_unused.new.disk) c.args.core.now.books c.args.at.directory c.args.at.generation
+    c.args.at.name.now c.args.kind
     c.refused-in-Err-find_unused.result c.in-Err-find_unused.why c.refused-in-Err-find_unused.ensures
-    (make-exists (g.D.Disk.state c.args.core.now.disk) c.args.core.now.books c.args.at.directory c.args.at.generation c.args.at.name.now c.args.kind
+    (make-exists (g.D.Disk.state c.args.core.now.disk) c.args.core.now.books c.args.at.directory c.args.at.generation
+    c.args.at.name.now c.args.kind
     (g.met.D.Disk.is_disk c.args.core.now.disk) c.requires.safe c.in-Ok.ensures.going c.in-Ok.ensures.name_is
     (g.D.Disk.state c.open_named.new.disk) c.open_named.new.last c.in-Ok.it c.in-Ok.ensures.opened
-    (g.D.Disk.state c.find_unused.new.disk) c.find_unused.new.names c.find_unused.new.records c.find_unused.result c.in-Err-find_unused.why
+    (g.D.Disk.state c.find_unused.new.disk) c.find_unused.new.names c.find_unused.new.records c.find_unused.result
+    c.in-Err-find_unused.why
     c.find_unused.ensures c.in-Err-find_unused.is)
 
 pub returns-in-Err-entry_place : goal.returns-in-Err-entry_place
 returns-in-Err-entry_place g c = refused-goes (g.D.Disk.state c.args.core.now.disk)
-    (g.D.Disk.state c.find_unused.new.disk) c.args.core.now.books c.args.at.directory c.args.at.generation c.args.at.name.now c.args.kind
+    (g.D.Disk.state c.find_unused.new.disk) c.args.core.now.books c.args.at.directory c.args.at.generation
+    c.args.at.name.now c.args.kind
     c.refused-in-Err-entry_place.result c.in-Err-entry_place.why c.refused-in-Err-entry_place.ensures
-    (make-no-place (g.D.Disk.state c.args.core.now.disk) c.args.core.now.books c.args.at.directory c.args.at.generation c.args.at.name.now c.args.kind
+    (make-no-place (g.D.Disk.state c.args.core.now.disk) c.args.core.now.books c.args.at.directory c.args.at.generation
+    c.args.at.name.now c.args.kind
     (g.met.D.Disk.is_disk c.args.core.now.disk) c.requires.safe c.in-Ok.ensures.going c.in-Ok.ensures.name_is
     (g.D.Disk.state c.open_named.new.disk) c.open_named.new.last c.in-Ok.it c.in-Ok.ensures.opened
-    (g.D.Disk.state c.find_unused.new.disk) c.find_unused.new.names c.find_unused.new.records c.in-Ok-find_unused.seen c.in-Ok-find_unused.ensures
-    c.entry_place.result c.in-Err-entry_place.why c.entry_place.ensures.place c.in-Err-entry_place.is c.in-Err-entry_place.ensures.refused)
+    (g.D.Disk.state c.find_unused.new.disk) c.find_unused.new.names c.find_unused.new.records c.in-Ok-find_unused.seen
+    c.in-Ok-find_unused.ensures
+    c.entry_place.result c.in-Err-entry_place.why c.entry_place.ensures.place c.in-Err-entry_place.is
+    c.in-Err-entry_place.ensures.refused)
 
 pub make_entry-requires-clause-goes_in : goal.make_entry-requires-clause-goes_in
 make_entry-requires-clause-goes_in g c = record {
-  directory = directory-on (g.D.Disk.state c.open_named.new.disk) (g.D.Disk.state c.find_unused.new.disk) c.find_unused.ensures.stays
+  directory = directory-on (g.D.Disk.state c.open_named.new.disk)
+      (g.D.Disk.state c.find_unused.new.disk) c.find_unused.ensures.stays
       c.args.core.now.books.at c.args.at.directory c.in-Ok.it.generation c.in-Ok.it c.in-Ok.ensures.opened.directory;
   generation = c.in-Ok.ensures.opened.generation;
   there = there-on (g.D.Disk.state c.open_named.new.disk)
       (g.D.Disk.state c.find_unused.new.disk) c.find_unused.ensures.stays c.args.core.now.books c.args.at.directory
-      (there-on (g.D.Disk.state c.args.core.now.disk) (g.D.Disk.state c.open_named.new.disk) c.open_named.ensures.stays c.args.core.now.books
+      (there-on (g.D.Disk.state c.args.core.now.disk)
+      (g.D.Disk.state c.open_named.new.disk) c.open_named.ensures.stays c.args.core.now.books
       c.args.at.directory c.in-Ok.ensures.opened.there);
   good = subst NameOk (sym c.requires.owned) c.in-Ok.ensures.good;
   entry = c.in-Ok-entry_place.ensures.range;
-  place = subst (λ (n : List ℕ). PlaceIs (g.D.Disk.state c.find_unused.new.disk) c.args.core.now.books c.args.at.directory n
+  place =
+      subst (λ (n : List ℕ). PlaceIs (g.D.Disk.state c.find_unused.new.disk) c.args.core.now.books c.args.at.directory n
       c.in-Ok-entry_place.entry) (sym c.requires.owned)
-      (make-place (g.D.Disk.state c.args.core.now.disk) c.args.core.now.books c.args.at.directory c.args.at.generation c.args.at.name.now c.args.kind
+      (make-place (g.D.Disk.state c.args.core.now.disk) c.args.core.now.books c.args.at.directory c.args.at.generation
+      c.args.at.name.now c.args.kind
       (g.met.D.Disk.is_disk c.args.core.now.disk) c.requires.safe c.in-Ok.ensures.going c.in-Ok.ensures.name_is
       (g.D.Disk.state c.open_named.new.disk) c.open_named.new.last c.in-Ok.it c.in-Ok.ensures.opened
-      (g.D.Disk.state c.find_unused.new.disk) c.find_unused.new.names c.find_unused.new.records c.in-Ok-find_unused.seen c.in-Ok-find_unused.ensures
+      (g.D.Disk.state c.find_unused.new.disk) c.find_unused.new.names c.find_unused.new.records c.in-Ok-find_unused.seen
+      c.in-Ok-find_unused.ensures
       c.entry_place.result c.in-Ok-entry_place.entry c.entry_place.ensures.place c.in-Ok-entry_place.is);
 }
 
 pub make_entry-requires-clause-rows : goal.make_entry-requires-clause-rows
-make_entry-requires-clause-rows g c = subst (λ (n : List ℕ). RowsLeft (g.D.Disk.state c.find_unused.new.disk) c.args.core.now.books c.args.at.directory
+make_entry-requires-clause-rows g c =
+    subst (λ (n : List ℕ). RowsLeft (g.D.Disk.state c.find_unused.new.disk) c.args.core.now.books c.args.at.directory
     c.args.at.generation n c.args.kind) (sym c.requires.owned)
-    (make-room (g.D.Disk.state c.args.core.now.disk) c.args.core.now.books c.args.at.directory c.args.at.generation c.args.at.name.now c.args.kind
+    (make-room (g.D.Disk.state c.args.core.now.disk) c.args.core.now.books c.args.at.directory c.args.at.generation
+    c.args.at.name.now c.args.kind
     (g.met.D.Disk.is_disk c.args.core.now.disk) c.requires.safe c.in-Ok.ensures.going c.in-Ok.ensures.name_is
     (g.D.Disk.state c.open_named.new.disk) c.open_named.new.last c.in-Ok.it c.in-Ok.ensures.opened
-    (g.D.Disk.state c.find_unused.new.disk) c.find_unused.new.names c.find_unused.new.records c.in-Ok-find_unused.seen c.in-Ok-find_unused.ensures
-    c.in-Ok-entry_place.entry (make-place (g.D.Disk.state c.args.core.now.disk) c.args.core.now.books c.args.at.directory c.args.at.generation
+    (g.D.Disk.state c.find_unused.new.disk) c.find_unused.new.names c.find_unused.new.records c.in-Ok-find_unused.seen
+    c.in-Ok-find_unused.ensures
+    c.in-Ok-entry_place.entry
+    (make-place (g.D.Disk.state c.args.core.now.disk) c.args.core.now.books c.args.at.directory c.args.at.generation
     c.args.at.name.now
-    c.args.kind (g.met.D.Disk.is_disk c.args.core.now.disk) c.requires.safe c.in-Ok.ensures.going c.in-Ok.ensures.name_is
+    c.args.kind (g.met.D.Disk.is_disk c.args.core.now.disk) c.requires.safe c.in-Ok.ensures.going
+    c.in-Ok.ensures.name_is
     (g.D.Disk.state c.open_named.new.disk) c.open_named.new.last c.in-Ok.it c.in-Ok.ensures.opened
-    (g.D.Disk.state c.find_unused.new.disk) c.find_unused.new.names c.find_unused.new.records c.in-Ok-find_unused.seen c.in-Ok-find_unused.ensures
+    (g.D.Disk.state c.find_unused.new.disk) c.find_unused.new.names c.find_unused.new.records c.in-Ok-find_unused.seen
+    c.in-Ok-find_unused.ensures
     c.entry_place.result c.in-Ok-entry_place.entry c.entry_place.ensures.place c.in-Ok-entry_place.is))
 
 pub returns-in-Ok-entry_place : goal.returns-in-Ok-entry_place

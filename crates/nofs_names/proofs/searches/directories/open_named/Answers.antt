@@ -25,5 +25,7 @@ returns-then-not-name_ok g c = record {
 }
 
 pub returns : goal.returns
-returns g c = named-open (g.D.Disk.state c.args.disk.now) (g.D.Disk.state c.open_directory.new.disk) c.args.books.now c.args.at c.open_directory.new.last
-    c.if-books.false (sym c.if-not-name_ok.ensures.value) (c.if-not-name_ok.ensures.fact.0 refl) c.open_directory.result c.open_directory.ensures
+returns g c = named-open (g.D.Disk.state c.args.disk.now)
+    (g.D.Disk.state c.open_directory.new.disk) c.args.books.now c.args.at c.open_directory.new.last
+    c.if-books.false (sym c.if-not-name_ok.ensures.value)
+    (c.if-not-name_ok.ensures.fact.0 refl) c.open_directory.result c.open_directory.ensures

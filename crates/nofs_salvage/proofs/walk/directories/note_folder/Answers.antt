@@ -10,7 +10,8 @@ loop-slot-init g c = record {
   reads = reads-none _;
   goes = g.met.S.Steps.goes_none _;
   below = omega arith;
-  walked = λ W a. walked-none W (g.R.NameRule.picks c.args.filter.now.rule) c.args.at.inode c.args.findings.now c.new-seen.result c.new-seen.ensures;
+  walked = λ W a. walked-none W (g.R.NameRule.picks c.args.filter.now.rule) c.args.at.inode c.args.findings.now
+      c.new-seen.result c.new-seen.ensures;
   there = λ W a low. absurd (omega arith);
   right = λ W a ask. right-none W.files _;
   folders = λ W a f. f;
@@ -36,9 +37,12 @@ loop-slot-preserved g c =
           (λ b. c.in_ok-slot.ensures.right W c.args.findings.now (inv.walked W both.0) b ask);
       folders = λ W a f.
           let both = answered-both W _ _ _ _ _ inv.reads c.in_ok-slot.ensures.reads a in
-          c.in_ok-slot.ensures.slots.folders W c.args.findings.now (inv.walked W both.0) both.1 (inv.folders W both.0 f);
-      asks = λ first asks at. c.in_ok-slot.ensures.asks first (inv.asks first asks at) (met-on first _ _ _ c.args.at inv.reads at);
-      met = λ first asks at met. c.in_ok-slot.ensures.slots.met first (inv.asks first asks at) (met-on first _ _ _ c.args.at inv.reads at)
+          c.in_ok-slot.ensures.slots.folders W c.args.findings.now (inv.walked W both.0) both.1
+          (inv.folders W both.0 f);
+      asks = λ first asks at. c.in_ok-slot.ensures.asks first (inv.asks first asks at)
+          (met-on first _ _ _ c.args.at inv.reads at);
+      met = λ first asks at met. c.in_ok-slot.ensures.slots.met first (inv.asks first asks at)
+          (met-on first _ _ _ c.args.at inv.reads at)
           (inv.met first asks at met);
     }
 

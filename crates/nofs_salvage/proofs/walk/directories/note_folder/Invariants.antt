@@ -18,14 +18,18 @@ invariant-loop-slot g l = record {
       → IsWalked W (g.R.NameRule.picks l.filter.rule) l.at.inode l.slot l.initial.findings l.findings l.seen;
   there : (W : World) → AreAnswered W (g.S.Steps.made l.initial.steps) (g.S.Steps.made l.steps) → 0 < l.slot
       → is_there W.files l.at.inode l.at.generation ≡ true;
-  right : (W : World) → AreAnswered W (g.S.Steps.made l.initial.steps) (g.S.Steps.made l.steps) → MayAsk W.files true l.at
+  right : (W : World) → AreAnswered W (g.S.Steps.made l.initial.steps) (g.S.Steps.made l.steps)
+      → MayAsk W.files true l.at
       → AreFair W.files (g.S.Steps.made l.initial.steps) (g.S.Steps.made l.steps);
   folders : (W : World) → AreAnswered W (g.S.Steps.made l.initial.steps) (g.S.Steps.made l.steps)
       → AreFolders W.files l.initial.findings.tree → AreFolders W.files l.findings.tree;
-  asks : (first : List Made) → Asks first (g.S.Steps.made l.initial.steps) → HasReached first (g.S.Steps.made l.initial.steps) l.at
+  asks : (first : List Made) → Asks first (g.S.Steps.made l.initial.steps)
+      → HasReached first (g.S.Steps.made l.initial.steps) l.at
       → Asks first (g.S.Steps.made l.steps);
-  met : (first : List Made) → Asks first (g.S.Steps.made l.initial.steps) → HasReached first (g.S.Steps.made l.initial.steps) l.at
-      → AreReached first (g.S.Steps.made l.initial.steps) l.initial.findings.tree → AreReached first (g.S.Steps.made l.steps) l.findings.tree;
+  met : (first : List Made) → Asks first (g.S.Steps.made l.initial.steps)
+      → HasReached first (g.S.Steps.made l.initial.steps) l.at
+      → AreReached first (g.S.Steps.made l.initial.steps) l.initial.findings.tree
+      → AreReached first (g.S.Steps.made l.steps) l.findings.tree;
 }
 
 abbrev pub decreases-loop-slot : goal.decreases-loop-slot

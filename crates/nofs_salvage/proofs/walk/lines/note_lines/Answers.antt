@@ -11,7 +11,8 @@ loop-line-init g c = record {
   reads = reads-none _;
   goes = g.met.S.Steps.goes_none _;
   names = λ earlier h. seen-none c.args.seen.now earlier h;
-  noted = λ W earlier h a. lines-none W (g.R.NameRule.picks c.args.filter.now.rule) c.args.at.inode earlier c.args.findings.now;
+  noted = λ W earlier h a. lines-none W
+      (g.R.NameRule.picks c.args.filter.now.rule) c.args.at.inode earlier c.args.findings.now;
   right = λ W earlier h a ask told. right-none W.files _;
   folders = λ W earlier h a told f. f;
   asks = λ first asks given. asks;
@@ -27,7 +28,8 @@ loop-line-preserved g c =
     let i = c.loop-line.line-index in
     let item = c.line-item.result in
     let inv = c.loop-line.invariant in
-    let here = is-at lines i item (rw c.as_slice-line-items.ensures at c.loop-line-test.true) (rw c.as_slice-line-items.ensures at c.line-item.is) in record {
+    let here = is-at lines i item (rw c.as_slice-line-items.ensures at c.loop-line-test.true)
+    (rw c.as_slice-line-items.ensures at c.line-item.is) in record {
       reads = reads-on _ _ _ _ inv.reads c.in_ok-note_line.ensures.reads;
       goes = g.met.S.Steps.goes_on _ _ _ inv.goes c.note_line.ensures.goes;
       names = λ earlier h. seen-on c.note_line.new.seen earlier (take i lines) (take (i + 1) lines) item here.front
@@ -37,17 +39,21 @@ loop-line-preserved g c =
           let picks = g.R.NameRule.picks c.args.filter.now.rule in
           let wanted : c.picks-wanted.result ≡ picks item.name = rw c.as_slice.ensures at c.picks-wanted.ensures in
           lines-on W picks c.args.at.inode earlier (take i lines) (take (i + 1) lines) item _ _ _ here.front
-          (inv.noted W earlier h both.0) (c.in_ok-note_line.ensures.noted W picks (earlier ++ take i lines) wanted (inv.names earlier h) both.1);
-      right = λ W earlier h a ask told. right-on W _ _ _ _ _ inv.reads c.in_ok-note_line.ensures.reads a (λ b. inv.right W earlier h b ask told)
+          (inv.noted W earlier h both.0)
+          (c.in_ok-note_line.ensures.noted W picks (earlier ++ take i lines) wanted (inv.names earlier h) both.1);
+      right = λ W earlier h a ask told. right-on W _ _ _ _ _ inv.reads c.in_ok-note_line.ensures.reads a
+          (λ b. inv.right W earlier h b ask told)
           (λ b. c.in_ok-note_line.ensures.right W (earlier ++ take i lines) (inv.names earlier h) b ask
           (told-at W.files c.args.at.inode i earlier lines item here.front told));
       folders = λ W earlier h a told f.
           let both = answered-both W _ _ _ _ _ inv.reads c.in_ok-note_line.ensures.reads a in
           c.in_ok-note_line.ensures.folders W (earlier ++ take i lines) (inv.names earlier h) both.1
-          (told-at W.files c.args.at.inode i earlier lines item here.front told) (inv.folders W earlier h both.0 told f);
+          (told-at W.files c.args.at.inode i earlier lines item here.front told)
+          (inv.folders W earlier h both.0 told f);
       asks = λ first asks given. c.in_ok-note_line.ensures.asks first (inv.asks first asks given)
           (given-at first _ _ _ c.args.at lines i item here.below here.is inv.reads given);
-      met = λ first asks given met. c.in_ok-note_line.ensures.met first (inv.asks first asks given) (inv.met first asks given met);
+      met = λ first asks given met. c.in_ok-note_line.ensures.met first (inv.asks first asks given)
+          (inv.met first asks given met);
     }
 
 pub returns-in_err-note_line-clause-right : goal.returns-in_err-note_line-clause-right
@@ -66,4 +72,5 @@ returns-in_err-note_line-clause-asks g c = λ first asks given.
     let inv = c.loop-line.invariant in
     c.note_line.ensures.asks first (inv.asks first asks given)
     (given-at first _ _ _ c.args.at c.args.lines.now c.loop-line.line-index c.line-item.result
-    (rw c.as_slice-line-items.ensures at c.loop-line-test.true) (rw c.as_slice-line-items.ensures at c.line-item.is) inv.reads given)
+    (rw c.as_slice-line-items.ensures at c.loop-line-test.true)
+    (rw c.as_slice-line-items.ensures at c.line-item.is) inv.reads given)

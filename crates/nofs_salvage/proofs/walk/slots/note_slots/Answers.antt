@@ -19,7 +19,8 @@ loop-slot-init g c = record {
 
 pub returns-in_err-note_slot-clause-reads : goal.returns-in_err-note_slot-clause-reads
 returns-in_err-note_slot-clause-reads g c =
-    let last : MakesReads (g.S.Steps.made c.loop-slot.steps) (g.S.Steps.made c.note_slot.new.steps) (refusal_by c.from_residual.result) = search rules in
+    let last : MakesReads (g.S.Steps.made c.loop-slot.steps) (g.S.Steps.made c.note_slot.new.steps)
+    (refusal_by c.from_residual.result) = search rules in
     reads-on _ _ _ _ c.loop-slot.invariant.reads last
 
 pub returns-then-not-branch-clause-reads : goal.returns-then-not-branch-clause-reads
@@ -30,7 +31,8 @@ returns-then-not-branch-clause-noted g c = λ W a.
     let both = answered-both W _ _ _ _ _ c.loop-slot.invariant.reads c.in_ok-note_slot.ensures.reads a in
     let end : c.in_ok-note_slot.field-0 ≡ false = grind arith in
     let low : c.loop-slot.slot < slots_in c.args.size = rw c.slots_in-slot-end.ensures at c.loop-slot-test.true in
-    noted-end W c.args.at.inode (slots_in c.args.size) c.loop-slot.slot c.in_ok-note_slot.field-0 _ _ _ end low (c.loop-slot.invariant.noted W both.0)
+    noted-end W c.args.at.inode (slots_in c.args.size) c.loop-slot.slot c.in_ok-note_slot.field-0 _ _ _ end low
+    (c.loop-slot.invariant.noted W both.0)
     (c.in_ok-note_slot.ensures.noted W both.1)
 
 pub loop-slot-preserved : goal.loop-slot-preserved
@@ -40,7 +42,8 @@ loop-slot-preserved g c =
       goes = g.met.S.Steps.goes_on _ _ _ c.loop-slot.invariant.goes c.note_slot.ensures.goes;
       noted = λ W a.
           let both = answered-both W _ _ _ _ _ c.loop-slot.invariant.reads c.in_ok-note_slot.ensures.reads a in
-          noted-on W c.args.at.inode c.loop-slot.slot c.in_ok-note_slot.field-0 _ _ _ more (c.loop-slot.invariant.noted W both.0)
+          noted-on W c.args.at.inode c.loop-slot.slot c.in_ok-note_slot.field-0 _ _ _ more
+          (c.loop-slot.invariant.noted W both.0)
           (c.in_ok-note_slot.ensures.noted W both.1);
       right = λ W a ask. right-on W _ _ _ _ _ c.loop-slot.invariant.reads c.in_ok-note_slot.ensures.reads a
           (λ b. c.loop-slot.invariant.right W b ask) (λ b. c.in_ok-note_slot.ensures.right W b ask);
@@ -48,15 +51,18 @@ loop-slot-preserved g c =
           let low : c.loop-slot.slot < slots_in c.args.size = rw c.slots_in-slot-end.ensures at c.loop-slot-test.true in
           c.in_ok-note_slot.ensures.asks first c.args.size low (c.loop-slot.invariant.asks first asks met told)
           (met-on first _ _ _ c.args.at c.loop-slot.invariant.reads met) (c.loop-slot.invariant.told first told);
-      told = λ first told. c.in_ok-note_slot.ensures.told first c.args.size more (c.loop-slot.invariant.told first told);
+      told = λ first told. c.in_ok-note_slot.ensures.told first c.args.size more
+          (c.loop-slot.invariant.told first told);
     }
 
 pub returns-in_err-note_slot-clause-right : goal.returns-in_err-note_slot-clause-right
-returns-in_err-note_slot-clause-right g c = λ W a ask. right-on W _ _ _ _ _ c.loop-slot.invariant.reads c.note_slot.ensures.reads a
+returns-in_err-note_slot-clause-right g c =
+    λ W a ask. right-on W _ _ _ _ _ c.loop-slot.invariant.reads c.note_slot.ensures.reads a
     (λ b. c.loop-slot.invariant.right W b ask) (λ b. c.note_slot.ensures.right W b ask)
 
 pub returns-then-not-branch-clause-right : goal.returns-then-not-branch-clause-right
-returns-then-not-branch-clause-right g c = λ W a ask. right-on W _ _ _ _ _ c.loop-slot.invariant.reads c.note_slot.ensures.reads a
+returns-then-not-branch-clause-right g c =
+    λ W a ask. right-on W _ _ _ _ _ c.loop-slot.invariant.reads c.note_slot.ensures.reads a
     (λ b. c.loop-slot.invariant.right W b ask) (λ b. c.note_slot.ensures.right W b ask)
 
 pub returns-in_err-note_slot-clause-asks : goal.returns-in_err-note_slot-clause-asks

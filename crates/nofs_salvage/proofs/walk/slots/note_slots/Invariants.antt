@@ -15,9 +15,12 @@ invariant-loop-slot g l = record {
   goes : g.S.Steps.goes l.initial.steps l.steps;
   noted : (W : World) → AreAnswered W (g.S.Steps.made l.initial.steps) (g.S.Steps.made l.steps)
       → (l.slot ≤ slots W) × (l.report ≡ l.initial.report ++ lost_below W.files l.at.inode l.slot);
-  right : (W : World) → AreAnswered W (g.S.Steps.made l.initial.steps) (g.S.Steps.made l.steps) → MayAsk W.files false l.at
+  right : (W : World) → AreAnswered W (g.S.Steps.made l.initial.steps) (g.S.Steps.made l.steps)
+      → MayAsk W.files false l.at
       → AreFair W.files (g.S.Steps.made l.initial.steps) (g.S.Steps.made l.steps);
-  asks : (first : List Made) → Asks first (g.S.Steps.made l.initial.steps) → HasReached first (g.S.Steps.made l.initial.steps) l.at
+  asks : (first : List Made) → Asks first (g.S.Steps.made l.initial.steps)
+      → HasReached first (g.S.Steps.made l.initial.steps) l.at
       → HasTold first (g.S.Steps.made l.initial.steps) l.at l.size → Asks first (g.S.Steps.made l.steps);
-  told : (first : List Made) → HasTold first (g.S.Steps.made l.initial.steps) l.at l.size → HasTold first (g.S.Steps.made l.steps) l.at l.size;
+  told : (first : List Made) → HasTold first (g.S.Steps.made l.initial.steps) l.at l.size
+      → HasTold first (g.S.Steps.made l.steps) l.at l.size;
 }

@@ -22,10 +22,12 @@ pub returns-clause-right : goal.returns-clause-right
 returns-clause-right g c = λ W a ask. list-right W _ _ c.args.at c.args.slot ask c.ask.ensures.one a
 
 pub returns-clause-gives : goal.returns-clause-gives
-returns-clause-gives g c = rw c.listed_in.ensures.is (list-gives _ _ c.args.at c.args.slot c.in_ok-ask.field-0 c.in_ok-ask.ensures.accepted)
+returns-clause-gives g c =
+    rw c.listed_in.ensures.is (list-gives _ _ c.args.at c.args.slot c.in_ok-ask.field-0 c.in_ok-ask.ensures.accepted)
 
 pub returns-in_err-ask-clause-asks : goal.returns-in_err-ask-clause-asks
-returns-in_err-ask-clause-asks g c = λ first asks met. asks-list first _ _ c.args.at asks c.args.slot met c.ask.ensures.one
+returns-in_err-ask-clause-asks g c =
+    λ first asks met. asks-list first _ _ c.args.at asks c.args.slot met c.ask.ensures.one
 
 pub returns-clause-asks : goal.returns-clause-asks
 returns-clause-asks g c = λ first asks met. asks-list first _ _ c.args.at asks c.args.slot met c.ask.ensures.one

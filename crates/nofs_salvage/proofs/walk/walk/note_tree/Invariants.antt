@@ -19,9 +19,11 @@ invariant-loop-directory g l = record {
       → AreFair W.files (g.S.Steps.made l.initial.steps) (g.S.Steps.made l.steps);
   folders : (W : World) → HasRoots W.files → AreAnswered W (g.S.Steps.made l.initial.steps) (g.S.Steps.made l.steps)
       → AreFolders W.files l.findings.tree;
-  rooted : (W : World) → AreAnswered W (g.S.Steps.made l.initial.steps) (g.S.Steps.made l.steps) → IsRooted W.files l.at l.findings.tree;
+  rooted : (W : World) → AreAnswered W (g.S.Steps.made l.initial.steps) (g.S.Steps.made l.steps)
+      → IsRooted W.files l.at l.findings.tree;
   asks : (first : List Made) → Asks first (g.S.Steps.made l.initial.steps) → Asks first (g.S.Steps.made l.steps);
-  met : (first : List Made) → Asks first (g.S.Steps.made l.initial.steps) → AreReached first (g.S.Steps.made l.steps) l.findings.tree;
+  met : (first : List Made) → Asks first (g.S.Steps.made l.initial.steps)
+      → AreReached first (g.S.Steps.made l.steps) l.findings.tree;
 }
 
 abbrev pub decreases-loop-directory : goal.decreases-loop-directory

@@ -7,27 +7,32 @@ use Rattle.nofs_scan.proofs.steps.sees.see_block.Goals as goal
 
 pub returns-then-core : goal.returns-then-core
 returns-then-core g c = record {
-  goes = goes-stopped (g.D.Disk.state c.args.core.now.disk) (g.D.Disk.state c.args.core.now.disk) c.args.core.now.books (step.SeeBlock c.args.block)
-      (g.met.D.Disk.is_disk c.args.core.now.disk) c.requires (StaysButFaults-refl (g.D.Disk.state c.args.core.now.disk)) c.if-core.true;
+  goes = goes-stopped (g.D.Disk.state c.args.core.now.disk) (g.D.Disk.state c.args.core.now.disk) c.args.core.now.books
+      (step.SeeBlock c.args.block)
+      (g.met.D.Disk.is_disk c.args.core.now.disk)
+      c.requires (StaysButFaults-refl (g.D.Disk.state c.args.core.now.disk)) c.if-core.true;
   memory = refl;
 }
 
 pub returns-then-block-core : goal.returns-then-block-core
 returns-then-block-core g c = record {
-  goes = block-beyond (g.D.Disk.state c.args.core.now.disk) c.args.core.now.books (g.met.D.Disk.is_disk c.args.core.now.disk) c.requires c.if-core.false
+  goes = block-beyond (g.D.Disk.state c.args.core.now.disk) c.args.core.now.books
+      (g.met.D.Disk.is_disk c.args.core.now.disk) c.requires c.if-core.false
       c.args.block c.if-block-core.true;
   memory = refl;
 }
 
 pub returns-in-Ok : goal.returns-in-Ok
 returns-in-Ok g c =
-    let seen = block-verified _ c.args.core.now.books (g.met.D.Disk.is_disk c.args.core.now.disk) c.requires c.if-core.false _ _ _ c.args.block
+    let seen = block-verified _ c.args.core.now.books
+    (g.met.D.Disk.is_disk c.args.core.now.disk) c.requires c.if-core.false _ _ _ c.args.block
     c.if-block-core.false c.verify_block.ensures in
     record { goes = seen.read c.in-Ok.used c.in-Ok.is; memory = refl }
 
 pub returns-in-Err : goal.returns-in-Err
 returns-in-Err g c = record {
-  goes = (block-verified _ c.args.core.now.books (g.met.D.Disk.is_disk c.args.core.now.disk) c.requires c.if-core.false _ _ _ c.args.block
+  goes = (block-verified _ c.args.core.now.books
+      (g.met.D.Disk.is_disk c.args.core.now.disk) c.requires c.if-core.false _ _ _ c.args.block
       c.if-block-core.false c.verify_block.ensures).unread c.in-Err.field-0 c.in-Err.is;
   memory = refl;
 }

@@ -24,7 +24,8 @@ invariant-loop-user g l = record {
       (view_of way.pass).mine))
       (1 + length done) rest l.users.items
       × Gathers v (view_of l.whole.pass) (count + length done)
-      × UsersGathered done l.fn.begun.out_of_memory l.whole.out_of_memory l.whole.lines.items (view_of l.fn.begun.pass) (view_of l.whole.pass);
+      × UsersGathered done l.fn.begun.out_of_memory l.whole.out_of_memory l.whole.lines.items (view_of l.fn.begun.pass)
+      (view_of l.whole.pass);
 }
 
 abbrev pub decreases-loop-user : goal.decreases-loop-user

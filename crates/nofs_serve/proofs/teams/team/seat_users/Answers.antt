@@ -1,4 +1,5 @@
-use Rattle.std.proofs.Common.{rules, ◌≡◌, ◌∙◌, ◌+◌, [], ◌∷◌, ◌++◌, All, eqb-true, true, length, map, vec_len, refl, sym, ap, subst, arith}
+use Rattle.std.proofs.Common.{rules, ◌≡◌, ◌∙◌, ◌+◌, [], ◌∷◌, ◌++◌, All, eqb-true, true, length, map, vec_len, refl, sym}
+use Rattle.std.proofs.Common.{ap, subst, arith}
 use Rattle.std.proofs.Common.{append_assoc, append-nil}
 use Rattle.std.proofs.lemmas.List.Elements.{All-push}
 use Rattle.nofs_shared.proofs.OnPasses.Sessions.{nil-of}
@@ -23,7 +24,8 @@ loop-alloc-init g c = record {
 pub new-requires : goal.new-requires
 new-requires g c =
     let is : c.loop-alloc.plans.items ≡ c.pop.new.self.items ++ c.in-Some.plan ∷ [] = search rules in
-    (all-end (λ p. AreWellFormed p.commands) c.loop-alloc.plans.items c.pop.new.self.items c.in-Some.plan is c.loop-alloc.invariant.formed).1
+    (all-end (λ p. AreWellFormed p.commands) c.loop-alloc.plans.items c.pop.new.self.items c.in-Some.plan is
+    c.loop-alloc.invariant.formed).1
 
 pub loop-alloc-preserved : goal.loop-alloc-preserved
 loop-alloc-preserved g c =
@@ -33,7 +35,8 @@ loop-alloc-preserved g c =
     let long : vec_len c.loop-alloc.plans ≡ vec_len c.pop.new.self + 1 = search rules in
     record {
       few = omega (arith, i.few, long);
-      formed = (all-end (λ p. AreWellFormed p.commands) c.loop-alloc.plans.items c.pop.new.self.items c.in-Some.plan is i.formed).0;
+      formed = (all-end (λ p. AreWellFormed p.commands) c.loop-alloc.plans.items c.pop.new.self.items
+          c.in-Some.plan is i.formed).0;
       count = (let n = c.seat-way.ensures.rest.0 in let m = i.count in omega (arith, n, m, long));
       enough = (let n = c.seat-way.ensures.rest.0 in let m = i.enough in omega (arith, n, m, long));
       new = c.seat-way.ensures.rest.1;
@@ -49,7 +52,8 @@ loop-alloc-preserved g c =
         λ v all.
             (let r = i.ready.2 v all in
             let s = c.seat-way.ensures.seen v r.1 in (
-              stand-more (1 + vec_len c.pop.new.self) (1 + vec_len c.loop-alloc.plans) c.in-Some.plan.commands (map (λ p. p.commands) i.ready.0)
+              stand-more (1 + vec_len c.pop.new.self) (1 + vec_len c.loop-alloc.plans) c.in-Some.plan.commands
+                  (map (λ p. p.commands) i.ready.0)
                   _ c.loop-alloc.users.items c.new.result made (omega (arith, long))
                   (record {
                     new = (
@@ -69,13 +73,15 @@ returns-clause-ready g c v all =
     let i = c.loop-alloc.invariant in
     let r = i.ready.2 v all in
     let empty : c.is_empty.result ≡ true = search rules in
-    let none_left : vec_len c.loop-alloc.plans ≡ 0 = eqb-true (vec_len c.loop-alloc.plans) 0 (sym c.is_empty.ensures ∙ empty) in
+    let none_left : vec_len c.loop-alloc.plans ≡ 0 =
+    eqb-true (vec_len c.loop-alloc.plans) 0 (sym c.is_empty.ensures ∙ empty) in
     let long : vec_len c.loop-alloc.plans ≡ length c.loop-alloc.plans.items = search rules in
     let none = nil-of c.loop-alloc.plans.items (sym long ∙ none_left) in
     let whole : c.args.plans.items ≡ i.ready.0 = i.ready.1 ∙ ap (λ l. l ++ i.ready.0) none in
     let first : 1 + vec_len c.loop-alloc.plans ≡ 1 = omega (arith, none_left) in (
       stand-of 1 (map (λ p. p.commands) i.ready.0) (map (λ p. p.commands) c.args.plans.items) c.loop-alloc.users.items
-          (ap (map (λ p. p.commands)) (sym whole)) (stand-at (1 + vec_len c.loop-alloc.plans) 1 (map (λ p. p.commands) i.ready.0)
+          (ap (map (λ p. p.commands)) (sym whole))
+          (stand-at (1 + vec_len c.loop-alloc.plans) 1 (map (λ p. p.commands) i.ready.0)
           c.loop-alloc.users.items first r.0),
       r.1,
     )

@@ -17,28 +17,38 @@ pub returns-clause-keeps : goal.returns-clause-keeps
 returns-clause-keeps g c = λ found first then m.
     subst₂ (λ (d : DiskState) (l : Books). IsMount (g.D.Disk.state found) d first l)
     (ap g.D.Disk.state (sym (c.keep_step.ensures.disk ∙ c.commit-stands.ensures.disk))) (sym c.keep_step.ensures.books)
-    (mount-kept (g.D.Disk.state found) (g.D.Disk.state c.args.evidence.now.core.value.disk) (g.D.Disk.state c.args.core.now.disk)
+    (mount-kept (g.D.Disk.state found) (g.D.Disk.state c.args.evidence.now.core.value.disk)
+    (g.D.Disk.state c.args.core.now.disk)
     first c.args.evidence.now.core.value.books c.args.core.now.books c.commit-stands.new.core.books then m
-    c.requires.earlier.going c.if-core.false c.requires.earlier.begun c.requires.earlier.numbers c.requires.earlier.begins
-    c.args.evidence.now.kind (verdict_at c.args.evidence.now.verdicts c.args.at).item c.args.used c.commit-stands.result c.commit-stands.ensures.commits
+    c.requires.earlier.going c.if-core.false c.requires.earlier.begun c.requires.earlier.numbers
+    c.requires.earlier.begins
+    c.args.evidence.now.kind (verdict_at c.args.evidence.now.verdicts c.args.at).item c.args.used c.commit-stands.result
+    c.commit-stands.ensures.commits
     c.args.caller
-    c.moment-from.result (g.D.Disk.state c.commit-stands.new.core.disk).moment (c.commit-stands.new.core.books.history.spare - 1) c.step_of-step.result
+    c.moment-from.result (g.D.Disk.state c.commit-stands.new.core.disk).moment
+    (c.commit-stands.new.core.books.history.spare - 1) c.step_of-step.result
     (c.step_of-step.ensures ∙ ap (see_step c.args.evidence.now.kind) c.item-item.ensures) c.moment-from.ensures
     (λ j. (g.D.Disk.state (c.commit-stands.ensures.disk j)).moment))
 
 pub returns-clause-commits : goal.returns-clause-commits
 returns-clause-commits g c = λ found first then m.
-    subst (λ (l : Books). IsCommit (g.D.Disk.state found) (g.D.Disk.state c.args.core.now.disk) c.args.core.now.books l c.args.evidence.now.kind
-    (verdict_at c.args.evidence.now.verdicts c.args.at).item c.args.used (reply.Seen c.commit-stands.result)) (sym c.keep_step.ensures.books)
-    (mount-answers (g.D.Disk.state found) (g.D.Disk.state c.args.evidence.now.core.value.disk) (g.D.Disk.state c.args.core.now.disk)
+    subst (λ (l : Books). IsCommit (g.D.Disk.state found)
+    (g.D.Disk.state c.args.core.now.disk) c.args.core.now.books l c.args.evidence.now.kind
+    (verdict_at c.args.evidence.now.verdicts c.args.at).item c.args.used (reply.Seen c.commit-stands.result))
+    (sym c.keep_step.ensures.books)
+    (mount-answers (g.D.Disk.state found) (g.D.Disk.state c.args.evidence.now.core.value.disk)
+    (g.D.Disk.state c.args.core.now.disk)
     first c.args.evidence.now.core.value.books c.args.core.now.books c.commit-stands.new.core.books then m
-    c.requires.earlier.going c.if-core.false c.requires.earlier.begun c.requires.earlier.numbers c.requires.earlier.begins
-    c.args.evidence.now.kind (verdict_at c.args.evidence.now.verdicts c.args.at).item c.args.used c.commit-stands.result c.commit-stands.ensures.commits
+    c.requires.earlier.going c.if-core.false c.requires.earlier.begun c.requires.earlier.numbers
+    c.requires.earlier.begins
+    c.args.evidence.now.kind (verdict_at c.args.evidence.now.verdicts c.args.at).item c.args.used c.commit-stands.result
+    c.commit-stands.ensures.commits
     c.args.caller _)
 
 pub returns-then-core-clause-commits : goal.returns-then-core-clause-commits
 returns-then-core-clause-commits g c = λ found first then m.
-    commit-stopped (g.D.Disk.state found) (g.D.Disk.state c.args.core.now.disk) c.args.core.now.books c.step_in.new.core.books c.args.evidence.now.kind
+    commit-stopped (g.D.Disk.state found)
+    (g.D.Disk.state c.args.core.now.disk) c.args.core.now.books c.step_in.new.core.books c.args.evidence.now.kind
     (verdict_at c.args.evidence.now.verdicts c.args.at).item c.args.used c.step_in.result c.if-core.true
     (c.step_in.ensures.causes.stopped c.if-core.true (c.step_in.ensures.sees
     (ap is_see (c.step_of-step.ensures ∙ ap (see_step c.args.evidence.now.kind) c.item-item.ensures)
@@ -46,9 +56,11 @@ returns-then-core-clause-commits g c = λ found first then m.
 
 pub returns-clause-goes_on : goal.returns-clause-goes_on
 returns-clause-goes_on g c = record {
-  safe = subst₂ (λ (d : DiskState) (l : Books). IsSafe d l) (ap g.D.Disk.state (sym (c.keep_step.ensures.disk ∙ c.commit-stands.ensures.disk)))
+  safe = subst₂ (λ (d : DiskState) (l : Books). IsSafe d l)
+      (ap g.D.Disk.state (sym (c.keep_step.ensures.disk ∙ c.commit-stands.ensures.disk)))
       (sym c.keep_step.ensures.books)
-      (safe-history c.commit-stands.new.core.books _ (g.D.Disk.state c.args.core.now.disk) c.commit-stands.ensures.commits.safe);
+      (safe-history c.commit-stands.new.core.books _
+      (g.D.Disk.state c.args.core.now.disk) c.commit-stands.ensures.commits.safe);
   same = search rules;
   room = search rules;
 }
@@ -56,15 +68,18 @@ returns-clause-goes_on g c = record {
 pub returns-clause-tells : goal.returns-clause-tells
 returns-clause-tells g c = record {
   adds = search rules;
-  fits = fits-seen c.args.evidence.now.kind (verdict_at c.args.evidence.now.verdicts c.args.at).item c.commit-stands.result;
+  fits = fits-seen c.args.evidence.now.kind
+      (verdict_at c.args.evidence.now.verdicts c.args.at).item c.commit-stands.result;
 }
 
 pub returns-clause-leaves : goal.returns-clause-leaves
 returns-clause-leaves g c = subst (λ (d : DiskState). KeepsCells (g.D.Disk.state c.args.core.now.disk) d)
-    (ap g.D.Disk.state (sym (c.keep_step.ensures.disk ∙ c.commit-stands.ensures.disk))) (KeepsCells-refl (g.D.Disk.state c.args.core.now.disk))
+    (ap g.D.Disk.state (sym (c.keep_step.ensures.disk ∙ c.commit-stands.ensures.disk)))
+    (KeepsCells-refl (g.D.Disk.state c.args.core.now.disk))
 
 pub returns-then-core-clause-leaves : goal.returns-then-core-clause-leaves
-returns-then-core-clause-leaves g c = see-leaves (g.D.Disk.state c.args.core.now.disk) (g.D.Disk.state c.step_in.new.core.disk) _
+returns-then-core-clause-leaves g c =
+    see-leaves (g.D.Disk.state c.args.core.now.disk) (g.D.Disk.state c.step_in.new.core.disk) _
     c.step_of-step.result c.step_in.result
     (ap is_see (c.step_of-step.ensures ∙ ap (see_step c.args.evidence.now.kind) c.item-item.ensures)
     ∙ see-is c.args.evidence.now.kind (verdict_at c.args.evidence.now.verdicts c.args.at).item)

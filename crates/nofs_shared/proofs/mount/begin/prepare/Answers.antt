@@ -15,6 +15,7 @@ returns-in-Err g c =
         no_write = read_no_write _ c.read_super.result c.in-Err.why r.empty r.some c.in-Err.is;
         read = λ e. r.cause (c.in-Err.is ∙ ap Err e);
         table = λ not_read not_memory some tells. sym c.in-Err.is
-            ∙ r.told (λ h. not_read (let q : Err c.in-Err.why ≡ Err fault.ReadFault = sym c.in-Err.is ∙ h in cc q)) some tells;
+            ∙ r.told (λ h. not_read (let q : Err c.in-Err.why ≡ Err fault.ReadFault = sym c.in-Err.is ∙ h in cc q)) some
+            tells;
       };
     }

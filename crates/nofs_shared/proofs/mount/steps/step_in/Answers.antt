@@ -25,20 +25,24 @@ pub returns-then-wants_memory-clause-keeps : goal.returns-then-wants_memory-clau
 returns-then-wants_memory-clause-keeps g c = λ found first m.
     mount-none (g.D.Disk.state found) (g.D.Disk.state c.args.core.now.disk) (g.D.Disk.state c.act-reply.new.core.disk)
     first c.args.core.now.books c.act-reply.new.core.books m
-    c.act-reply.result.reply (goes-safely c.act-reply.ensures.goes) (sym c.wants_memory.ensures ∙ c.if-wants_memory.true)
+    c.act-reply.result.reply (goes-safely c.act-reply.ensures.goes)
+    (sym c.wants_memory.ensures ∙ c.if-wants_memory.true)
 
 pub returns-then-wants_memory-clause-claims : goal.returns-then-wants_memory-clause-claims
 returns-then-wants_memory-clause-claims g c = λ found first m q.
-    unowned-none (g.D.Disk.state c.args.core.now.disk).now c.args.core.now.books.history.entries c.act-reply.new.core.books.history.entries
+    unowned-none (g.D.Disk.state c.args.core.now.disk).now c.args.core.now.books.history.entries
+    c.act-reply.new.core.books.history.entries
     (ap (λ h. h.entries) c.act-reply.ensures.goes.history)
 
 pub returns-then-wants_memory-clause-causes : goal.returns-then-wants_memory-clause-causes
-returns-then-wants_memory-clause-causes g c = causes-none (g.D.Disk.state c.args.core.now.disk) (g.D.Disk.state c.act-reply.new.core.disk)
+returns-then-wants_memory-clause-causes g c =
+    causes-none (g.D.Disk.state c.args.core.now.disk) (g.D.Disk.state c.act-reply.new.core.disk)
     c.args.core.now.books c.act-reply.new.core.books
     c.act-reply.result.reply (goes-safely c.act-reply.ensures.goes)
 
 pub returns-then-wants_memory-clause-order : goal.returns-then-wants_memory-clause-order
-returns-then-wants_memory-clause-order g c = record { claims = c.act-reply.result.claims; order = c.act-reply.ensures.goes.order }
+returns-then-wants_memory-clause-order g c =
+    record { claims = c.act-reply.result.claims; order = c.act-reply.ensures.goes.order }
 
 -- no memory for a second reply
 

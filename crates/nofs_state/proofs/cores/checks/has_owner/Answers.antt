@@ -3,7 +3,8 @@ use Rattle.nofs_state.proofs.cores.checks.has_owner.Goals as goal
 
 pub returns-in-None : goal.returns-in-None
 returns-in-None g c = owner-untagged (g.D.Disk.state c.args.disk.now) (g.D.Disk.state c.read_block.new.disk)
-    c.args.books.now.agreement c.args.block c.read_block.new.last c.in-Ok.ensures c.read_tag.result c.read_tag.ensures.value c.in-None.is
+    c.args.books.now.agreement c.args.block c.read_block.new.last c.in-Ok.ensures c.read_tag.result
+    c.read_tag.ensures.value c.in-None.is
 
 pub returns-in-Some : goal.returns-in-Some
 returns-in-Some g c = owner-tagged (g.D.Disk.state c.args.disk.now) (g.D.Disk.state c.read_block.new.disk)

@@ -2,5 +2,6 @@ use Rattle.nofs_state.proofs.OnWrites.TwoWrites.{one-write}
 use Rattle.nofs_state.proofs.writes.pointers.write_spot.Goals as goal
 
 pub returns : goal.returns
-returns g c = one-write (g.D.Disk.state c.args.disk.now) (g.D.Disk.state c.write.new.self) c.args.block c.args.cell.now c.write.result
+returns g c = one-write (g.D.Disk.state c.args.disk.now)
+    (g.D.Disk.state c.write.new.self) c.args.block c.args.cell.now c.write.result
     (g.met.D.Disk.is_disk c.write.new.self) c.write.ensures

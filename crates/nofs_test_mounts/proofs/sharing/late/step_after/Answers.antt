@@ -12,4 +12,5 @@ returns c =
     c.args.evidence.now.core.value.books n m.core.books.history.start m.core.books.at m.core.books.history.entries)
     (sym same.0) (sym same.1)
     (earlier-on c.requires m.core.books.history.start m.core.books.at m.core.books.history.entries same.2 same.3
-    (adds-prefix _ _ _ c.args.mount.now.core.books.history.entries m.core.books.history.entries c.step.ensures.tells.adds))
+    (adds-prefix _ _ _ c.args.mount.now.core.books.history.entries m.core.books.history.entries
+    c.step.ensures.tells.adds))

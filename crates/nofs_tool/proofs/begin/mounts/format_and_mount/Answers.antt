@@ -10,9 +10,11 @@ pub returns-in-Ok-clause-met : goal.returns-in-Ok-clause-met
 returns-in-Ok-clause-met g c =
     let S = g.D.Disk.state in
     let e = c.in-Ok.ensures in
-    let met : IsTrue (S c.args.disk).tells → IsMet (S c.format.new.disk) = formatted_met c.args.numbers.blocks c.args.numbers.inodes (S c.args.disk)
+    let met : IsTrue (S c.args.disk).tells → IsMet (S c.format.new.disk) =
+    formatted_met c.args.numbers.blocks c.args.numbers.inodes (S c.args.disk)
     (S c.format.new.disk) e.ends e.adds e.cells in
-    if-ok c.mount.result (λ m. (m.found.value ≡ c.format.new.disk) × (m.first ≡ 0) × (m.core.books.history.entries ≡ []))
+    if-ok c.mount.result
+    (λ m. (m.found.value ≡ c.format.new.disk) × (m.first ≡ 0) × (m.core.books.history.entries ≡ []))
     (λ m. IsTrue (S c.args.disk).tells → IsMet (S m.found.value)) c.mount.ensures.mount
     (λ m p tells. subst (λ (d : g.row.D.Denot). IsMet (S d)) (sym p.0) (met tells))
 
@@ -21,12 +23,16 @@ returns-in-Ok-clause-refused g c =
     let S = g.D.Disk.state in
     let e = c.in-Ok.ensures in
     let n = c.args.numbers in
-    if-err c.mount.result (λ r. IsUnmounted (S c.format.new.disk) (S r.disk) r.cause) (λ r. IsUnformatted (S c.args.disk) (S r.disk) n.blocks n.inodes r.cause)
-    c.mount.ensures.refused (λ r u. refused-later n.blocks n.inodes (S c.args.disk) (S c.format.new.disk) (S r.disk) r.cause e.ends e.adds e.cells u)
+    if-err c.mount.result (λ r. IsUnmounted (S c.format.new.disk) (S r.disk) r.cause)
+    (λ r. IsUnformatted (S c.args.disk) (S r.disk) n.blocks n.inodes r.cause)
+    c.mount.ensures.refused (λ r u. refused-later n.blocks n.inodes (S c.args.disk) (S c.format.new.disk)
+    (S r.disk) r.cause e.ends e.adds e.cells u)
 
 pub returns-in-Err-clause-refused : goal.returns-in-Err-clause-refused
 returns-in-Err-clause-refused g c =
     let S = g.D.Disk.state in
     let n = c.args.numbers in
-    subst (λ (x : Cause). IsUnformatted (S c.args.disk) (S c.format.new.disk) n.blocks n.inodes x) (sym c.format_cause.ensures)
-    (unformatted-by n.blocks n.inodes (S c.args.disk) (S c.format.new.disk) c.format.ensures.adds.disk.faults _ c.in-Err.ensures.ends)
+    subst (λ (x : Cause). IsUnformatted (S c.args.disk) (S c.format.new.disk) n.blocks n.inodes x)
+    (sym c.format_cause.ensures)
+    (unformatted-by n.blocks n.inodes (S c.args.disk)
+    (S c.format.new.disk) c.format.ensures.adds.disk.faults _ c.in-Err.ensures.ends)

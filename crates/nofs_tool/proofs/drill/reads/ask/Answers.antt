@@ -3,7 +3,8 @@ use Rattle.nofs_tool.proofs.OnDrill.Reads.{none-asked, one-asked}
 use Rattle.nofs_tool.proofs.drill.reads.ask.Goals as goal
 
 pub returns-then-is_memory_wanting-clause-reads : goal.returns-then-is_memory_wanting-clause-reads
-returns-then-is_memory_wanting-clause-reads g c = none-asked c.args.asked c.step-reply.result _ _ _ c.step-reply.ensures.tells.adds
+returns-then-is_memory_wanting-clause-reads g c =
+    none-asked c.args.asked c.step-reply.result _ _ _ c.step-reply.ensures.tells.adds
     (sym c.is_memory_wanting.ensures ∙ c.if-is_memory_wanting.true)
 
 pub returns-clause-reads : goal.returns-clause-reads

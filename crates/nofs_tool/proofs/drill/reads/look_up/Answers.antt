@@ -5,8 +5,10 @@ pub returns-in_err-from_slice-clause-reads : goal.returns-in_err-from_slice-clau
 returns-in_err-from_slice-clause-reads g c = only-failed _ _ _ _ _ c.from_residual.ensures.1 (only-none _)
 
 pub returns-in_err-reply-clause-reads : goal.returns-in_err-reply-clause-reads
-returns-in_err-reply-clause-reads g c = only-failed _ _ _ _ _ c.from_residual-in_err-reply.ensures.1 (only _ _ _ _ c.ask.ensures.reads)
+returns-in_err-reply-clause-reads g c =
+    only-failed _ _ _ _ _ c.from_residual-in_err-reply.ensures.1 (only _ _ _ _ c.ask.ensures.reads)
 
 pub returns-clause-reads : goal.returns-clause-reads
-returns-clause-reads g c = reads-as _ _ _ _ _ _ (look-named _ _ _ _ _ _ _ c.in_ok-from_slice.ensures c.in_ok-reply.ensures.reads)
+returns-clause-reads g c =
+    reads-as _ _ _ _ _ _ (look-named _ _ _ _ _ _ _ c.in_ok-from_slice.ensures c.in_ok-reply.ensures.reads)
     (λ made read. (c.in_ok-reply.reply, read, c.found_in.ensures))

@@ -4,10 +4,12 @@ use Rattle.nofs_tool.proofs.OnDrill.Reads.{only, only-failed, reads-end, reads-m
 use Rattle.nofs_tool.proofs.drill.reads.read_found.Goals as goal
 
 pub returns-in_err-reply-clause-reads : goal.returns-in_err-reply-clause-reads
-returns-in_err-reply-clause-reads g c = only-failed _ _ _ _ _ c.from_residual.ensures.1 (only _ _ _ _ c.ask.ensures.reads)
+returns-in_err-reply-clause-reads g c =
+    only-failed _ _ _ _ _ c.from_residual.ensures.1 (only _ _ _ _ c.ask.ensures.reads)
 
 pub returns-in-None-clause-reads : goal.returns-in-None-clause-reads
-returns-in-None-clause-reads g c = reads-end stat_in (IsWholeRead c.args.found) _ _ _ _ c.in_ok-reply.ensures.reads (sym c.stat_in.ensures ∙ c.in-None.is)
+returns-in-None-clause-reads g c = reads-end stat_in (IsWholeRead c.args.found) _ _ _ _ c.in_ok-reply.ensures.reads
+    (sym c.stat_in.ensures ∙ c.in-None.is)
 
 pub returns-clause-reads : goal.returns-clause-reads
 returns-clause-reads g c = reads-more stat_in (IsWholeRead c.args.found) _ _ _ _ _ _ _ c.in_ok-reply.ensures.reads

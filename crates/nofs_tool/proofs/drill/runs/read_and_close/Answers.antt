@@ -12,11 +12,14 @@ returns-clause-out g c =
     let served = c.args.served in
     let done : c.close-closed.result ≡ true = search rules in
     let read = c.in-Ok.ensures.reads in
-    read-out c.args.start c.args.steps (sum_by (count_by is_refused_line) served.lines.items) _ served.mount.core.books.history.entries _ _ _ _ _ _
-    served.out_of_memory c.close-closed.result c.line_of.result _ (ap (λ (h : HistoryState). h.entries) c.ended-2.ensures.history)
+    read-out c.args.start c.args.steps
+    (sum_by (count_by is_refused_line) served.lines.items) _ served.mount.core.books.history.entries _ _ _ _ _ _
+    served.out_of_memory c.close-closed.result c.line_of.result _
+    (ap (λ (h : HistoryState). h.entries) c.ended-2.ensures.history)
     (c.ended-2.ensures.text ∙ c.ok-text.ensures.value) c.if-out_of_memory.false done
     (ap (λ (l : List (List Line)). sum_by (count_by is_refused_line) l) c.deref.ensures.value) c.deref-2.ensures.value
-    (ap (λ (h : HistoryState). h.entries) c.history.ensures) (read.made, read.adds, read.read) c.close-closed.ensures.adds c.line_of.ensures
+    (ap (λ (h : HistoryState). h.entries) c.history.ensures)
+    (read.made, read.adds, read.read) c.close-closed.ensures.adds c.line_of.ensures
 
 pub returns-then-out_of_memory-clause-follows : goal.returns-then-out_of_memory-clause-follows
 returns-then-out_of_memory-clause-follows g c = read-short _ c.read_files-reads.result _ _ _ _ _ _ _
@@ -37,5 +40,6 @@ pub returns-clause-follows : goal.returns-clause-follows
 returns-clause-follows g c =
     let done : c.close-closed.result ≡ true = search rules in
     let read = c.in-Ok.ensures.reads in
-    read-whole read.made _ c.args.served.out_of_memory c.close-closed.result _ _ _ _ _ (ap (λ (h : HistoryState). h.entries) c.ended-2.ensures.history)
+    read-whole read.made _ c.args.served.out_of_memory c.close-closed.result _ _ _ _ _
+    (ap (λ (h : HistoryState). h.entries) c.ended-2.ensures.history)
     c.if-out_of_memory.false done read.adds read.readings read.read c.close-closed.ensures.adds

@@ -9,8 +9,10 @@ use Rattle.nofs_tool.proofs.runs.tasks.drill_outcome.Goals as goal
 pub returns-in-Ok-clause-ends : goal.returns-in-Ok-clause-ends
 returns-in-Ok-clause-ends g c =
     let e = c.written.ensures in
-    mounted-ends (g.D.Disk.state c.args.disk) (g.D.Disk.state c.in-Ok.mount.found.value) _ _ _ c.written.result.status _ c.in-Ok.ensures.mount.2
-    (run-ends g.D.Disk.state c.in-Ok.mount.found.value c.run_drill.result.disk c.written.result.disk _ _ c.in-Ok.mount.first c.written.result.status
+    mounted-ends (g.D.Disk.state c.args.disk)
+    (g.D.Disk.state c.in-Ok.mount.found.value) _ _ _ c.written.result.status _ c.in-Ok.ensures.mount.2
+    (run-ends g.D.Disk.state c.in-Ok.mount.found.value c.run_drill.result.disk c.written.result.disk _ _
+    c.in-Ok.mount.first c.written.result.status
     c.run_drill.result.history _ e.disk.0 e.disk.1 c.run_drill.ensures.ends e.named e.device e.faulty e.sink)
 
 pub returns-in-Ok-clause-headline : goal.returns-in-Ok-clause-headline
@@ -20,14 +22,18 @@ returns-in-Ok-clause-headline g c =
     let w = c.written in
     drill-headline S c.args.start c.args.steps c.args.disk m.found.value (S w.result.disk)
     w.result.status w.result.history c.in-Ok.ensures.formatted c.in-Ok.ensures.met
-    (subst (λ (d : g.row.D.Denot). IfSome w.result.history (λ h. ∥ IsHeadlineOf (FollowsDrill c.args.start c.args.steps) (S m.found.value) (S d)
+    (subst (λ (d : g.row.D.Denot). IfSome w.result.history
+    (λ h. ∥ IsHeadlineOf (FollowsDrill c.args.start c.args.steps) (S m.found.value) (S d)
     w.result.status h ∥₁)) (sym w.ensures.disk.0)
     (drill-of c.args.start c.args.steps (S m.found.value) (S m.core.disk) (S c.run_drill.result.disk)
-    m.first w.result.status m.core.books c.run_drill.result.text c.run_drill.result.history w.result.history c.in-Ok.ensures.mount.0
-    w.ensures.disk.1 m.stands c.run_drill.ensures.ends c.run_drill.ensures.follows c.run_drill.ensures.closed w.ensures.unsaid (λ d. (w.ensures.done d).0)))
+    m.first w.result.status m.core.books c.run_drill.result.text c.run_drill.result.history w.result.history
+    c.in-Ok.ensures.mount.0
+    w.ensures.disk.1 m.stands c.run_drill.ensures.ends c.run_drill.ensures.follows c.run_drill.ensures.closed
+    w.ensures.unsaid (λ d. (w.ensures.done d).0)))
 
 pub returns-in-Ok-clause-done : goal.returns-in-Ok-clause-done
 returns-in-Ok-clause-done g c =
     let e = c.written.ensures in
-    λ fine. drill-taken c.args.start c.args.steps c.run_drill.result.history _ c.run_drill.result.text _ _ e.disk.1 (e.done fine).0 (e.done fine).1
+    λ fine. drill-taken c.args.start c.args.steps c.run_drill.result.history _ c.run_drill.result.text _ _ e.disk.1
+    (e.done fine).0 (e.done fine).1
     (e.done fine).2 c.run_drill.ensures.drilled

@@ -18,8 +18,10 @@ returns-in-Ok-clause-headline g c =
     IfSome w.result.history (λ h. ∥ IsHeadlineOf (FollowsVisit AreReads) (S f) (S d) w.result.status h ∥₁) in
     subst (λ f. Promised f w.result.disk) c.in-Ok.ensures.mount.0
     (subst (λ d. Promised m.found.value d) (sym w.ensures.disk.0)
-    (visit-of AreReads (S m.found.value) (S m.core.disk) (S c.run_salvage.result.disk) m.first w.result.status m.core.books c.run_salvage.result.text
-    c.run_salvage.result.history w.result.history c.in-Ok.ensures.mount.1 w.ensures.disk.1 m.stands c.run_salvage.ensures.ends c.run_salvage.ensures.follows
+    (visit-of AreReads (S m.found.value) (S m.core.disk)
+    (S c.run_salvage.result.disk) m.first w.result.status m.core.books c.run_salvage.result.text
+    c.run_salvage.result.history w.result.history c.in-Ok.ensures.mount.1 w.ensures.disk.1 m.stands
+    c.run_salvage.ensures.ends c.run_salvage.ensures.follows
     c.run_salvage.ensures.closed w.ensures.unsaid (λ d. (w.ensures.done d).0)))
 
 pub returns-in-Ok-clause-done : goal.returns-in-Ok-clause-done
@@ -32,18 +34,23 @@ returns-in-Ok-clause-done g c = λ done.
     let w = c.written in
     let e = w.ensures in
     let d = e.done done in
-    subst (λ (x : g.row.D.Denot). IsSalvaged picks (S x) w.result.history (sink c.args.sink.now) (sink w.new.sink)) c.in-Ok.ensures.mount.0
-    (salvage-done picks (S m.found.value) ran.text ran.history w.result.history (sink c.args.sink.now) (sink w.new.sink) e.disk.1 d.0 d.1 d.2
+    subst (λ (x : g.row.D.Denot). IsSalvaged picks (S x) w.result.history (sink c.args.sink.now) (sink w.new.sink))
+    c.in-Ok.ensures.mount.0
+    (salvage-done picks (S m.found.value) ran.text ran.history w.result.history (sink c.args.sink.now)
+    (sink w.new.sink) e.disk.1 d.0 d.1 d.2
     c.run_salvage.ensures.told)
 
 pub returns-in-Ok-clause-part : goal.returns-in-Ok-clause-part
 returns-in-Ok-clause-part g c = λ ended stood.
     let e = c.written.ensures in
     let ran = c.run_salvage.result in
-    salvage-said (picks_in (map string_bytes c.args.words.now)) _ ran.text ran.history c.written.result.status _ _ e.unsaid e.says
+    salvage-said (picks_in (map string_bytes c.args.words.now)) _ ran.text ran.history c.written.result.status _
+    _ e.unsaid e.says
     c.run_salvage.ensures.told ended
 
 pub returns-in-Ok-clause-ends : goal.returns-in-Ok-clause-ends
 returns-in-Ok-clause-ends g c = let e = c.written.ensures in
-    old-ends g.D.Disk.state c.args.disk c.in-Ok.mount.found.value c.run_salvage.result.disk c.written.result.disk _ _ c.in-Ok.mount.first
-    c.written.result.status c.run_salvage.result.history _ c.in-Ok.ensures.mount.0 e.disk.0 e.disk.1 c.run_salvage.ensures.ends e.named e.device e.faulty e.sink
+    old-ends g.D.Disk.state c.args.disk c.in-Ok.mount.found.value c.run_salvage.result.disk c.written.result.disk _ _
+    c.in-Ok.mount.first
+    c.written.result.status c.run_salvage.result.history _ c.in-Ok.ensures.mount.0 e.disk.0 e.disk.1
+    c.run_salvage.ensures.ends e.named e.device e.faulty e.sink

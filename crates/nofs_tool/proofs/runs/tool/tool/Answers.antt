@@ -14,15 +14,19 @@ use Rattle.nofs_tool.proofs.runs.tool.tool.Goals as goal
 
 pub returns-in-Some-Run-clause-complete : goal.returns-in-Some-Run-clause-complete
 returns-in-Some-Run-clause-complete g c = λ ready none.
-    let task : task_in (map string_bytes c.args.words.now) ≡ Some Run = sym c.task_of.ensures ∙ (c.in-Some-Run.is ∙ ap Some c.in-Some-Run.field-0-is) in
-    let r = subst (λ (t : Option Request). IsReady t (g.S.Source.state c.args.source.now) TEXT_LIMIT (g.D.Disk.state c.args.disk)) task ready in
+    let task : task_in (map string_bytes c.args.words.now) ≡ Some Run =
+    sym c.task_of.ensures ∙ (c.in-Some-Run.is ∙ ap Some c.in-Some-Run.field-0-is) in
+    let r = subst (λ (t : Option Request). IsReady t (g.S.Source.state c.args.source.now) TEXT_LIMIT
+    (g.D.Disk.state c.args.disk)) task ready in
     let e = c.source_outcome-in-Some-Run.ensures in
     session-completes None _ _ _ _ _ _ _ _ _ none r.1 r.0 e.usage e.causes e.kept.refused
 
 pub returns-in-Some-Scan-clause-complete : goal.returns-in-Some-Scan-clause-complete
 returns-in-Some-Scan-clause-complete g c = λ ready none.
-    let task : task_in (map string_bytes c.args.words.now) ≡ Some Scan = sym c.task_of.ensures ∙ (c.in-Some-Scan.is ∙ ap Some c.in-Some-Scan.field-0-is) in
-    let r = subst (λ (t : Option Request). IsReady t (g.S.Source.state c.args.source.now) TEXT_LIMIT (g.D.Disk.state c.args.disk)) task ready in
+    let task : task_in (map string_bytes c.args.words.now) ≡ Some Scan =
+    sym c.task_of.ensures ∙ (c.in-Some-Scan.is ∙ ap Some c.in-Some-Scan.field-0-is) in
+    let r = subst (λ (t : Option Request). IsReady t (g.S.Source.state c.args.source.now) TEXT_LIMIT
+    (g.D.Disk.state c.args.disk)) task ready in
     let e = c.scan_outcome.ensures.ends in
     scan-completes None _ _ TEXT_LIMIT _ _ _ _ _ _ none r e
 
@@ -30,7 +34,8 @@ pub returns-in-Some-Drill-clause-complete : goal.returns-in-Some-Drill-clause-co
 returns-in-Some-Drill-clause-complete g c = λ ready none.
     let task : task_in (map string_bytes c.args.words.now) ≡ Some (Drill c.in-Some-Drill.start c.in-Some-Drill.steps) =
     sym c.task_of.ensures ∙ (c.in-Some-Drill.is ∙ ap Some c.in-Some-Drill.field-0-is) in
-    let r = subst (λ (t : Option Request). IsReady t (g.S.Source.state c.args.source.now) TEXT_LIMIT (g.D.Disk.state c.args.disk)) task ready in
+    let r = subst (λ (t : Option Request). IsReady t (g.S.Source.state c.args.source.now) TEXT_LIMIT
+    (g.D.Disk.state c.args.disk)) task ready in
     let e = c.drill_outcome.ensures.ends in
     scan-completes (Some (record { blocks = 4096; inodes = 256 })) _ _ TEXT_LIMIT _ _ _ _ _ _ none r e
 
@@ -38,16 +43,19 @@ pub returns-in-Some-New-clause-complete : goal.returns-in-Some-New-clause-comple
 returns-in-Some-New-clause-complete g c = λ ready none.
     let task : task_in (map string_bytes c.args.words.now) ≡ Some (New c.in-Some-New.blocks c.in-Some-New.inodes) =
     sym c.task_of.ensures ∙ (c.in-Some-New.is ∙ ap Some c.in-Some-New.field-0-is) in
-    let r = subst (λ (t : Option Request). IsReady t (g.S.Source.state c.args.source.now) TEXT_LIMIT (g.D.Disk.state c.args.disk)) task ready in
+    let r = subst (λ (t : Option Request). IsReady t (g.S.Source.state c.args.source.now) TEXT_LIMIT
+    (g.D.Disk.state c.args.disk)) task ready in
     let e = c.source_outcome.ensures in
-    session-completes (Some (record { blocks = c.in-Some-New.blocks; inodes = c.in-Some-New.inodes })) _ _ _ _ _ _ _ _ _ none r.1 r.0
+    session-completes (Some (record { blocks = c.in-Some-New.blocks; inodes = c.in-Some-New.inodes })) _ _ _ _ _ _ _
+    _ _ none r.1 r.0
     e.usage e.causes e.kept.refused
 
 pub returns-in-Some-Upgrade-clause-complete : goal.returns-in-Some-Upgrade-clause-complete
 returns-in-Some-Upgrade-clause-complete g c = λ ready none.
     let task : task_in (map string_bytes c.args.words.now) ≡ Some Upgrade =
     sym c.task_of.ensures ∙ (c.in-Some-Upgrade.is ∙ ap Some c.in-Some-Upgrade.field-0-is) in
-    let r = subst (λ (t : Option Request). IsReady t (g.S.Source.state c.args.source.now) TEXT_LIMIT (g.D.Disk.state c.args.disk)) task ready in
+    let r = subst (λ (t : Option Request). IsReady t (g.S.Source.state c.args.source.now) TEXT_LIMIT
+    (g.D.Disk.state c.args.disk)) task ready in
     upgrade-completes _ _ _ _ _ _ _ none r c.upgrade_outcome.ensures.ends
 
 pub returns-in-Some-Upgrade-clause-kept : goal.returns-in-Some-Upgrade-clause-kept
@@ -57,30 +65,37 @@ returns-in-Some-Upgrade-clause-kept g c =
     let S = g.D.Disk.state in
     let K = g.K.Sink.state in
     let u = c.upgrade_outcome in
-    subst (λ (t : Option Request). KeepsDevice (IsRefusedTask t (S c.args.disk) (S u.result.disk)) t c.args.disk u.result.disk u.result.status u.result.history)
-    (sym task) (upgrade-keeps S c.args.disk u.result.disk (K c.args.sink.now) (K u.new.sink) u.result.status u.result.history u.ensures.history u.ensures.ends)
+    subst (λ (t : Option Request). KeepsDevice (IsRefusedTask t (S c.args.disk) (S u.result.disk)) t c.args.disk
+    u.result.disk u.result.status u.result.history)
+    (sym task) (upgrade-keeps S c.args.disk u.result.disk (K c.args.sink.now)
+    (K u.new.sink) u.result.status u.result.history u.ensures.history u.ensures.ends)
 
 pub returns-in-Some-Salvage-clause-complete : goal.returns-in-Some-Salvage-clause-complete
 returns-in-Some-Salvage-clause-complete g c = λ ready none.
     let task : task_in (map string_bytes c.args.words.now) ≡ Some Salvage =
     sym c.task_of.ensures ∙ (c.in-Some-Salvage.is ∙ ap Some c.in-Some-Salvage.field-0-is) in
-    let r = subst (λ (t : Option Request). IsReady t (g.S.Source.state c.args.source.now) TEXT_LIMIT (g.D.Disk.state c.args.disk)) task ready in
+    let r = subst (λ (t : Option Request). IsReady t (g.S.Source.state c.args.source.now) TEXT_LIMIT
+    (g.D.Disk.state c.args.disk)) task ready in
     let e = c.salvage_outcome.ensures.ends in
     scan-completes None _ _ TEXT_LIMIT _ _ _ _ _ _ none r e
 
 pub returns-in-Some-Wire-clause-complete : goal.returns-in-Some-Wire-clause-complete
 returns-in-Some-Wire-clause-complete g c = λ ready none.
-    let task : task_in (map string_bytes c.args.words.now) ≡ Some Wire = sym c.task_of.ensures ∙ (c.in-Some-Wire.is ∙ ap Some c.in-Some-Wire.field-0-is) in
-    let r = subst (λ (t : Option Request). IsReady t (g.S.Source.state c.args.source.now) TEXT_LIMIT (g.D.Disk.state c.args.disk)) task ready in
+    let task : task_in (map string_bytes c.args.words.now) ≡ Some Wire =
+    sym c.task_of.ensures ∙ (c.in-Some-Wire.is ∙ ap Some c.in-Some-Wire.field-0-is) in
+    let r = subst (λ (t : Option Request). IsReady t (g.S.Source.state c.args.source.now) TEXT_LIMIT
+    (g.D.Disk.state c.args.disk)) task ready in
     wire-completes _ _ _ _ _ _ _ _ none r.0 r.1 c.wire_outcome.ensures.ends
 
 pub returns-in-Some-Wire-clause-said : goal.returns-in-Some-Wire-clause-said
 returns-in-Some-Wire-clause-said g c =
-    let task : task_in (map string_bytes c.args.words.now) ≡ Some Wire = sym c.task_of.ensures ∙ (c.in-Some-Wire.is ∙ ap Some c.in-Some-Wire.field-0-is) in
+    let task : task_in (map string_bytes c.args.words.now) ≡ Some Wire =
+    sym c.task_of.ensures ∙ (c.in-Some-Wire.is ∙ ap Some c.in-Some-Wire.field-0-is) in
     let S = g.S.Source.state in
     let K = g.K.Sink.state in
     let w = c.wire_outcome in
-    subst (λ (t : Option Request). Said t (S c.args.source.now) (S w.new.source) TEXT_LIMIT (K c.args.sink.now) (K w.new.sink)
+    subst (λ (t : Option Request). Said t (S c.args.source.now) (S w.new.source) TEXT_LIMIT
+    (K c.args.sink.now) (K w.new.sink)
     w.result.status w.result.history) (sym task) (record {
       usage = λ e. absurd (w.ensures.ends.named.1 e);
       source = λ e. tt;

@@ -11,5 +11,6 @@ returns-clause-ends g c =
     let m = c.args.mount in
     let found = S m.found.value in
     let F : g.row.D.Denot → HistoryState → Type 0 = λ d h. ∥ Finished found (S d) m.first h ∥₁ in
-    let made : F m.core.disk m.core.books.history = ∥∥₁_elim m.stands ∥∥₁_prop (λ i. ∣ mount-finishes found (S m.core.disk) m.first m.core.books i ∣₁) in
+    let made : F m.core.disk m.core.books.history =
+    ∥∥₁_elim m.stands ∥∥₁_prop (λ i. ∣ mount-finishes found (S m.core.disk) m.first m.core.books i ∣₁) in
     subst₂ F (sym c.end-disk.ensures.is.0) (sym c.end-disk.ensures.is.1) made

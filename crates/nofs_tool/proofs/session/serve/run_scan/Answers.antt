@@ -18,19 +18,25 @@ returns-clause-counted g c =
     let m = served.mount in
     let H = m.core.books.history.entries in
     let same = c.serve_and_close-mount.ensures.same.0 in
-    let none : IsSessionRun [] at.inodes at.blocks served.out_of_memory served.lines.items H = none-run c.new.result.items (λ p. p.commands) at.inodes at.blocks
+    let none : IsSessionRun [] at.inodes at.blocks served.out_of_memory served.lines.items H =
+    none-run c.new.result.items (λ p. p.commands) at.inodes at.blocks
     served.out_of_memory served.lines.items H c.new.ensures.items c.serve_and_close-mount.ensures.ran in
-    let run : IsSessionRun [] at.inodes at.blocks false served.lines.items H = subst (λ (o : Bool). IsSessionRun [] at.inodes at.blocks o served.lines.items H)
+    let run : IsSessionRun [] at.inodes at.blocks false served.lines.items H =
+    subst (λ (o : Bool). IsSessionRun [] at.inodes at.blocks o served.lines.items H)
     c.if-out_of_memory.false none in
     let T : g.row.D.Denot → g.row.D.Denot → HistoryState → Counts → Type 0 =
     λ f d h x. ∥ (IsMet (S f) → has_fault h.entries ≡ false → CountsDisk (S d).now x) ∥₁ in
     let stands = subst (λ (f : g.row.D.Denot). ∥ IsMount (S f) (S m.core.disk) m.first m.core.books ∥₁) same m.stands in
     let counted : T before.found.value m.core.disk m.core.books.history c.counts.result =
     scan-counted (S before.found.value) (S before.core.disk) (S m.core.disk)
-    m.first before.first before.core.books m.core.books served.lines.items c.counts.result before.stands stands run c.counts.ensures.machine in
+    m.first before.first before.core.books m.core.books served.lines.items c.counts.result before.stands stands run
+    c.counts.ensures.machine in
     let on_disk : T before.found.value c.ended-2.result.disk m.core.books.history c.counts.result = subst
-    (λ (d : g.row.D.Denot). T before.found.value d m.core.books.history c.counts.result) (sym c.ended-2.ensures.disk) counted in
+    (λ (d : g.row.D.Denot). T before.found.value d m.core.books.history c.counts.result)
+    (sym c.ended-2.ensures.disk) counted in
     let known : T before.found.value c.ended-2.result.disk c.ended-2.result.history c.counts.result = subst
-    (λ (h : HistoryState). T before.found.value c.ended-2.result.disk h c.counts.result) (sym c.ended-2.ensures.history) on_disk in
-    counts-told (T before.found.value c.ended-2.result.disk c.ended-2.result.history) c.counts_text.result c.ended-2.result.text c.counts.result
+    (λ (h : HistoryState). T before.found.value c.ended-2.result.disk h c.counts.result)
+    (sym c.ended-2.ensures.history) on_disk in
+    counts-told (T before.found.value c.ended-2.result.disk c.ended-2.result.history) c.counts_text.result
+    c.ended-2.result.text c.counts.result
     (c.ended-2.ensures.text ∙ c.ok-text.ensures.value) c.counts_text.ensures known

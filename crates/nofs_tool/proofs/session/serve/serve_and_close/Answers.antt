@@ -16,8 +16,10 @@ returns-clause-ran g c =
     let closed = c.close-closed.result in
     let adds = c.close-closed.ensures.adds in
     let short : (out || not closed) ≡ c.if-out_of_memory.result = elim c.if-out_of_memory.branch [
-      | then-out_of_memory w ↦ ap (λ b. b || not closed) w.if-out_of_memory.true ∙ (sym w.if-out_of_memory.true ∙ sym w.result-is)
+      | then-out_of_memory w ↦ ap (λ b. b || not closed) w.if-out_of_memory.true
+          ∙ (sym w.if-out_of_memory.true ∙ sym w.result-is)
       | else-out_of_memory w ↦ ap (λ b. b || not closed) w.if-out_of_memory.false ∙ sym w.result-is
     ] in
     subst (λ b. IsSessionRun scripts at.inodes at.blocks b lines all) short
-    (run-closed scripts at.inodes at.blocks out closed lines before served all adds.0 c.requires.new c.serve_users-mount.ensures.served adds.1 adds.2)
+    (run-closed scripts at.inodes at.blocks out closed lines before served all adds.0 c.requires.new
+    c.serve_users-mount.ensures.served adds.1 adds.2)

@@ -15,8 +15,10 @@ serve-requires-send-V g c κs within =
 
 pub returns-clause-served : goal.returns-clause-served
 returns-clause-served g c = subst
-    (λ (s : SuperBlock). TeamServed (map (λ p. p.commands) c.args.plans.items) s.inodes s.blocks c.serve.result.out_of_memory c.serve.result.lines.items
-    c.args.mount.core.books.history.entries c.serve.result.mount.core.books.history.entries) c.numbers-at.ensures.is c.serve.ensures.served
+    (λ (s : SuperBlock). TeamServed (map (λ p. p.commands) c.args.plans.items) s.inodes s.blocks
+    c.serve.result.out_of_memory c.serve.result.lines.items
+    c.args.mount.core.books.history.entries c.serve.result.mount.core.books.history.entries) c.numbers-at.ensures.is
+    c.serve.ensures.served
 
 pub serve-requires-send-V-Evidence : goal.serve-requires-send-V-Evidence
 serve-requires-send-V-Evidence g c κs within =

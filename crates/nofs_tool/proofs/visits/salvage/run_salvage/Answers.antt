@@ -10,7 +10,8 @@ use Rattle.nofs_tool.proofs.visits.salvage.run_salvage.Goals.{in_default-via-the
 use Rattle.nofs_tool.proofs.visits.salvage.run_salvage.Goals.{in_default-via-else-words-lt2+else-words-lt3}
 
 pub returns-in_default-from_slice-clause-follows : goal.returns-in_default-from_slice-clause-follows
-returns-in_default-from_slice-clause-follows g c = none-walked c.args.mount.core.books.at c.ended.result.history.entries c.ended.result.text
+returns-in_default-from_slice-clause-follows g c =
+    none-walked c.args.mount.core.books.at c.ended.result.history.entries c.ended.result.text
     (ap (λ (h : HistoryState). h.entries) c.ended.ensures.history ∙ c.requires.new) c.ended.ensures.text
 
 pub returns-in-Ok-clause-told : goal.returns-in-Ok-clause-told
@@ -18,9 +19,11 @@ returns-in-Ok-clause-told g c =
     let found = g.D.Disk.state c.args.mount.found.value in
     let ran = c.run_walk.result in
     let bytes = c.new-filter.result.rule.bytes in
-    let same : begins_with bytes ≡ picks_in (map string_bytes c.args.words.now) = ap (λ r. begins_with r.bytes) c.new-filter.ensures.1
+    let same : begins_with bytes ≡ picks_in (map string_bytes c.args.words.now) =
+    ap (λ r. begins_with r.bytes) c.new-filter.ensures.1
     ∙ (ap begins_with c.in-Ok.ensures ∙ (ap begins_with c.as_bytes-prefix.ensures.value
-    ∙ sym (picks-prefix string_bytes c.args.words.now _ _ c.in-len2.len_at_least c.in-len2.len_below c.prefix-item.is))) in
+    ∙ sym (picks-prefix string_bytes c.args.words.now _ _ c.in-len2.len_at_least c.in-len2.len_below c.prefix-item.is)))
+    in
     subst (λ (picks : List ℕ → Bool). IfSome ran.text (IsWalkTold picks found ran.history)) same c.run_walk.ensures.told
 
 pub returns-in_default-clause-told : goal.returns-in_default-clause-told

@@ -17,7 +17,11 @@ returns-clause-told g c =
     let told = v.new.visitor.told in
     let last = c.ended-2 in
     let ran = last.result.history in
-    let ends = subst₂ (λ (f : g.row.D.Denot) (n : ℕ). ∥ Finished (S f) (S last.result.disk) n ran ∥₁) v.ensures.same.0 v.ensures.same.1 last.ensures.ends in
-    walk-text (IsWalkTold picks found ran) told c.walk_text.result last.result.text (last.ensures.text ∙ c.ok-text.ensures.value) c.walk_text.ensures
-    (λ t is some. walk-done picks told at.inodes at.blocks out found (S last.result.disk) before.first v.result.mount.core.books.history.entries ran t
-    c.requires.first ends c.if-out_of_memory.false (ap (λ (h : HistoryState). h.entries) last.ensures.history) v.ensures.ran is some)
+    let ends = subst₂ (λ (f : g.row.D.Denot) (n : ℕ). ∥ Finished (S f) (S last.result.disk) n ran ∥₁) v.ensures.same.0
+    v.ensures.same.1 last.ensures.ends in
+    walk-text (IsWalkTold picks found ran) told c.walk_text.result last.result.text
+    (last.ensures.text ∙ c.ok-text.ensures.value) c.walk_text.ensures
+    (λ t is some. walk-done picks told at.inodes at.blocks out found
+    (S last.result.disk) before.first v.result.mount.core.books.history.entries ran t
+    c.requires.first ends c.if-out_of_memory.false
+    (ap (λ (h : HistoryState). h.entries) last.ensures.history) v.ensures.ran is some)

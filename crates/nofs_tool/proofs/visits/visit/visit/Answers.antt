@@ -14,7 +14,8 @@ returns-in-Err-clause-served g c =
     let none : g.G.Visits.visited c.args.visitor.now c.attend.new.visitor [] [] =
     subst (λ (v : g.row.G.Denot). g.G.Visits.visited c.args.visitor.now v [] []) (sym same.1)
     (g.G.Visits.visited_none c.args.visitor.now [] c.requires) in
-    visit-none (g.G.Visits.visited c.args.visitor.now c.attend.new.visitor []) at.inodes at.blocks true _ _ (ap (λ m. m.core.books.history.entries) same.0)
+    visit-none (g.G.Visits.visited c.args.visitor.now c.attend.new.visitor []) at.inodes at.blocks true _ _
+    (ap (λ m. m.core.books.history.entries) same.0)
     refl none
 
 pub attend-requires-send-V-Evidence : goal.attend-requires-send-V-Evidence

@@ -13,8 +13,10 @@ returns-clause-ran g c =
     let V = g.G.Visits.visited c.args.visitor.now c.visit-mount.new.visitor [] in
     let all = c.close-closed.new.mount.core.books.history.entries in
     let short : (out || not closed) ≡ c.if-out_of_memory.result = elim c.if-out_of_memory.branch [
-      | then-out_of_memory w ↦ ap (λ b. b || not closed) w.if-out_of_memory.true ∙ (sym w.if-out_of_memory.true ∙ sym w.result-is)
+      | then-out_of_memory w ↦ ap (λ b. b || not closed) w.if-out_of_memory.true
+          ∙ (sym w.if-out_of_memory.true ∙ sym w.result-is)
       | else-out_of_memory w ↦ ap (λ b. b || not closed) w.if-out_of_memory.false ∙ sym w.result-is
     ] in
     subst (λ b. IsVisitRun V at.inodes at.blocks b all) short
-    (visit-closed V at.inodes at.blocks out closed _ _ all adds.0 c.requires.new c.visit-mount.ensures.served adds.1 adds.2)
+    (visit-closed V at.inodes at.blocks out closed _ _ all adds.0 c.requires.new
+    c.visit-mount.ensures.served adds.1 adds.2)

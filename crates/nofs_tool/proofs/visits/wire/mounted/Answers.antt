@@ -10,7 +10,8 @@ returns-clause-ends g c =
     let e = c.run_wire-disk.ensures in
     wire-ends (g.D.Disk.state c.args.mount.found.value) (g.D.Disk.state r.disk)
     _ _ _ _ c.args.mount.first c.wire_status-status.result r.out_of_memory r.end r.history
-    (c.wire_status-status.ensures ∙ ap (wire_status r.out_of_memory r.end) c.has_fault_in.ensures) e.served e.source_fault e.sink_fault e.ends
+    (c.wire_status-status.ensures ∙ ap (wire_status r.out_of_memory r.end) c.has_fault_in.ensures) e.served
+    e.source_fault e.sink_fault e.ends
 
 pub returns-clause-headline : goal.returns-clause-headline
 returns-clause-headline g c =
@@ -23,4 +24,5 @@ returns-clause-headline g c =
     c.wire_status-status.ensures ∙ ap (wire_status r.out_of_memory r.end) c.has_fault_in.ensures in
     wire-headline _ (S m.found.value) (S m.core.disk) (S r.disk)
     m.first c.wire_status-status.result m.core.books r.out_of_memory r.history c.requires.first m.stands e.ends
-    e.ran e.closed (λ h. is ∙ short-seven r.out_of_memory r.end f h) (λ h. (zero-end r.out_of_memory r.end f (sym is ∙ h)).1)
+    e.ran e.closed (λ h. is ∙ short-seven r.out_of_memory r.end f h)
+    (λ h. (zero-end r.out_of_memory r.end f (sym is ∙ h)).1)

@@ -22,7 +22,8 @@ returns-clause-ends g c =
     let F : g.row.D.Denot → ℕ → g.row.D.Denot → HistoryState → Type 0 = λ f n d h. ∥ Finished (S f) (S d) n h ∥₁ in
     let made : F m.found.value m.first m.core.disk m.core.books.history = ∥∥₁_elim m.stands ∥∥₁_prop
     (λ i. ∣ mount-finishes (S m.found.value) (S m.core.disk) m.first m.core.books i ∣₁) in
-    subst₂ (λ d h. F c.args.mount.found.value c.args.mount.first d h) (sym c.end-disk.ensures.is.0) (sym c.end-disk.ensures.is.1)
+    subst₂ (λ d h. F c.args.mount.found.value c.args.mount.first d h) (sym c.end-disk.ensures.is.0)
+    (sym c.end-disk.ensures.is.1)
     (subst₂ (λ f n. F f n m.core.disk m.core.books.history) same.0 same.1 made)
 
 pub returns-clause-served : goal.returns-clause-served
@@ -31,13 +32,17 @@ returns-clause-served g c =
     let H = v.result.mount.core.books.history.entries in
     let Q = g.Q.Source.state in
     let K = g.K.Sink.state in
-    let made = visit-steps _ c.args.mount.core.books.at.inodes c.args.mount.core.books.at.blocks v.result.out_of_memory H v.ensures.ran in
+    let made = visit-steps _ c.args.mount.core.books.at.inodes c.args.mount.core.books.at.blocks v.result.out_of_memory
+    H v.ensures.ran in
     let one = made.0 in
     let two = made.1 in
-    let source_is : c.source-1.given.0 ≡ v.new.visitor.source.now = c.source-1.given.1 (sym one) ∙ c.take_back.ensures in
+    let source_is : c.source-1.given.0 ≡ v.new.visitor.source.now = c.source-1.given.1 (sym one)
+    ∙ c.take_back.ensures in
     let sink_is : c.sink-1.given.0 ≡ v.new.visitor.sink.now = c.sink-1.given.1 (sym two) ∙ c.take_back-2.ensures in
-    let all : steps_by 1 c.end-disk.result.1.entries ≡ steps_by 1 H = ap (λ (h : HistoryState). steps_by 1 h.entries) c.end-disk.ensures.is.1 in
-    subst (λ (x : g.row.Q.Denot × g.row.K.Denot × List Made). Serves 16777216 v.new.visitor.end (Q c.args.source.now).left (Q x.0).left
+    let all : steps_by 1 c.end-disk.result.1.entries ≡ steps_by 1 H =
+    ap (λ (h : HistoryState). steps_by 1 h.entries) c.end-disk.ensures.is.1 in
+    subst (λ (x : g.row.Q.Denot × g.row.K.Denot × List Made). Serves 16777216 v.new.visitor.end
+    (Q c.args.source.now).left (Q x.0).left
     (K c.args.sink.now).given (K x.1).given [] x.2)
     (λ i. (sym source_is i, sym sink_is i, sym all i)) made.2.serves
 
@@ -51,7 +56,8 @@ returns-clause-ran g c =
     let H = v.result.mount.core.books.history.entries in
     let seen = r.made.visited in
     let one = seen.0 in
-    let source_is : c.source-1.given.0 ≡ v.new.visitor.source.now = c.source-1.given.1 (sym one) ∙ c.take_back.ensures in
+    let source_is : c.source-1.given.0 ≡ v.new.visitor.source.now = c.source-1.given.1 (sym one)
+    ∙ c.take_back.ensures in
     let left = (Q c.args.source.now).left in
     let new_left = (Q v.new.visitor.source.now).left in
     let run : IsVisitRun (IsWired left new_left) at.inodes at.blocks v.result.out_of_memory H = record {
@@ -60,14 +66,16 @@ returns-clause-ran g c =
       closes = r.closes;
       closed = r.closed;
       made = record {
-        visited = serves-wired 16777216 v.new.visitor.end left new_left (K c.args.sink.now).given (K v.new.visitor.sink.now).given (steps_by 1 r.served)
+        visited = serves-wired 16777216 v.new.visitor.end left new_left
+            (K c.args.sink.now).given (K v.new.visitor.sink.now).given (steps_by 1 r.served)
             seen.2.serves;
         inodes_seen = r.made.inodes_seen;
         blocks_seen = r.made.blocks_seen;
         others = r.made.others;
       };
     } in
-    subst (λ (x : g.row.Q.Denot × List Entry1). IsVisitRun (IsWired left (Q x.0).left) at.inodes at.blocks v.result.out_of_memory x.1)
+    subst (λ (x : g.row.Q.Denot × List Entry1).
+    IsVisitRun (IsWired left (Q x.0).left) at.inodes at.blocks v.result.out_of_memory x.1)
     (λ i. (sym source_is i, (sym c.end-disk.ensures.is.1 i).entries)) run
 
 pub returns-clause-source_fault : goal.returns-clause-source_fault
@@ -75,5 +83,7 @@ returns-clause-source_fault g c = λ e.
     let v = c.visit_and_close-mount in
     let seen = v.ensures.ran.made.visited in
     let one = seen.0 in
-    let source_is : c.source-1.given.0 ≡ v.new.visitor.source.now = c.source-1.given.1 (sym one) ∙ c.take_back.ensures in
-    subst (λ (x : g.row.Q.Denot). Rose (g.Q.Source.state c.args.source.now).faults (g.Q.Source.state x).faults) (sym source_is) (seen.2.source_fault e)
+    let source_is : c.source-1.given.0 ≡ v.new.visitor.source.now = c.source-1.given.1 (sym one)
+    ∙ c.take_back.ensures in
+    subst (λ (x : g.row.Q.Denot). Rose (g.Q.Source.state c.args.source.now).faults (g.Q.Source.state x).faults)
+    (sym source_is) (seen.2.source_fault e)

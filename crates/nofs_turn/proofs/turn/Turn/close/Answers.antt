@@ -10,8 +10,10 @@ pub unreachable-requires : goal.unreachable-requires
 unreachable-requires g c =
     let v = view_of c.args.pass in
     let z : Found g.V.Kept.entries g.V.Kept.fixed v (slots_items c.close_with-closed.result.slots) =
-    ends _ _ _ _ _ c.args.pass.seat.id v _ _ (search rules) (omega (arith, c.requires.of.1)) (search rules) c.close_with-closed.ensures.values.2 in
-    let e : ◌≡◌ {A = Option g.row.V.Denot} (Some z.0) None = some-injective _ _ (sym z.1 ∙ c.take.ensures.value) ∙ c.in_default.is in
+    ends _ _ _ _ _ c.args.pass.seat.id v _ _ (search rules) (omega (arith, c.requires.of.1))
+    (search rules) c.close_with-closed.ensures.values.2 in
+    let e : ◌≡◌ {A = Option g.row.V.Denot} (Some z.0) None = some-injective _ _ (sym z.1 ∙ c.take.ensures.value)
+    ∙ c.in_default.is in
     cc
 
 pub returns-clause-closed : goal.returns-clause-closed
@@ -20,6 +22,7 @@ returns-clause-closed g c =
     let all : v.stands ≡ v.seats = omega (arith, c.requires.of.1) in
     let z : Found g.V.Kept.entries g.V.Kept.fixed v (slots_items c.close_with-closed.result.slots) =
     ends _ _ _ _ _ c.args.pass.seat.id v _ _ (search rules) all (search rules) c.close_with-closed.ensures.values.2 in
-    let e : ◌≡◌ {A = Option g.row.V.Denot} (Some z.0) (Some c.in-Some.value) = some-injective _ _ (sym z.1 ∙ c.take.ensures.value) ∙ c.in-Some.is in
+    let e : ◌≡◌ {A = Option g.row.V.Denot} (Some z.0) (Some c.in-Some.value) =
+    some-injective _ _ (sym z.1 ∙ c.take.ensures.value) ∙ c.in-Some.is in
     let same : z.0 ≡ c.in-Some.value = cc in
     (subst (λ x. Closes g.V.Kept.entries g.V.Kept.fixed v x) same z.2, all)

@@ -10,7 +10,8 @@ store-requires g c =
     let ran = c.run_in_place-out.ensures.ran in
     let is : ran.0 ≡ x.0 = same_carried c.args.seat.now.me.1 ran.0 x.0 _ _ _ _ ran.2 x.1 in
     let view : c.run_in_place-out.new.seat.me.0 ≡ c.args.seat.now.me.0 = c.run_in_place-out.ensures.same.2 in
-    let seen : c.run_in_place-out.new.seat.me.0.seen ≡ g.V.Kept.entries ran.0 = ap (λ v. v.seen) view ∙ (sym x.2 ∙ ap g.V.Kept.entries (sym is)) in (
+    let seen : c.run_in_place-out.new.seat.me.0.seen ≡ g.V.Kept.entries ran.0 = ap (λ v. v.seen) view
+    ∙ (sym x.2 ∙ ap g.V.Kept.entries (sym is)) in (
       search rules,
       search rules,
       gives_home _ _ _ _ _ _ _ _ ran.1 _ (search rules) (search rules) (search rules)

@@ -25,4 +25,5 @@ returns c =
     let items = c.write_parts.new.out.items in
     let long = length_behind 0 items (body_bytes c.args.reply.now) c.in_ok-write_parts.ensures in
     let size : c.len-size.result - 4 ≡ length (body_bytes c.args.reply.now) = grind (arith, common_steps, long) in
-    c.close.ensures ∙ framed 0 (c.len-size.result - 4) items (body_bytes c.args.reply.now) c.in_ok-write_parts.ensures size
+    c.close.ensures ∙ framed 0 (c.len-size.result - 4) items
+    (body_bytes c.args.reply.now) c.in_ok-write_parts.ensures size

@@ -5,5 +5,6 @@ use Rattle.nofs_wire.proofs.server.inbox.take_part.Goals as goal
 
 pub returns-clause-into : goal.returns-clause-into
 returns-clause-into g c =
-    takes-into c.take.result c.args.from c.args.to c.args.bytes.now c.take.new.into _ _ _ (omega arith) c.requires.some (grind (arith, common_steps))
+    takes-into c.take.result c.args.from c.args.to c.args.bytes.now c.take.new.into _ _ _ (omega arith) c.requires.some
+    (grind (arith, common_steps))
     c.take.ensures.within c.take.ensures.bytes

@@ -4,7 +4,8 @@ use Rattle.nofs_wire.proofs.server.serve.serve_up_to.Given as goal
 
 abbrev pub invariant-loop-end : goal.invariant-loop-end
 invariant-loop-end g l =
-    Along (g.Q.Source.state l.initial.source).left (g.Q.Source.state l.source).left (g.K.Sink.state l.initial.sink).given (g.K.Sink.state l.sink).given
+    Along (g.Q.Source.state l.initial.source).left (g.Q.Source.state l.source).left
+    (g.K.Sink.state l.initial.sink).given (g.K.Sink.state l.sink).given
     (g.S.Steps.made l.initial.steps) (g.S.Steps.made l.steps) l.inbox
     × (l.inbox.taken ≤ l.limit)
     × g.S.Steps.goes l.initial.steps l.steps

@@ -12,7 +12,8 @@ end_of-requires-clause-short g c =
 pub returns-in-Ok-eq0-clause-ends : goal.returns-in-Ok-eq0-clause-ends
 returns-in-Ok-eq0-clause-ends g c =
     let none : c.in-Ok-eq0.field-0 ≡ 0 = grind arith in
-    λ given made. stops-ended c.args.limit c.end_of.result c.in-Ok-eq0.field-0 _ c.args.inbox.now c.fill.new.self _ _ given made
+    λ given made.
+    stops-ended c.args.limit c.end_of.result c.in-Ok-eq0.field-0 _ c.args.inbox.now c.fill.new.self _ _ given made
     c.in-Ok-eq0.ensures.more none c.end_of.ensures.ends
 
 pub returns-in-Ok-clause-on : goal.returns-in-Ok-clause-on

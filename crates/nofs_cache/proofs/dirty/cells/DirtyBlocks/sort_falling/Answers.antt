@@ -11,18 +11,21 @@ number-requires-clause-low c =
     let old = c.args.self.now in
     let items = c.sort_unstable_by.new.self.items in
     let F : List DirtyEntry → Type 0 = λ l. AreBelow l (length c.args.self.now.slots.items) in
-    subst F (sym c.as_slice.ensures.value) (below_reordered old.entries.items items old.slots.items c.sort_unstable_by.ensures.permutation old.placed)
+    subst F (sym c.as_slice.ensures.value)
+    (below_reordered old.entries.items items old.slots.items c.sort_unstable_by.ensures.permutation old.placed)
 
 pub number-requires-clause-own : goal.number-requires-clause-own
 number-requires-clause-own c =
     let old = c.args.self.now in
     let own = own_slotted old.slots.items old.entries.items old.placed in
     let F : List DirtyEntry → Type 0 = λ l. HaveOwnBlocks l in
-    subst F (sym c.as_slice.ensures.value) (own_reordered old.entries.items c.sort_unstable_by.new.self.items c.sort_unstable_by.ensures.permutation own)
+    subst F (sym c.as_slice.ensures.value)
+    (own_reordered old.entries.items c.sort_unstable_by.new.self.items c.sort_unstable_by.ensures.permutation own)
 
 pub returns-clause-falls : goal.returns-clause-falls
 returns-clause-falls c =
     let old = c.args.self.now in
     let items = c.sort_unstable_by.new.self.items in
-    falls_sorted items (own_reordered old.entries.items items c.sort_unstable_by.ensures.permutation (own_slotted old.slots.items old.entries.items old.placed))
+    falls_sorted items (own_reordered old.entries.items items c.sort_unstable_by.ensures.permutation
+    (own_slotted old.slots.items old.entries.items old.placed))
     (c.sort_unstable_by.ensures.sorted is_above above_order (answers_always _ _ _ (λ f a r g h. search rules)))

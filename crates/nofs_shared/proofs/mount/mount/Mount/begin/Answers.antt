@@ -18,7 +18,8 @@ returns-in-Err-clause-fault g c = record {
   past = c.prepare.ensures.past;
   refused = λ n. (c.prepare.ensures.cells, c.in-Err.ensures.err);
   wrote = λ is. absurd (c.in-Err.ensures.err.no_write is);
-  sound = sounds-rest (g.D.Disk.state c.args.disk) (g.D.Disk.state c.prepare.new.disk) (g.met.D.Disk.is_disk c.args.disk)
+  sound = sounds-rest (g.D.Disk.state c.args.disk) (g.D.Disk.state c.prepare.new.disk)
+      (g.met.D.Disk.is_disk c.args.disk)
       c.prepare.ensures.disk c.prepare.ensures.past c.prepare.ensures.cells;
 }
 
@@ -26,7 +27,8 @@ pub over-requires-clause-numbers : goal.over-requires-clause-numbers
 over-requires-clause-numbers g c =
     let p = c.in-Ok.ensures.ok in
     subst (λ (s : SuperBlock). IsAt (g.D.Disk.state c.raise_mount.new.disk) s) (sym c.in-Ok-raise_mount.ensures.value)
-    (at-raised (g.D.Disk.state c.prepare.new.disk) (g.D.Disk.state c.raise_mount.new.disk) c.in-Ok.it.old (g.met.D.Disk.is_disk c.prepare.new.disk)
+    (at-raised (g.D.Disk.state c.prepare.new.disk) (g.D.Disk.state c.raise_mount.new.disk) c.in-Ok.it.old
+    (g.met.D.Disk.is_disk c.prepare.new.disk)
     p.can c.raise_mount.ensures.adds c.in-Ok-raise_mount.ensures.ends)
 
 pub invariant_of-result : goal.invariant_of-result
@@ -38,7 +40,8 @@ invariant_of-result g c =
     let old = S c.prepare.new.disk in
     let new = S c.raise_mount.new.disk in
     let m : IsMount (S c.args.disk) new c.args.first c.over.result.books =
-    begin-mount (S c.args.disk) old new c.in-Ok.it.old c.in-Ok-raise_mount.at c.args.first c.over.result.books (is c.prepare.new.disk)
+    begin-mount (S c.args.disk) old new c.in-Ok.it.old c.in-Ok-raise_mount.at c.args.first c.over.result.books
+    (is c.prepare.new.disk)
     (is c.raise_mount.new.disk) e.disk e.past e.cells
     p.can p.spelled c.raise_mount.ensures.adds c.in-Ok-raise_mount.ensures.ends c.in-Ok-raise_mount.ensures.value
     c.over.ensures.safe c.over.ensures.begun c.over.ensures.open in
@@ -46,9 +49,11 @@ invariant_of-result g c =
     let G : g.row.D.Denot → Type 0 = λ d. IsMount (S c.args.disk) (S d) c.args.first c.over.result.books in
     let H : g.row.D.Denot → Type 0 = λ d. IsSafe (S d) c.over.result.books in
     record {
-      few = (let e = ap length c.over.ensures.begun.empty in let b = p.can.geometry.most_blocks in let i = p.can.geometry.most_inodes in let nb =
+      few = (let e = ap length c.over.ensures.begun.empty in let b = p.can.geometry.most_blocks in
+          let i = p.can.geometry.most_inodes in let nb =
           ap (λ (s : SuperBlock). s.blocks) c.in-Ok-raise_mount.ensures.value in
-          let ni = ap (λ (s : SuperBlock). s.inodes) c.in-Ok-raise_mount.ensures.value in omega (arith, e, b, i, nb, ni));
+          let ni = ap (λ (s : SuperBlock). s.inodes) c.in-Ok-raise_mount.ensures.value in
+          omega (arith, e, b, i, nb, ni));
       room = c.over.ensures.begun.spare;
       safe = subst H (sym c.over.ensures.disk) c.over.ensures.safe;
       stands = ∣ subst F (sym c.of-found.ensures) (subst G (sym c.over.ensures.disk) m) ∣₁;
@@ -60,15 +65,19 @@ returns-in-Err-raise_mount-clause-fault g c =
     let e = c.prepare.ensures in
     let a = c.raise_mount.ensures.adds in
     record {
-      disk = IsSameDisk-trans (g.D.Disk.state c.args.disk) (g.D.Disk.state c.prepare.new.disk) (g.D.Disk.state c.raise_mount.new.disk) e.disk a.disk;
-      past = KeepsPast-trans (g.D.Disk.state c.args.disk) (g.D.Disk.state c.prepare.new.disk) (g.D.Disk.state c.raise_mount.new.disk) (let m =
+      disk = IsSameDisk-trans (g.D.Disk.state c.args.disk) (g.D.Disk.state c.prepare.new.disk)
+          (g.D.Disk.state c.raise_mount.new.disk) e.disk a.disk;
+      past = KeepsPast-trans (g.D.Disk.state c.args.disk) (g.D.Disk.state c.prepare.new.disk)
+          (g.D.Disk.state c.raise_mount.new.disk) (let m =
           e.cells.moment in omega (arith, m)) e.past a.past;
       refused = λ n. absurd (n c.in-Err-raise_mount.ensures.fault);
-      wrote = λ is. (let r = c.in-Err-raise_mount.ensures.stopped.cause in let f = e.disk.faults in omega (arith, r, f));
+      wrote = λ is.
+          (let r = c.in-Err-raise_mount.ensures.stopped.cause in let f = e.disk.faults in omega (arith, r, f));
       sound = λ q.
           let o = sound-on (g.D.Disk.state c.args.disk) (g.D.Disk.state c.prepare.new.disk) e.disk e.cells q in
           subst (λ (n : ℕ). Sounds n (g.D.Disk.state c.raise_mount.new.disk)) e.cells.moment
-          (sounds-raised (g.D.Disk.state c.prepare.new.disk) (g.D.Disk.state c.raise_mount.new.disk) c.in-Ok.it.old (g.met.D.Disk.is_disk c.prepare.new.disk)
+          (sounds-raised (g.D.Disk.state c.prepare.new.disk) (g.D.Disk.state c.raise_mount.new.disk) c.in-Ok.it.old
+          (g.met.D.Disk.is_disk c.prepare.new.disk)
           p.can a o (p.spelled o.tells));
     }
 
@@ -81,6 +90,7 @@ returns-in-Ok-raise_mount-clause-begins g c =
     subst F (sym c.over.ensures.disk) (record {
       moment = r.moment ∙ ap (λ (n : ℕ). n + 4) e.cells.moment;
       now = r.now ∙ ap (λ (X : List Cell). slice_set X 0 (super_cell (raised c.in-Ok.it.old))) e.cells.now
-          ∙ ap (λ (q : SuperBlock). slice_set (S c.args.disk).now 0 (super_cell q)) (sym (c.over.ensures.begun.at ∙ c.in-Ok-raise_mount.ensures.value));
+          ∙ ap (λ (q : SuperBlock). slice_set (S c.args.disk).now 0 (super_cell q))
+          (sym (c.over.ensures.begun.at ∙ c.in-Ok-raise_mount.ensures.value));
       settled = r.settled;
     })

@@ -20,43 +20,53 @@ commit_in-requires-clause-earlier g c = record {
   going = c.requires.own.going;
   begun = c.requires.own.begun ∙ sym c.take_room.ensures.stays.1;
   numbers = c.requires.own.numbers;
-  begins = subst (λ (H : List Entry1). IsPrefix c.args.evidence.now.core.value.books.history.entries H) (sym c.take_room.ensures.stays.0) c.requires.own.begins;
+  begins = subst (λ (H : List Entry1). IsPrefix c.args.evidence.now.core.value.books.history.entries H)
+      (sym c.take_room.ensures.stays.0) c.requires.own.begins;
 }
 
 pub invariant_of-self : goal.invariant_of-self
 invariant_of-self g c =
-    let kept = roomed _ _ _ _ c.take_room.new.history _ c.take_room.ensures.stays c.args.self.now.few c.args.self.now.safe c.args.self.now.stands in
+    let kept = roomed _ _ _ _ c.take_room.new.history _ c.take_room.ensures.stays c.args.self.now.few
+    c.args.self.now.safe c.args.self.now.stands in
     record { few = kept.few; room = c.take_room.ensures.kept; safe = kept.safe; stands = kept.stands }
 
 pub invariant_of-self-in-Some : goal.invariant_of-self-in-Some
 invariant_of-self-in-Some g c = record {
-  few = few-left c.args.caller (see_step c.args.evidence.now.kind (verdict_at c.args.evidence.now.verdicts c.args.at).item)
-      c.commit_in.result c.take_room.new.history.entries c.commit_in.new.core.books.history.entries c.in-Some.left c.commit_in.ensures.tells.adds
+  few = few-left c.args.caller
+      (see_step c.args.evidence.now.kind (verdict_at c.args.evidence.now.verdicts c.args.at).item)
+      c.commit_in.result c.take_room.new.history.entries c.commit_in.new.core.books.history.entries c.in-Some.left
+      c.commit_in.ensures.tells.adds
       c.in-Some.ensures.few;
   room = (let a = c.in-Some.ensures.room in let b = c.commit_in.ensures.goes_on.room in omega (arith, a, b));
   safe = c.commit_in.ensures.goes_on.safe;
   stands = ∥∥₁_elim c.requires.own.stood ∥∥₁_prop (λ then. ∥∥₁_elim c.args.self.now.stands ∥∥₁_prop
       (λ m. ∣ c.commit_in.ensures.keeps c.args.self.now.found.value c.args.self.now.first then
       (mount-history (g.D.Disk.state c.args.self.now.found.value) (g.D.Disk.state c.args.self.now.core.disk)
-      c.args.self.now.first c.args.self.now.core.books c.take_room.new.history c.take_room.ensures.stays.1 c.take_room.ensures.stays.0 m) ∣₁));
+      c.args.self.now.first c.args.self.now.core.books c.take_room.new.history c.take_room.ensures.stays.1
+      c.take_room.ensures.stays.0 m) ∣₁));
 }
 
 pub returns-in-None-clause-commits : goal.returns-in-None-clause-commits
-returns-in-None-clause-commits g c = ∣ commit-unmade (g.D.Disk.state c.args.self.now.found.value) (g.D.Disk.state c.args.self.now.core.disk)
-    c.args.self.now.core.books _ c.args.evidence.now.kind (verdict_at c.args.evidence.now.verdicts c.args.at).item c.args.used ∣₁
+returns-in-None-clause-commits g c =
+    ∣ commit-unmade (g.D.Disk.state c.args.self.now.found.value) (g.D.Disk.state c.args.self.now.core.disk)
+    c.args.self.now.core.books _ c.args.evidence.now.kind
+    (verdict_at c.args.evidence.now.verdicts c.args.at).item c.args.used ∣₁
 
 pub returns-clause-commits : goal.returns-clause-commits
-returns-clause-commits g c = ∥∥₁_elim c.requires.own.stood ∥∥₁_prop (λ then. ∥∥₁_elim c.args.self.now.stands ∥∥₁_prop (λ m.
+returns-clause-commits g c =
+    ∥∥₁_elim c.requires.own.stood ∥∥₁_prop (λ then. ∥∥₁_elim c.args.self.now.stands ∥∥₁_prop (λ m.
     ∣ commit-beside (g.D.Disk.state c.args.self.now.found.value) (g.D.Disk.state c.args.self.now.core.disk)
     c.args.self.now.core.books c.commit_in.new.core.books c.take_room.new.history c.args.evidence.now.kind
     (verdict_at c.args.evidence.now.verdicts c.args.at).item c.args.used c.commit_in.result
     (c.commit_in.ensures.commits c.args.self.now.found.value c.args.self.now.first then
     (mount-history (g.D.Disk.state c.args.self.now.found.value) (g.D.Disk.state c.args.self.now.core.disk)
-    c.args.self.now.first c.args.self.now.core.books c.take_room.new.history c.take_room.ensures.stays.1 c.take_room.ensures.stays.0 m)) ∣₁))
+    c.args.self.now.first c.args.self.now.core.books c.take_room.new.history c.take_room.ensures.stays.1
+    c.take_room.ensures.stays.0 m)) ∣₁))
 
 pub returns-in-None-clause-tells : goal.returns-in-None-clause-tells
 returns-in-None-clause-tells g c = record {
-  adds = adds-none c.args.caller (see_step c.args.evidence.now.kind (verdict_at c.args.evidence.now.verdicts c.args.at).item)
+  adds = adds-none c.args.caller
+      (see_step c.args.evidence.now.kind (verdict_at c.args.evidence.now.verdicts c.args.at).item)
       c.args.self.now.core.books.history.entries c.take_room.new.history.entries c.take_room.ensures.stays.0;
   fits = tt;
 }
@@ -64,14 +74,16 @@ returns-in-None-clause-tells g c = record {
 pub returns-clause-tells : goal.returns-clause-tells
 returns-clause-tells g c = subst (λ (H : List Entry1). TellsStep c.args.caller
     (see_step c.args.evidence.now.kind (verdict_at c.args.evidence.now.verdicts c.args.at).item)
-    H c.commit_in.new.core.books.history.entries c.commit_in.result) c.take_room.ensures.stays.0 c.commit_in.ensures.tells
+    H c.commit_in.new.core.books.history.entries c.commit_in.result) c.take_room.ensures.stays.0
+    c.commit_in.ensures.tells
 
 pub returns-in-None-clause-kept : goal.returns-in-None-clause-kept
 returns-in-None-clause-kept g c =
     let same = c.step_of-step.ensures ∙ ap (see_step c.args.evidence.now.kind) c.item-item.ensures in
     record {
       sweeps = λ e some.
-          absurd (let t = c.take_room.ensures.sweep (ap (λ (s : Step). is_of_sweep c.args.caller s) same ∙ e) some in let n = c.in-None.is in cc (t, n));
+          absurd (let t = c.take_room.ensures.sweep (ap (λ (s : Step). is_of_sweep c.args.caller s) same ∙ e) some in
+          let n = c.in-None.is in cc (t, n));
       others = λ e. refl;
     }
 
@@ -79,23 +91,30 @@ pub returns-clause-kept : goal.returns-clause-kept
 returns-clause-kept g c =
     let same = c.step_of-step.ensures ∙ ap (see_step c.args.evidence.now.kind) c.item-item.ensures in
     record {
-      sweeps = sweep-served c.args.caller (see_step c.args.evidence.now.kind (verdict_at c.args.evidence.now.verdicts c.args.at).item)
+      sweeps = sweep-served c.args.caller
+          (see_step c.args.evidence.now.kind (verdict_at c.args.evidence.now.verdicts c.args.at).item)
           c.commit_in.result c.args.self.now.kept c.in-Some.left
-          (λ e some. sym c.in-Some.is ∙ c.take_room.ensures.sweep (ap (λ (s : Step). is_of_sweep c.args.caller s) same ∙ e) some)
+          (λ e some. sym c.in-Some.is
+          ∙ c.take_room.ensures.sweep (ap (λ (s : Step). is_of_sweep c.args.caller s) same ∙ e) some)
           (λ e. c.commit_in.ensures.sees);
       others = λ e. c.in-Some.ensures.others (ap (λ (s : Step). is_of_sweep c.args.caller s) same ∙ e);
     }
 
 pub returns-in-None-clause-own : goal.returns-in-None-clause-own
-returns-in-None-clause-own g c = earlier-on c.requires.own c.take_room.new.history.start c.args.self.now.core.books.at c.take_room.new.history.entries
+returns-in-None-clause-own g c = earlier-on c.requires.own c.take_room.new.history.start c.args.self.now.core.books.at
+    c.take_room.new.history.entries
     c.take_room.ensures.stays.1 refl
-    (subst (λ (H : List Entry1). IsPrefix c.args.self.now.core.books.history.entries H) (sym c.take_room.ensures.stays.0)
+    (subst (λ (H : List Entry1). IsPrefix c.args.self.now.core.books.history.entries H)
+    (sym c.take_room.ensures.stays.0)
     (prefix_self c.args.self.now.core.books.history.entries))
 
 pub returns-clause-own : goal.returns-clause-own
-returns-clause-own g c = earlier-on c.requires.own c.commit_in.new.core.books.history.start c.commit_in.new.core.books.at
+returns-clause-own g c =
+    earlier-on c.requires.own c.commit_in.new.core.books.history.start c.commit_in.new.core.books.at
     c.commit_in.new.core.books.history.entries
     (c.commit_in.ensures.goes_on.same.0 ∙ c.take_room.ensures.stays.1) c.commit_in.ensures.goes_on.same.1
     (subst (λ (H : List Entry1). IsPrefix H c.commit_in.new.core.books.history.entries) c.take_room.ensures.stays.0
-    (adds-prefix c.args.caller (see_step c.args.evidence.now.kind (verdict_at c.args.evidence.now.verdicts c.args.at).item)
-    c.commit_in.result c.take_room.new.history.entries c.commit_in.new.core.books.history.entries c.commit_in.ensures.tells.adds))
+    (adds-prefix c.args.caller
+    (see_step c.args.evidence.now.kind (verdict_at c.args.evidence.now.verdicts c.args.at).item)
+    c.commit_in.result c.take_room.new.history.entries c.commit_in.new.core.books.history.entries
+    c.commit_in.ensures.tells.adds))

@@ -4,5 +4,6 @@ use Rattle.nofs_shared.proofs.mount.mount.Mount.counts.Goals as goal
 
 pub returns-clause-scan : goal.returns-clause-scan
 returns-clause-scan g c = λ q running all. ∥∥₁_elim c.args.self.now.stands ∥∥₁_prop (λ m.
-    ∣ mount-scanned (g.D.Disk.state c.args.self.now.found.value) (g.D.Disk.state c.args.self.now.core.disk) c.args.self.now.first c.args.self.now.core.books
+    ∣ mount-scanned (g.D.Disk.state c.args.self.now.found.value)
+    (g.D.Disk.state c.args.self.now.core.disk) c.args.self.now.first c.args.self.now.core.books
     (g.met.D.Disk.is_disk c.args.self.now.core.disk) m q running all ∣₁)

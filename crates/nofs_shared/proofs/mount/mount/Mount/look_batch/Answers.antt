@@ -6,18 +6,24 @@ use Rattle.nofs_shared.proofs.mount.mount.Mount.look_batch.Goals as goal
 
 pub invariant_of-self : goal.invariant_of-self
 invariant_of-self g c = record {
-  few = subst (λ (b : Books). length b.history.entries + c.args.self.now.kept ≤ 2 ^ 62) (sym c.look_batch.ensures.only.books) c.args.self.now.few;
-  room = subst (λ (b : Books). c.args.self.now.kept ≤ b.history.spare) (sym c.look_batch.ensures.only.books) c.args.self.now.room;
+  few = subst (λ (b : Books). length b.history.entries + c.args.self.now.kept ≤ 2 ^ 62)
+      (sym c.look_batch.ensures.only.books) c.args.self.now.few;
+  room = subst (λ (b : Books). c.args.self.now.kept ≤ b.history.spare)
+      (sym c.look_batch.ensures.only.books) c.args.self.now.room;
   safe = safe-looked (g.D.Disk.state c.args.self.now.core.disk) (g.D.Disk.state c.look_batch.new.core.disk)
-      c.args.self.now.core.books c.look_batch.new.core.books c.look_batch.ensures.only.stays c.look_batch.ensures.only.books
+      c.args.self.now.core.books c.look_batch.new.core.books c.look_batch.ensures.only.stays
+      c.look_batch.ensures.only.books
       c.look_batch.ensures.only.learns c.args.self.now.safe;
   stands = ∥∥₁_elim c.args.self.now.stands ∥∥₁_prop (λ m.
-      ∣ mount-looked (g.D.Disk.state c.args.self.now.found.value) (g.D.Disk.state c.args.self.now.core.disk) (g.D.Disk.state c.look_batch.new.core.disk)
-      c.args.self.now.first c.args.self.now.core.books c.look_batch.new.core.books c.look_batch.ensures.only.stays c.look_batch.ensures.only.books
+      ∣ mount-looked (g.D.Disk.state c.args.self.now.found.value) (g.D.Disk.state c.args.self.now.core.disk)
+      (g.D.Disk.state c.look_batch.new.core.disk)
+      c.args.self.now.first c.args.self.now.core.books c.look_batch.new.core.books c.look_batch.ensures.only.stays
+      c.look_batch.ensures.only.books
       c.look_batch.ensures.only.learns m ∣₁);
 }
 
 pub returns-clause-own : goal.returns-clause-own
 returns-clause-own g c = looked-own (λ e. e.core.value) (λ k. g.D.Disk.state k.disk) (λ k. k.books)
     c.args.self.now.core c.look_batch.result c.look_batch.ensures.core c.look_batch.ensures.going
-    (g.D.Disk.state c.args.self.now.found.value) c.args.self.now.first c.args.self.now.stands c.look_batch.new.core.books c.look_batch.ensures.only.books
+    (g.D.Disk.state c.args.self.now.found.value) c.args.self.now.first c.args.self.now.stands
+    c.look_batch.new.core.books c.look_batch.ensures.only.books

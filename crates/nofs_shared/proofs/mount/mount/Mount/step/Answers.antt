@@ -12,40 +12,49 @@ use Rattle.nofs_shared.proofs.mount.mount.Mount.step.Goals as goal
 
 pub invariant_of-self-in-Some : goal.invariant_of-self-in-Some
 invariant_of-self-in-Some g c = record {
-  few = few-left c.args.caller c.args.step c.step_in.result c.take_room.new.history.entries c.step_in.new.core.books.history.entries c.in-Some.left
+  few = few-left c.args.caller c.args.step c.step_in.result c.take_room.new.history.entries
+      c.step_in.new.core.books.history.entries c.in-Some.left
       c.step_in.ensures.tells.adds c.in-Some.ensures.few;
   room = (let a = c.in-Some.ensures.room in let b = c.step_in.ensures.goes_on.room in omega (arith, a, b));
   safe = c.step_in.ensures.goes_on.safe;
-  stands = ∥∥₁_elim c.args.self.now.stands ∥∥₁_prop (λ m. ∣ c.step_in.ensures.keeps c.args.self.now.found.value c.args.self.now.first
+  stands = ∥∥₁_elim c.args.self.now.stands ∥∥₁_prop
+      (λ m. ∣ c.step_in.ensures.keeps c.args.self.now.found.value c.args.self.now.first
       (mount-history (g.D.Disk.state c.args.self.now.found.value) (g.D.Disk.state c.args.self.now.core.disk)
-      c.args.self.now.first c.args.self.now.core.books c.take_room.new.history c.take_room.ensures.stays.1 c.take_room.ensures.stays.0 m) ∣₁);
+      c.args.self.now.first c.args.self.now.core.books c.take_room.new.history c.take_room.ensures.stays.1
+      c.take_room.ensures.stays.0 m) ∣₁);
 }
 
 pub invariant_of-self : goal.invariant_of-self
 invariant_of-self g c =
-    let kept = roomed _ _ _ _ c.take_room.new.history _ c.take_room.ensures.stays c.args.self.now.few c.args.self.now.safe c.args.self.now.stands in
+    let kept = roomed _ _ _ _ c.take_room.new.history _ c.take_room.ensures.stays c.args.self.now.few
+    c.args.self.now.safe c.args.self.now.stands in
     record { few = kept.few; room = c.take_room.ensures.kept; safe = kept.safe; stands = kept.stands }
 
 pub returns-in-None-clause-tells : goal.returns-in-None-clause-tells
 returns-in-None-clause-tells g c = record {
-  adds = adds-none c.args.caller c.args.step c.args.self.now.core.books.history.entries c.take_room.new.history.entries c.take_room.ensures.stays.0;
+  adds = adds-none c.args.caller c.args.step c.args.self.now.core.books.history.entries c.take_room.new.history.entries
+      c.take_room.ensures.stays.0;
   fits = tt;
 }
 
 pub returns-in-Some-clause-tells : goal.returns-in-Some-clause-tells
-returns-in-Some-clause-tells g c = subst (λ (H : List Entry1). TellsStep c.args.caller c.args.step H c.step_in.new.core.books.history.entries c.step_in.result)
+returns-in-Some-clause-tells g c = subst (λ (H : List Entry1).
+    TellsStep c.args.caller c.args.step H c.step_in.new.core.books.history.entries c.step_in.result)
     c.take_room.ensures.stays.0 c.step_in.ensures.tells
 
 pub returns-in-None-clause-claims : goal.returns-in-None-clause-claims
-returns-in-None-clause-claims g c = λ q. ∣ unowned-none (g.D.Disk.state c.args.self.now.core.disk).now c.args.self.now.core.books.history.entries
+returns-in-None-clause-claims g c =
+    λ q. ∣ unowned-none (g.D.Disk.state c.args.self.now.core.disk).now c.args.self.now.core.books.history.entries
     c.take_room.new.history.entries c.take_room.ensures.stays.0 ∣₁
 
 pub returns-in-Some-clause-claims : goal.returns-in-Some-clause-claims
 returns-in-Some-clause-claims g c = λ q. ∥∥₁_elim c.args.self.now.stands ∥∥₁_prop (λ m.
-    ∣ subst (λ (H : List Entry1). Unowned (g.D.Disk.state c.args.self.now.core.disk).now H c.step_in.new.core.books.history.entries) c.take_room.ensures.stays.0
+    ∣ subst (λ (H : List Entry1). Unowned (g.D.Disk.state c.args.self.now.core.disk).now H
+    c.step_in.new.core.books.history.entries) c.take_room.ensures.stays.0
     (c.step_in.ensures.claims c.args.self.now.found.value c.args.self.now.first
     (mount-history (g.D.Disk.state c.args.self.now.found.value) (g.D.Disk.state c.args.self.now.core.disk)
-    c.args.self.now.first c.args.self.now.core.books c.take_room.new.history c.take_room.ensures.stays.1 c.take_room.ensures.stays.0 m) q) ∣₁)
+    c.args.self.now.first c.args.self.now.core.books c.take_room.new.history c.take_room.ensures.stays.1
+    c.take_room.ensures.stays.0 m) q) ∣₁)
 
 pub returns-in-Some-clause-kept : goal.returns-in-Some-clause-kept
 returns-in-Some-clause-kept g c = record {
@@ -64,10 +73,12 @@ pub returns-in-None-clause-settled : goal.returns-in-None-clause-settled
 returns-in-None-clause-settled g c = settles-memory c.args.step (g.D.Disk.state c.args.self.now.core.disk)
 
 pub returns-in-None-clause-causes : goal.returns-in-None-clause-causes
-returns-in-None-clause-causes g c = causes-unroomed (g.D.Disk.state c.args.self.now.core.disk) c.args.self.now.core.books c.take_room.new.history
+returns-in-None-clause-causes g c =
+    causes-unroomed (g.D.Disk.state c.args.self.now.core.disk) c.args.self.now.core.books c.take_room.new.history
 
 pub returns-in-Some-clause-causes : goal.returns-in-Some-clause-causes
-returns-in-Some-clause-causes g c = causes-roomed (g.D.Disk.state c.args.self.now.core.disk) (g.D.Disk.state c.step_in.new.core.disk)
+returns-in-Some-clause-causes g c =
+    causes-roomed (g.D.Disk.state c.args.self.now.core.disk) (g.D.Disk.state c.step_in.new.core.disk)
     c.args.self.now.core.books c.step_in.new.core.books
     c.step_in.result c.take_room.new.history c.step_in.ensures.causes
 
@@ -75,6 +86,8 @@ pub returns-in-None-clause-order : goal.returns-in-None-clause-order
 returns-in-None-clause-order g c = order-unroomed (g.D.Disk.state c.args.self.now.core.disk) _ c.args.step
 
 pub returns-in-Some-clause-order : goal.returns-in-Some-clause-order
-returns-in-Some-clause-order g c = order-sound (g.D.Disk.state c.args.self.now.found.value) (g.D.Disk.state c.args.self.now.core.disk)
+returns-in-Some-clause-order g c =
+    order-sound (g.D.Disk.state c.args.self.now.found.value) (g.D.Disk.state c.args.self.now.core.disk)
     (g.D.Disk.state c.step_in.new.core.disk) c.args.self.now.first
-    c.args.self.now.core.books c.args.step c.step_in.result c.take_room.new.history c.take_room.ensures.stays.1 c.args.self.now.stands c.step_in.ensures.order
+    c.args.self.now.core.books c.args.step c.step_in.result c.take_room.new.history c.take_room.ensures.stays.1
+    c.args.self.now.stands c.step_in.ensures.order

@@ -12,9 +12,11 @@ invariant_of-self g c =
     let same = c.write_out.ensures.books in
     let out = c.write_out.ensures.out in
     record {
-      few = subst (λ (b : Books). length b.history.entries + c.args.self.now.kept ≤ 2 ^ 62) (sym same) c.args.self.now.few;
+      few = subst (λ (b : Books). length b.history.entries + c.args.self.now.kept ≤ 2 ^ 62)
+          (sym same) c.args.self.now.few;
       room = subst (λ (b : Books). c.args.self.now.kept ≤ b.history.spare) (sym same) c.args.self.now.room;
-      safe = subst (λ (b : Books). IsSafe (S c.write_out.new.self.disk) b) (sym same) (safe-out _ _ _ out c.args.self.now.core.books c.args.self.now.safe);
+      safe = subst (λ (b : Books). IsSafe (S c.write_out.new.self.disk) b) (sym same)
+          (safe-out _ _ _ out c.args.self.now.core.books c.args.self.now.safe);
       stands = ∥∥₁_elim c.args.self.now.stands ∥∥₁_prop (λ m. ∣ mount-out-of (S c.args.self.now.found.value)
           _ _ c.args.self.now.first c.args.self.now.core.books _ out m c.write_out.new.self.books same ∣₁);
     }

@@ -10,16 +10,20 @@ pub returns-clause-tells : goal.returns-clause-tells
 returns-clause-tells g c =
     subst (λ (i : ℕ). TellsStep c.args.caller (see_step c.args.found.now.kind i)
     c.args.self.now.core.books.history.entries c.commit.new.self.core.books.history.entries c.commit.result)
-    (sym (item-at c.args.found.now.verdicts c.args.at (items-length c.args.found.now.verdicts c.args.at c.requires.within)))
+    (sym (item-at c.args.found.now.verdicts c.args.at
+    (items-length c.args.found.now.verdicts c.args.at c.requires.within)))
     c.commit.ensures.tells
 
 pub returns-clause-commits : goal.returns-clause-commits
-returns-clause-commits g c = ∥∥₁_elim c.args.self.now.stands ∥∥₁_prop (λ m. ∥∥₁_elim c.commit.ensures.commits ∥∥₁_prop (λ q. ∣ record {
-  met = c.args.self.now.core.disk;
-  before = c.args.self.now.core.books;
-  after = c.commit.new.self.core.books;
-  stood = m;
-  history = refl;
-  commit = subst (λ (b : Bool). IsCommit (g.D.Disk.state c.args.self.now.found.value) (g.D.Disk.state c.args.self.now.core.disk) c.args.self.now.core.books
-      c.commit.new.self.core.books c.args.found.now.kind (verdict_at c.args.found.now.verdicts c.args.at).item b c.commit.result) c.requires.used q;
-} ∣₁))
+returns-clause-commits g c =
+    ∥∥₁_elim c.args.self.now.stands ∥∥₁_prop (λ m. ∥∥₁_elim c.commit.ensures.commits ∥∥₁_prop (λ q. ∣ record {
+      met = c.args.self.now.core.disk;
+      before = c.args.self.now.core.books;
+      after = c.commit.new.self.core.books;
+      stood = m;
+      history = refl;
+      commit = subst (λ (b : Bool). IsCommit (g.D.Disk.state c.args.self.now.found.value)
+          (g.D.Disk.state c.args.self.now.core.disk) c.args.self.now.core.books
+          c.commit.new.self.core.books c.args.found.now.kind
+          (verdict_at c.args.found.now.verdicts c.args.at).item b c.commit.result) c.requires.used q;
+    } ∣₁))

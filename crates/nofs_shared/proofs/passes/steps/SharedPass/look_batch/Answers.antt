@@ -7,7 +7,8 @@ use Rattle.nofs_shared.proofs.passes.steps.SharedPass.look_batch.Goals as goal
 pub invariant_of-self : goal.invariant_of-self
 invariant_of-self g c = record {
   of = c.with.ensures.of;
-  own = subst (λ (l : List (ℕ × Entry1)). all_by c.args.self.now.caller l ≡ true) (sym (mine-stays _ _ _ _ c.with.ensures.ran c.with.ensures.ran.told.0))
+  own = subst (λ (l : List (ℕ × Entry1)). all_by c.args.self.now.caller l ≡ true)
+      (sym (mine-stays _ _ _ _ c.with.ensures.ran c.with.ensures.ran.told.0))
       c.args.self.now.own;
 }
 

@@ -5,7 +5,8 @@ pub invariant_of-self : goal.invariant_of-self
 invariant_of-self g c = record {
   of = c.try_with.ensures.of;
   own =
-      tried_owns (λ b. _) _ _ c.try_with.result (λ b. b.word) _ _ c.try_with.ensures.ran c.try_with.ensures.busy c.args.self.now.own;
+      tried_owns (λ b. _) _ _ c.try_with.result
+      (λ b. b.word) _ _ c.try_with.ensures.ran c.try_with.ensures.busy c.args.self.now.own;
 }
 
 pub returns-in-Ok-clause-made : goal.returns-in-Ok-clause-made

@@ -15,10 +15,14 @@ returns-clause-machine c = λ W says.
     let ui = unknown-inodes-count k W says c.requires.inodes in
     let fb = free-blocks-count k W says c.requires.free_blocks in
     let ub = unknown-blocks-count k W says c.requires.blocks in
-    let inodes = split-is k.at.inodes i.result.used i.result.free i.result.unchecked (used_inodes W) (free_inodes W) (unverified_inodes W)
+    let inodes = split-is k.at.inodes i.result.used i.result.free i.result.unchecked (used_inodes W) (free_inodes W)
+    (unverified_inodes W)
     (all-inodes W ∙ says.inodes)
     (i.ensures.unchecked ∙ ui) (i.ensures.free ∙ (λ j. min (fi j) (k.at.inodes - ui j))) i.ensures.whole in
-    let blocks = split-is k.at.blocks b.result.used b.result.free b.result.unchecked (used_blocks W) (free_blocks W) (unverified_blocks W)
+    let blocks = split-is k.at.blocks b.result.used b.result.free b.result.unchecked (used_blocks W) (free_blocks W)
+    (unverified_blocks W)
     (all-blocks W ∙ says.blocks)
-    (b.ensures.unchecked ∙ ub) (b.ensures.free ∙ (λ j. min (fb j) (k.at.blocks - ub j))) b.ensures.whole in
-    (record { used = inodes.0; free = inodes.1; unchecked = inodes.2 }, record { used = blocks.0; free = blocks.1; unchecked = blocks.2 })
+    (b.ensures.unchecked ∙ ub) (b.ensures.free ∙ (λ j. min (fb j) (k.at.blocks - ub j))) b.ensures.whole in (
+      record { used = inodes.0; free = inodes.1; unchecked = inodes.2 },
+      record { used = blocks.0; free = blocks.1; unchecked = blocks.2 },
+    )

@@ -1,5 +1,6 @@
 -- The list of values is cut, and its last one is trimmed.
-use Rattle.std.proofs.Common.{◌≡◌, ℕ, ◌∙◌, ap, cond, ltb, Bool, true, false, refl, arith, min, Some, unwrap_or, slice_get, List}
+use Rattle.std.proofs.Common.{◌≡◌, ℕ, ◌∙◌, ap, cond, ltb, Bool, true, false, refl, arith, min, Some, unwrap_or}
+use Rattle.std.proofs.Common.{slice_get, List}
 use Rattle.nofs_ptrs.specs.Paths.{slot_limit}
 use Rattle.nofs_model.specs.Files.{Absent}
 use Rattle.nofs_model.specs.declared.image.value.Value.{Value}
@@ -19,7 +20,8 @@ returns c =
     ∙ (let a = c.slots_in.ensures in let b = c.slots_in-2.ensures in λ j. min (a j) (b j)) in
     let xs : List ValueNow = c.args.self.values.items in
     let one = λ (k : ℕ). c.trim_end.ensures k
-    ∙ ap (λ (ys : List ValueNow). end_value old size c.min-slots.result k (value_at (slice_get ys k))) c.truncate.ensures.items
+    ∙ ap (λ (ys : List ValueNow). end_value old size c.min-slots.result k (value_at (slice_get ys k)))
+    c.truncate.ensures.items
     ∙ ap (λ (v : Value). end_value old size c.min-slots.result k v) (value-take xs c.min-slots.result k)
     ∙ ap (λ (m : ℕ). end_value old size m k (cond (ltb k m) (value_at (slice_get xs k)) Hole)) slots in
     let go = λ (k : ℕ) (b : Bool) (e : ltb k slot_limit ≡ b). below k b e (one k) in
@@ -33,9 +35,12 @@ returns c =
     })
   where
     below : (k : ℕ) (b : Bool) → ltb k slot_limit ≡ b → {new : Value} → new ≡ end_value c.args.self.size c.args.size
-        (min (slots_in c.args.self.size) (slots_in c.args.size)) k (cond (ltb k (min (slots_in c.args.self.size) (slots_in c.args.size)))
+        (min (slots_in c.args.self.size) (slots_in c.args.size)) k
+        (cond (ltb k (min (slots_in c.args.self.size) (slots_in c.args.size)))
         (value_at (slice_get c.args.self.values.items k)) Hole)
-        → cond b new Hole ≡ cond b (unwrap_or (resized_value c.args.self.size c.args.size (value_at (slice_get c.args.self.values.items k)) k)
+        → cond b new Hole ≡ cond b
+        (unwrap_or (resized_value c.args.self.size c.args.size (value_at (slice_get c.args.self.values.items k)) k)
         (value_at (slice_get c.args.self.values.items k))) Hole
-    below k true e is = is ∙ resized-at c.args.self.size c.args.size k (value_at (slice_get c.args.self.values.items k)) (grind (arith, e))
+    below k true e is = is ∙ resized-at c.args.self.size c.args.size k (value_at (slice_get c.args.self.values.items k))
+        (grind (arith, e))
     below k false e is = refl

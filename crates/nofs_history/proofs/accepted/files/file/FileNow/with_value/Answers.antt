@@ -6,8 +6,10 @@ use Rattle.nofs_history.proofs.accepted.files.file.FileNow.with_value.Goals as g
 
 pub returns : goal.returns
 returns c =
-    let set = λ (k : ℕ). value-set c.grow_values.new.values.items c.args.slot c.args.kept k (let long = c.in_ok-grow_values.ensures.long in
-    omega (arith, long)) ∙ ap (λ (v : Value). cond (eqb c.args.slot k) (value_now c.args.kept) v) (c.grow_values.ensures.same k) in
+    let set = λ (k : ℕ). value-set c.grow_values.new.values.items c.args.slot c.args.kept k
+    (let long = c.in_ok-grow_values.ensures.long in
+    omega (arith, long))
+    ∙ ap (λ (v : Value). cond (eqb c.args.slot k) (value_now c.args.kept) v) (c.grow_values.ensures.same k) in
     λ j. record {
       generation = c.args.self.generation;
       kind = c.args.self.kind;
