@@ -93,7 +93,7 @@ class FailingCalls(Folders):
 
     def test_each_call_of_the_file_fails_once(self):
         ended = set()
-        for call in ("pwrite64", "pread64", "fsync"):
+        for call in ("pwrite64", "pread64", "fdatasync"):
             for threads, first in (([], 1), (["-f"], 2)):      # the main thread alone, which mounts and closes; every thread
                 for number in range(first, 40):
                     with self.subTest(call=call, threads=threads, number=number):
