@@ -123,6 +123,8 @@ pub record Writes (old new : DiskState) (block : ℕ) (cell : Cell) (result : Re
   pub ok : OnOk result (new.now ≡ slice_set old.now block cell)
   pub err : OnErr result ((new.now ≡ old.now) ⊎ (new.now ≡ slice_set old.now block cell))
   pub may : (c : Cell) → Contains (new.may block) c → Contains (old.may block) c ⊎ (c ≡ cell)
+  -- what the block might hold before it may still hold
+  pub stays : (c : Cell) → Contains (old.may block) c → Contains (new.may block) c
   pub others : (b : ℕ) → b ≢ block → new.may b ≡ old.may b
   pub during : (image : List Cell) → new.left (old.moment + 1) image → Picks new.may new.blocks image
   pub cause : OnErr result (Rose old.faults new.faults)

@@ -5,6 +5,7 @@ pub mod Disk
 pub mod Moments
 pub mod Number
 pub mod OneSpelling
+pub mod Order
 pub mod Parts
 pub mod Pointer
 pub mod Tag

@@ -8,7 +8,7 @@ ghost use Rattle.nofs_disk.specs.Pointer.{is_null, null};
 ghost use Rattle.nofs_disk.specs.Tag.{HasTagSpelling, SpellsTag, allows_parts, kind_number, kind_of, tag_bytes, tag_of};
 ghost use Rattle.nofs_disk.specs.declared.tag.Tag.{Tag};
 
-use crate::number::{clear, read_u32_at, read_u64_at, write_u32_at, write_u64_at};
+use crate::number::{read_u32_at, read_u64_at, write_u32_at, write_u64_at};
 
 /// What a block holds.
 #[derive(Clone, Copy)]
@@ -171,7 +171,6 @@ pub fn write_tag(tag: &Tag, into: &mut [u8; 32])
     ensures bytes { into.new ≡ tag_bytes tag.now }
     ensures read { tag_of into.new ≡ Some tag.now }
 {
-    clear(into);
     write_u32_at(into, 0, number_of_kind(tag.kind));
     write_u32_at(into, 4, tag.inode);
     write_u64_at(into, 8, tag.generation);

@@ -6,12 +6,15 @@ use Rattle.std.proofs.lemmas.Bool.{and_parts, cases_lt, le-ltb, lt-ltb}
 use Rattle.std.proofs.lemmas.List.{ext_get_or, get_or-take, length-take-le}
 use Rattle.nofs_disk.specs.declared.Failed.{Failed}
 use Rattle.nofs_disk.specs.declared.tag.Cell.{Cell}
-use Rattle.nofs_disk.specs.Chains.{IsSameDisk-trans, KeepsPast-trans, StaysButFaults-refl, StaysButFaults-trans}
+use Rattle.nofs_disk.specs.Chains.{IsSameDisk-trans, KeepsPast-trans, Rose-within, StaysButFaults-refl}
+use Rattle.nofs_disk.specs.Chains.{StaysButFaults-trans}
 use Rattle.nofs_disk.specs.Disk.{DiskState, Flushes, IsDisk, IsSettled, StaysButFaults, cell_at, no_cell}
+use Rattle.nofs_mirror.specs.declared.copying.CopyFault.{CopyFault}
+use Rattle.nofs_mirror.specs.declared.copying.CopyFault.TheVariants.{Read, Write}
 use Rattle.nofs_mirror.specs.declared.sides.choices.MirrorStart.{MirrorStart}
 use Rattle.nofs_mirror.specs.declared.sides.past.MirrorCall.{MirrorCall}
 use Rattle.nofs_mirror.specs.declared.sides.past.Span.{Span}
-use Rattle.nofs_mirror.specs.Copying.{Copies, HasCopied}
+use Rattle.nofs_mirror.specs.Copying.{CopyCause, Copies, HasCopied}
 use Rattle.nofs_mirror.specs.Laws.{MirrorKeeps}
 use Rattle.nofs_mirror.specs.Mirror.{IsSide}
 
@@ -32,6 +35,19 @@ copies_flush a b x y z p f = Copies-trans a b b x y z p (record {
       f.past;
   later = (let e = f.moment in omega arith);
 })
+
+pub copied_flush : (n : ℕ) (lead y z : DiskState) {result : Result (Unit {0}) Failed} → Flushes y z result
+    → HasCopied lead y n → HasCopied lead z n
+copied_flush n lead y z f has b lead_tells other_tells low =
+    ap (λ l. cell_at l b) f.now ∙ has b lead_tells (sym f.disk.tells ∙ other_tells) low
+
+-- a fault of the last call is one of the copy
+pub cause_within : (fault : CopyFault) (a b c x y z : DiskState) → Copies a b x y → CopyCause fault b c y z
+    → CopyCause fault a c x z
+cause_within Read a b c x y z p rose =
+    Rose-within a.faults b.faults c.faults c.faults p.lead.disk.faults rose (omega arith)
+cause_within Write a b c x y z p rose =
+    Rose-within x.faults y.faults z.faults z.faults p.disk.faults rose (omega arith)
 
 -- one cell more
 pub copied_more : (a b y z : DiskState) (k : ℕ) → StaysButFaults a b

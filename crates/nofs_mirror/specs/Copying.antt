@@ -1,6 +1,7 @@
 -- What copying the lead's cells onto the other does.
-use Rattle.std.specs.Prelude.{◌≡◌, ℕ, ◌<◌, ◌≤◌, IsTrue}
-use Rattle.nofs_disk.specs.Disk.{DiskState, IsSameDisk, KeepsPast, Rose, StaysButFaults, cell_at}
+use Rattle.std.specs.Prelude.{◌≡◌, ◌⊎◌, ⊤, ℕ, ◌+◌, ◌*◌, ◌<◌, ◌≤◌, Contains, IfErr, IsTrue, OnOk, Result}
+use Rattle.nofs_disk.specs.Disk.{DiskState, IsSameDisk, KeepsCells, KeepsPast, Rose, StaysButFaults, cell_at}
+use Rattle.nofs_disk.specs.declared.tag.Cell.{Cell}
 use Rattle.nofs_mirror.specs.declared.copying.CopyFault.{CopyFault}
 use Rattle.nofs_mirror.specs.declared.copying.CopyFault.TheVariants.{Read, Write}
 
@@ -16,7 +17,47 @@ abbrev pub HasCopied : DiskState → DiskState → ℕ → Type 0
 HasCopied lead other blocks = (b : ℕ) → IsTrue lead.tells → IsTrue other.tells
     → b < blocks → cell_at other.now b ≡ cell_at lead.now b
 
+-- of each of the first blocks a disk has its own cell or the lead's, and of every other its own
+pub record IsPartCopy (blocks : ℕ) (lead old new : DiskState) : Type 0 where
+  pub first : (b : ℕ) → IsTrue lead.tells → b < blocks
+      → (cell_at new.now b ≡ cell_at old.now b) ⊎ (cell_at new.now b ≡ cell_at lead.now b)
+  pub rest : (b : ℕ) → blocks ≤ b → cell_at new.now b ≡ cell_at old.now b
+  -- and so does a crash that comes now
+  pub may_first : (b : ℕ) (c : Cell) → IsTrue lead.tells → b < blocks
+      → Contains (new.may b) c → Contains (old.may b) c ⊎ (c ≡ cell_at lead.now b)
+  pub may_rest : (b : ℕ) (c : Cell) → blocks ≤ b → Contains (new.may b) c → Contains (old.may b) c
+
+-- the lead could not be read: the blocks before that one were copied, and nothing else was touched
+pub record EndsAtRead (blocks : ℕ) (lead old new : DiskState) : Type 0 where
+  -- the block that could not be read
+  pub block : ℕ
+  pub inside : block < blocks
+  pub copied : HasCopied lead new block
+  pub part : IsPartCopy block lead old new
+  pub moment : new.moment ≡ old.moment + 2 * block
+  -- where it was the first one, nothing was touched at all
+  pub none : block ≡ 0 → KeepsCells old new
+
+-- how a copy ended that stopped
+abbrev pub EndsCopy : CopyFault → ℕ → DiskState → DiskState → DiskState → Type 0
+EndsCopy Read blocks lead old new = EndsAtRead blocks lead old new
+EndsCopy Write blocks lead old new = ⊤
+
+-- a disk is not touched where the lead could not be read
+abbrev pub IsUntouched : {D : Type 0} → CopyFault → D → D → Type 0
+IsUntouched Read old new = new ≡ old
+IsUntouched Write old new = ⊤
+
 -- why a copy stopped
 abbrev pub CopyCause : CopyFault → DiskState → DiskState → DiskState → DiskState → Type 0
 CopyCause Read lead lead_new other other_new = Rose lead.faults lead_new.faults
 CopyCause Write lead lead_new other other_new = Rose other.faults other_new.faults
+
+-- the first blocks were copied, up to the first call that failed
+pub record CopiesBlocks (blocks : ℕ) (lead lead_new other other_new : DiskState)
+    (result : Result (Unit {0}) CopyFault) : Type 0 where
+  pub copies : Copies lead lead_new other other_new
+  pub part : IsPartCopy blocks lead other other_new
+  pub copied : OnOk result (HasCopied lead other_new blocks)
+  pub ends : IfErr result (λ fault. EndsCopy fault blocks lead other other_new)
+  pub cause : IfErr result (λ fault. CopyCause fault lead lead_new other other_new)

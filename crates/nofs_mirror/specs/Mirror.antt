@@ -14,6 +14,7 @@ use Rattle.nofs_mirror.specs.declared.sides.past.MirrorCall.{MirrorCall}
 use Rattle.nofs_mirror.specs.declared.sides.past.Effect.{Effect}
 use Rattle.nofs_mirror.specs.declared.sides.past.Effect.TheVariants.{Write, Settle, Nothing}
 use Rattle.nofs_mirror.specs.declared.sides.past.Span.{Span}
+use Rattle.nofs_mirror.specs.Copying.{EndsAtRead, IsPartCopy}
 use Rattle.nofs_mirror.specs.Sides.Calls.{counted}
 
 -- a side's part in the last call, or in the opening
@@ -202,6 +203,7 @@ pub record OpensMirror (lead_old other_old lead_new other_new mirror : DiskState
   pub lead : StaysButFaults lead_old lead_new
   pub other : IsSameDisk other_old other_new
   pub other_past : KeepsPast other_old other_new
+  pub other_cells : IsPartCopy n lead_old other_old other_new
 
 -- what a refused opening leaves, and why it comes
 abbrev pub Refuses : MirrorCause → ℕ → DiskState → DiskState → DiskState → DiskState → Type 0
@@ -209,7 +211,7 @@ Refuses (TooSmall a b) blocks lead other lead_new other_new = (a ≡ lead.blocks
     × ((lead.blocks < blocks) ⊎ (other.blocks < blocks))
 Refuses ReadFault blocks lead other lead_new other_new = (blocks ≤ lead.blocks) × (blocks ≤ other.blocks)
     × StaysButFaults lead lead_new × Rose lead.faults lead_new.faults × IsSameDisk other other_new
-    × KeepsPast other other_new
+    × KeepsPast other other_new × EndsAtRead blocks lead other other_new
 Refuses OutOfMemory blocks lead other lead_new other_new = (blocks ≤ lead.blocks) × (blocks ≤ other.blocks)
     × IsSameDisk other other_new × KeepsPast other other_new × KeepsCells other other_new
 

@@ -1,9 +1,10 @@
 //! The lead's cells are copied onto the other.
 //!
-//! Promise: the lead is only read, and what was copied is what the lead gives.
+//! Promise: the lead is only read, and what was copied is what the lead gives. Of each block the other
+//! has its own cell or the lead's, and a block that could not be read costs it none.
 ghost use Rattle.std.specs.Prelude.{◌≡◌, ℕ, ◌+◌, ◌<◌, ◌≤◌, IfErr, OnOk};
 ghost use Rattle.nofs_disk.specs.Disk.{IsSettled};
-ghost use Rattle.nofs_mirror.specs.Copying.{CopyCause, Copies, HasCopied};
+ghost use Rattle.nofs_mirror.specs.Copying.{CopiesBlocks, CopyCause, Copies, HasCopied, IsPartCopy, IsUntouched};
 
 use nofs_disk::{Cell, Disk};
 
@@ -29,6 +30,9 @@ fn copy_cell<A: Disk, B: Disk>(
     ensures copies { Copies (A.state lead.old) (A.state lead.new) (B.state other.old) (B.state other.new) }
     ensures copied { OnOk result ((k : ℕ) → HasCopied (A.state lead.old) (B.state other.old) k → block ≡ k
         → HasCopied (A.state lead.old) (B.state other.new) (k + 1)) }
+    ensures part { IsPartCopy (block + 1) (A.state lead.old) (B.state other.old) (B.state other.new) }
+    ensures moment { OnOk result ((B.state other.new).moment ≡ (B.state other.old).moment + 2) }
+    ensures untouched { IfErr result (λ fault. IsUntouched fault other.old other.new) }
     ensures spare { OnOk result ((B.state other.old).spare ≤ (B.state other.new).spare + 1) }
     ensures cause { IfErr result
         (λ fault. CopyCause fault (A.state lead.old) (A.state lead.new) (B.state other.old) (B.state other.new)) }
@@ -47,11 +51,9 @@ fn copy_cells<A: Disk, B: Disk>(lead: &mut A, other: &mut B, blocks: u64) -> Res
     requires lead { blocks ≤ (A.state lead.old).blocks }
     requires other { blocks ≤ (B.state other.old).blocks }
     requires spare { blocks + 1 ≤ (B.state other.old).spare }
-    ensures copies { Copies (A.state lead.old) (A.state lead.new) (B.state other.old) (B.state other.new) }
-    ensures copied { OnOk result (HasCopied (A.state lead.old) (B.state other.new) blocks) }
+    ensures copies { CopiesBlocks blocks (A.state lead.old) (A.state lead.new)
+        (B.state other.old) (B.state other.new) result }
     ensures spare { OnOk result (1 ≤ (B.state other.new).spare) }
-    ensures cause { IfErr result
-        (λ fault. CopyCause fault (A.state lead.old) (A.state lead.new) (B.state other.old) (B.state other.new)) }
 {
     let mut cell = Cell::ZERO;
     for block in 0..blocks {
@@ -72,11 +74,9 @@ pub(crate) fn copy_and_flush<A: Disk, B: Disk>(
     requires lead { blocks ≤ (A.state lead.old).blocks }
     requires other { blocks ≤ (B.state other.old).blocks }
     requires spare { blocks + 1 ≤ (B.state other.old).spare }
-    ensures copies { Copies (A.state lead.old) (A.state lead.new) (B.state other.old) (B.state other.new) }
-    ensures copied { OnOk result (HasCopied (A.state lead.old) (B.state other.new) blocks) }
+    ensures copies { CopiesBlocks blocks (A.state lead.old) (A.state lead.new)
+        (B.state other.old) (B.state other.new) result }
     ensures settled { OnOk result (IsSettled (B.state other.new)) }
-    ensures cause { IfErr result
-        (λ fault. CopyCause fault (A.state lead.old) (A.state lead.new) (B.state other.old) (B.state other.new)) }
 {
     match copy_cells(lead, other, blocks) {
         Ok(()) => match other.flush() {

@@ -117,7 +117,8 @@ fn ask_other<B: Disk>(other: &mut B, is_in: bool, block: u64, into: &mut Cell) -
 
 impl<A: Disk + Drop, B: Disk + Drop> Mirror<A, B> {
     /// A mirror of so many blocks over a lead and an other, onto which the lead's cells are copied.
-    /// Where the other could not be written or flushed it starts out.
+    /// Where the other could not be written or flushed it starts out. Each of its blocks has then its
+    /// own cell or the lead's; where the lead could not be read, those from that block on have their own.
     pub fn open(lead: A, other: B, blocks: u64) -> Result<Mirror<A, B>, MirrorFault<A, B>>
         ensures opens { IfOk result (λ m. OpensMirror (A.state lead) (B.state other) (A.state m.lead) (B.state m.other)
             (⟦<Mirror<A, B> as Disk>⟧.state m) blocks m.log.sides) }

@@ -257,6 +257,9 @@ cache_writes under first past entries after s t b at snap is low size begins dis
           let F : List Cell → Type 0 = λ l. Contains l x in
           elim (Contains-push_cases (h.may b) snap.value x (subst F (written_here h b snap.value) has))
           [ inl before ↦ inl before | inr is ↦ inr (sym is) ];
+      stays = λ x has.
+          let F : List Cell → Type 0 = λ l. Contains l x in
+          subst F (sym (written_here h b snap.value)) (Contains-append_left (h.may b) (snap.value ∷ []) x has);
       others = λ k other. written_other h b k snap.value other;
       during = λ image left.
           let w = left_during under.left first.moment past (Write b snap at) under.moment image left in

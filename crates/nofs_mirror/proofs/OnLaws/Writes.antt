@@ -16,16 +16,16 @@ use Rattle.nofs_mirror.specs.declared.sides.choices.MirrorStart.{MirrorStart}
 use Rattle.nofs_mirror.specs.declared.sides.past.MirrorCall.{MirrorCall}
 use Rattle.nofs_mirror.specs.declared.sides.past.Effect.TheVariants.{Write}
 use Rattle.nofs_mirror.specs.Sides.Calls.{SideWrites, any_done, answered_call, counted_if, is_asked, lead_stays}
-use Rattle.nofs_mirror.specs.Laws.{MirrorKeeps, told-Picks}
-use Rattle.nofs_mirror.specs.Mirror.{both_tell, flushed_cells, mirror_state, now_of}
+use Rattle.nofs_mirror.specs.Laws.{MirrorKeeps, told-Picks, told-has}
+use Rattle.nofs_mirror.specs.Mirror.{both_tell, flushed_cells, if_told, mirror_state, now_of}
 use Rattle.nofs_mirror.specs.Sides.Past.{mirror_calls}
 use Rattle.nofs_mirror.proofs.OnMirror.Calls.{Called, asked_kept, asked_now, called_during, called_goes, called_may}
 use Rattle.nofs_mirror.proofs.OnMirror.Calls.{called_tells, calls_sides, mirror_cause}
 use Rattle.nofs_mirror.proofs.OnMirror.Calls.{mirror_disk, mirror_no_fault, told_either, told_goes, told_set}
-use Rattle.nofs_mirror.proofs.OnMirror.Cells.{cells_of, may_of, on_err, on_ok, write_goes}
+use Rattle.nofs_mirror.proofs.OnMirror.Cells.{cells_of, may_of, on_err, on_ok, told_put, write_goes}
 use Rattle.nofs_mirror.proofs.OnMirror.Past.{past_moves, told_same}
 use Rattle.nofs_mirror.proofs.OnMirror.Writes.{side_leaves, write_err, write_mirrored, write_ok, written}
-use Rattle.nofs_mirror.proofs.OnMirror.Writes.{written_cases, written_other}
+use Rattle.nofs_mirror.proofs.OnMirror.Writes.{written_cases, written_grows, written_other}
 
 -- a write asks the sides
 pub record CalledWrite (lead lead_new other other_new first : DiskState) (opening : MirrorStart)
@@ -75,6 +75,7 @@ module _ {lead lead_new other other_new first : DiskState} {opening : MirrorStar
     err = on_err result _ (λ done. told_either _ _ now now_new b snap.value tells (err (sym is ∙ done)));
     may = λ c has. told_goes (both_tell lead other) (both_tell lead_new other_new) (may b) (may_new b) c
         (c ≡ snap.value) tells (may_goes c) has;
+    stays = λ c has. may_stays c (told-has (both_tell lead other) (may b) c has);
     others = λ k apart. told_same _ _ (may k) (may_new k) tells
         (written_other opening.blocks seen may_now b k snap apart ∙ called_may w.called k);
     during = λ image left. told-Picks (both_tell lead_new other_new) may_new opening.blocks image left.0
@@ -120,6 +121,13 @@ module _ {lead lead_new other other_new first : DiskState} {opening : MirrorStar
           subst F w.called.on_lead.asked
           (write_err a.answer o.answer opening.blocks b snap.value lead lead_new other other_new w.inside w.lead_writes
           w.other_writes done)
+
+      may_stays : (c : Cell) → IsTrue (both_tell lead other) × Contains (may b) c
+          → Contains (if_told (both_tell lead_new other_new) (may_new b)) c
+      may_stays c has =
+          let F : List Cell → Type 0 = λ l. Contains l c in
+          told_put (both_tell lead_new other_new) (may_new b) c (tells ∙ has.0)
+          (written_grows opening.blocks seen may_now b b snap c (subst F (sym (called_may w.called b)) has.1))
 
       may_goes : (c : Cell) → Contains (may_new b) c → Contains (may b) c ⊎ (c ≡ snap.value)
       may_goes c has = elim (written_cases opening.blocks seen may_now b b snap c has) [

@@ -17,7 +17,8 @@ use Rattle.nofs_mirror.specs.declared.sides.past.MirrorCall.{MirrorCall}
 use Rattle.nofs_mirror.specs.declared.sides.past.Span.{Span}
 use Rattle.nofs_mirror.specs.Sides.Calls.{Rests}
 use Rattle.nofs_mirror.specs.Laws.{MirrorKeeps, told-is}
-use Rattle.nofs_mirror.specs.Mirror.{EitherReads, IsFrom, IsMirrored, IsMirrorSide, IsSide, SideLeft, SideServes}
+use Rattle.nofs_mirror.specs.Mirror.{EitherReads, IsFrom, IsMirrored, IsMirrorSide, IsSide, LeftBy, SideLeft}
+use Rattle.nofs_mirror.specs.Mirror.{SideServes}
 use Rattle.nofs_mirror.specs.Mirror.{both_tell, last_span, mirror_state}
 use Rattle.nofs_mirror.specs.Mirror.{now_of, if_told}
 use Rattle.nofs_mirror.specs.Sides.Past.{mirror_calls}
@@ -123,35 +124,26 @@ module _ {lead lead_new other other_new : DiskState} {opening : MirrorStart} {pa
   }
 
 -- what a side that is in may leave at its present moment
+left_now : (leaves : ℕ → List Cell → Type 0) (n : ℕ) (is_in : Bool) (from at : ℕ) (whole : List Cell)
+    → IsTrue is_in → from ≤ at → leaves at whole → LeftBy leaves n is_in from at (take n whole)
+left_now leaves n is_in from at whole in_then low left = record {
+  in_then = in_then;
+  at = at;
+  low = low;
+  high = (omega arith);
+  whole = whole;
+  left = left;
+  first = refl;
+}
+
 left_here : (side : MirrorCall → Span) (leaves : ℕ → List Cell → Type 0) (n : ℕ) (opened : Span)
     (past : List MirrorCall) (at : ℕ) (whole : List Cell)
     → IsTrue (last_span side opened past).is_in → (last_span side opened past).ended ≡ at → leaves at whole
     → SideLeft side leaves n opened past at (2 * length past) (take n whole)
-left_here side leaves n opened [] at whole is_in ends left = (
-  refl,
-  record {
-    in_then = is_in;
-    at = at;
-    low = (omega arith);
-    high = (omega arith);
-    whole = whole;
-    left = left;
-    first = refl;
-  },
-)
+left_here side leaves n opened [] at whole is_in ends left =
+    (refl, left_now leaves n opened.is_in opened.ended at whole is_in (omega arith) left)
 left_here side leaves n opened (call ∷ past) at whole is_in ends left =
-    inl (
-      refl,
-      record {
-        in_then = is_in;
-        at = at;
-        low = (omega arith);
-        high = (omega arith);
-        whole = whole;
-        left = left;
-        first = refl;
-      },
-    )
+    inl (refl, left_now leaves n (side call).is_in (side call).ended at whole is_in (omega arith) left)
 
 -- a cell that a side that is in gave
 given : (n block : ℕ) (t : Bool) (side now : List Cell) (into : Cell) → block < n → IsTrue t → into ≡ cell_at side block

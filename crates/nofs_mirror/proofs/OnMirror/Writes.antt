@@ -48,7 +48,8 @@ written_cases n x may b k snap c has =
       | inr other ↦ inl (subst F (written_other n x may b k snap other) has)
     ]
 
-written_grows : (n : ℕ) (x : List Cell) (may : ℕ → List Cell) (b k : ℕ) (snap : Snapshot Cell) (c : Cell)
+-- a write takes no cell away that may be there
+pub written_grows : (n : ℕ) (x : List Cell) (may : ℕ → List Cell) (b k : ℕ) (snap : Snapshot Cell) (c : Cell)
     → Contains (may k) c
     → Contains (written n x may b snap k) c
 written_grows n x may b k snap c has =

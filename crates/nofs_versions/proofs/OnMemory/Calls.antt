@@ -1,7 +1,8 @@
 -- What a write and a flush of a disk in memory do, as every disk says it.
-use Rattle.std.proofs.Common.{◌≡◌, ◌≢◌, ◌⊎◌, ℕ, ◌+◌, ◌-◌, ◌*◌, ◌/◌, ◌<◌, ◌≤◌, if◌then◌else◌, nat_lt, Bool, true, false}
-use Rattle.std.proofs.Common.{List, [], ◌∷◌, ◌++◌, length}
-use Rattle.std.proofs.Common.{take, arith, inl, inr, refl, sym, ap, subst, ◌∙◌, Result, Ok, Err}
+use Rattle.std.proofs.Common.{◌≡◌, ◌≢◌, ◌⊎◌, ℕ, ◌+◌, ◌-◌, ◌*◌, ◌/◌, ◌<◌, ◌≤◌, if◌then◌else◌, nat_lt, eqb, Bool, true}
+use Rattle.std.proofs.Common.{false, List, [], ◌∷◌, ◌++◌, length}
+use Rattle.std.proofs.Common.{take, arith, inl, inr, refl, sym, ap, subst, ◌∙◌, eq-eqb, Result, Ok, Err}
+use Rattle.std.proofs.lemmas.List.Elements.{Contains-append_left}
 use Rattle.std.specs.Prelude.{Contains, OnErr, OnOk}
 use Rattle.std.proofs.lemmas.List.{length_push, take-append-le, take_all, take_at, get_or_append_left, get_or_at}
 use Rattle.nofs_disk.specs.declared.Failed.{Failed}
@@ -115,6 +116,20 @@ within_cases base calls block cell taken c low has =
       | inr is ↦ inr is
     ]
 
+within_stays : (base : List Cell) (calls : List Call) (block : ℕ) (cell : Cell) (taken : Bool) (c : Cell)
+    → block < length base
+    → Contains (within (length base) (held_after base calls).may block) c
+    → Contains (within (length base) (held_after base (calls ++ Write block cell taken ∷ [])).may block) c
+within_stays base calls block cell taken c low has =
+    let before = (within_has (length base) (held_after base calls).may block c has).1 in
+    let F : List Cell → Type 0 = λ l. Contains l c in
+    within_from (length base) (held_after base (calls ++ Write block cell taken ∷ [])).may block c low
+    (subst F (sym (may_of base calls block block cell taken)) (go taken (held_after base calls) before))
+  where
+    go : (t : Bool) (h : Held) → Contains (h.may block) c → Contains ((after_write t h block cell).may block) c
+    go false h was = was
+    go true h was = let e = eq-eqb block block refl in rw e (Contains-append_left (h.may block) (cell ∷ []) c was)
+
 within_others : (base : List Cell) (calls : List Call) (block b : ℕ) (cell : Cell) (taken : Bool) → b ≢ block
     → within (length base) (held_after base (calls ++ Write block cell taken ∷ [])).may b ≡ within (length base)
     (held_after base calls).may b
@@ -158,6 +173,7 @@ writes start base calls s t f g block cell taken result low room later went fail
       ∙ ap (λ t. (after_write t (held_after base calls) block cell).now) is) went;
   err = on_err result (λ rose. now_cases base calls block cell taken) failed;
   may = λ c has. within_cases base calls block cell taken c low has;
+  stays = λ c has. within_stays base calls block cell taken c low has;
   others = λ b other. within_others base calls block b cell taken other;
   during = within_during start base calls block cell taken;
   cause = failed;
