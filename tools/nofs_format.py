@@ -1,4 +1,6 @@
 """Reads an image of NoFS by docs/FORMAT.md and docs/DEFINITIONS.md alone, and changes nothing."""
+import contextlib
+import fcntl
 import mmap
 import os
 import struct
@@ -15,6 +17,24 @@ NO_NAMES = (b"", b".", b"..")
 
 class NoImage(Exception):
     """The file holds no image that can be mounted."""
+
+
+class InUse(OSError):
+    """A program has the image open."""
+
+    def __init__(self, path):
+        super().__init__(f"{path}: the image is in use")
+
+
+@contextlib.contextmanager
+def locked(path):
+    """Keeps an image from being served meanwhile, by a shared lock of its file: a program that serves it has the exclusive one."""
+    with open(path, "rb") as file:
+        try:
+            fcntl.flock(file, fcntl.LOCK_SH | fcntl.LOCK_NB)
+        except BlockingIOError:
+            raise InUse(path) from None
+        yield
 
 
 class Tag(NamedTuple):

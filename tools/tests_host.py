@@ -13,6 +13,7 @@ import nofs_format as nofs
 from tests_common import NOFS, Folders, read, run, serve, write
 
 DEVICE_FAULT = b"device fault\n"
+READ_FAULT, WRITE_FAULT = 18, 19            # numbers of refusals
 COMMANDS = (["new", "64", "16"], ["run"], ["scan"], ["upgrade"], ["salvage"], ["wire"], ["drill", "1", "1"])
 
 
@@ -93,7 +94,7 @@ class Files(Folders):
         write(self.image, b"")
         self.assertEqual(serve(self.image, b"stat @\n", status=4), ["mount: bad magic 0000000000000000"])
 
-    def test_a_file_that_is_cut_while_frames_are_served_loses_what_was_cut_alone(self):
+    def test_a_file_that_is_cut_while_frames_are_served_is_a_fault(self):
         serve(self.image, self.label(0x41), "new", "64", "16")
         blocks = self.blocks_of_label()
         for kept in (2, 7):
@@ -102,33 +103,46 @@ class Files(Folders):
                 wire = nofs_client.Wire(NOFS, self.image)
                 self.rewrite(wire, range(8), 0x42)
                 os.truncate(self.image, cut)
-                fields = [wire.ask(nofs_client.GET, nofs_client.handle((2, 2)) + struct.pack("<Q", slot)) for slot in range(8)]
-                self.assertLessEqual(set(fields), {b"\1" + b"\x42" * 1024, b"\3"})
-                self.rewrite(wire, [7], 0x43)
-                self.assertEqual(wire.close(), 0)
+                self.assertLessEqual({self.slot_or_fault(wire, slot) for slot in range(8)}, {0x42, READ_FAULT})
+                with self.assertRaises(nofs_client.Refused) as refused:
+                    self.rewrite(wire, [7], 0x43)
+                self.assertEqual(refused.exception.number, WRITE_FAULT)
+                self.assertEqual(wire.close(), 3)
                 below = [0x42 if block * nofs.CELL < cut else None for block in blocks]
-                self.assertEqual(self.slots(self.image), [*below[:7], 0x43])
+                self.assertEqual(len(read(self.image)), cut)
+                self.assertEqual(self.slots(self.image), below)
                 serve(self.image, self.label(0x41))
                 blocks = self.blocks_of_label()
+
+    def slot_or_fault(self, wire, slot):
+        """The byte of a slot, or the number of the refusal."""
+        try:
+            field = wire.ask(nofs_client.GET, nofs_client.handle((2, 2)) + struct.pack("<Q", slot))
+        except nofs_client.Refused as refused:
+            return refused.number
+        self.assertEqual(field, b"\1" + field[1:2] * 1024)
+        return field[1]
 
     def rewrite(self, wire, slots, byte):
         for slot in slots:
             wire.claim(nofs_client.PUT, nofs_client.handle((2, 2)) + struct.pack("<QI", slot, 0) + bytes([byte]) * 1024)
         wire.ask(nofs_client.FLUSH, nofs_client.handle((2, 2)))
 
-    def test_a_file_that_is_cut_in_the_middle_of_a_session_keeps_what_is_written_later(self):
+    def test_a_file_that_is_cut_in_the_middle_of_a_session_is_a_fault_and_keeps_what_was_synced(self):
         serve(self.image, self.label(0), "new", "64", "16")
         lowest, blocks = sorted(self.blocks_of_label())[1], self.blocks_of_label()
         puts = [(number % 8, number % 256) for number in range(800)]
         session = b"".join(b"put @ %d %b\nfsync @\nget @ %d 1\n" % (1024 * slot, b"%02x" % byte * 1024, 1024 * slot) for slot, byte in puts)
         lines = self.served_with_cut(session, lowest * nofs.CELL)
-        self.assertEqual(lines[:-1:3] + lines[1::3], ["put 1024"] * len(puts) + ["synced"] * len(puts))
-        for line, (_, byte) in zip(lines[2::3], puts):
-            self.assertIn(line, (f"got bytes:{byte:02x}", "got lost:1"))
-        last = dict(puts)
-        self.assertEqual(self.slots(self.image)[0], last[0])
+        synced = lines.count("synced")
+        whole = [line for _, byte in puts[:synced] for line in ("put 1024", "synced", f"got bytes:{byte:02x}")]
+        self.assertEqual(lines[:3 * synced], whole)
+        self.assertEqual(lines[3 * synced:][:2], ["put 1024", "refused 19 write fault"])
+        self.assertEqual({line.partition(",")[0] for line in lines[3 * synced:][2:]}, {"refused 20 stopped"})
+        last = {slot: 0 for slot in range(8)} | dict(puts[:synced])
+        cut_in = {slot: byte for slot, byte in puts[synced:synced + 1]}
         for slot, byte in enumerate(self.slots(self.image)):
-            self.assertIn(byte, (last[slot], None) if blocks[slot] >= lowest else (last[slot],))
+            self.assertIn(byte, (None,) if blocks[slot] >= lowest else (last[slot], cut_in.get(slot, last[slot])))
 
     def served_with_cut(self, session, cut):
         """The lines of a session in whose middle the file is cut."""
@@ -140,7 +154,7 @@ class Files(Folders):
             self.stop_while_served(program, before)
             os.truncate(self.image, cut)
             program.send_signal(signal.SIGCONT)
-            self.assertEqual(program.wait(120), 0)
+            self.assertEqual(program.wait(120), 3)
         return read(self.at("lines")).decode().splitlines()
 
     def stop_while_served(self, program, before):

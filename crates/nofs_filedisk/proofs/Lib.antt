@@ -1,4 +1,3 @@
 pub mod OnMoving
 pub mod OnWindows
-pub mod OnRun
 pub mod OnFiledisk

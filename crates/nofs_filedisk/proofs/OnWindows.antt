@@ -75,7 +75,7 @@ cell-alone bytes w block cell size shown payload tag =
     λ i. record { payload = one i; tag = two i }
 
 -- a window of other cells
-apart : (block n : ℕ) (part a b w : List ℕ) → length part ≤ 1056 → IsPut (1056 * block) part a b
+apart : (block n : ℕ) (part a b w : List ℕ) → 1056 * (block % 64) + length part ≤ 67584 → IsPut (1056 * block) part a b
     → n ≢ block / 64 → length w ≤ 67584 → IsPart a (67584 * n) w
     → IsPart b (67584 * n) w
 apart block n part a b w short put other size shown k low =
@@ -91,47 +91,48 @@ apart block n part a b w short put other size shown k low =
     ])
 
 pub kept-apart : (number : Option ℕ) (block : ℕ) (part a b w : List ℕ)
-    → length part ≤ 1056 → IsPut (1056 * block) part a b → number ≢ Some (block / 64)
+    → 1056 * (block % 64) + length part ≤ 67584 → IsPut (1056 * block) part a b → number ≢ Some (block / 64)
     → length w ≤ 67584
     → ((n : ℕ) → number ≡ Some n → IsPart a (67584 * n) w) → (n : ℕ) → number ≡ Some n → IsPart b (67584 * n) w
 kept-apart number block part a b w short put other size shown n is =
     apart block n part a b w short put (λ same. other (is ∙ ap Some same)) size (shown n is)
 
 -- the window of the block
-pub put-shown : (block at : ℕ) (cell a b w : List ℕ) → at ≡ 1056 * (block % 64)
-    → length cell ≡ 1056 → IsPut (1056 * block) cell a b → length w ≡ 67584
+pub put-shown : (block at : ℕ) (part a b w : List ℕ) → at ≡ 1056 * (block % 64)
+    → at + length part ≤ 67584 → IsPut (1056 * block) part a b → length w ≡ 67584
     → IsPart a (67584 * (block / 64)) w
-    → IsPart b (67584 * (block / 64)) (put_bytes at cell w)
-put-shown block at cell a b w is len put size shown k low =
+    → IsPart b (67584 * (block / 64)) (put_bytes at part w)
+put-shown block at part a b w is fits_window put size shown k low =
     let whole = block-place block in
     let small : block % 64 < 64 = omega arith in
     let fits : at ≤ length w = omega arith in
-    let same_size = length-put_bytes at cell w (omega arith) in
+    let same_size = length-put_bytes at part w (omega arith) in
     elim (cases_lt k at) [
-      | inl front ↦ put-before at k cell w fits front ∙ shown k (omega arith)
+      | inl front ↦ put-before at k part w fits front ∙ shown k (omega arith)
           ∙ sym (put.before (67584 * (block / 64) + k) (omega arith))
-      | inr rest ↦ elim (cases_lt k (at + 1056)) [
+      | inr rest ↦ elim (cases_lt k (at + length part)) [
         | inl inside ↦
             let index : at + (k - at) ≡ k = omega arith in
             let place : 1056 * block + (k - at) ≡ 67584 * (block / 64) + k = omega arith in
-            ap (slice_index (put_bytes at cell w)) (sym index) ∙ put-inside at (k - at) cell w fits (omega arith)
+            ap (slice_index (put_bytes at part w)) (sym index) ∙ put-inside at (k - at) part w fits (omega arith)
             ∙ sym (put.inside (k - at) (omega arith))
             ∙ ap (slice_index b) place
-        | inr behind ↦ put-behind at k cell w fits (omega arith) ∙ shown k (omega arith)
+        | inr behind ↦ put-behind at k part w fits (omega arith) ∙ shown k (omega arith)
             ∙ sym (put.behind (67584 * (block / 64) + k) (omega arith))
       ]
     ]
 
-pub put-known : (number : Option ℕ) (block at : ℕ) (cell a b w new : List ℕ) → number ≡ Some (block / 64)
-    → at ≡ 1056 * (block % 64) → length cell ≡ 1056
-    → IsPut (1056 * block) cell a b → length w ≡ 67584
-    → new ≡ put_bytes at cell w → ((n : ℕ) → number ≡ Some n → IsPart a (67584 * n) w) → (n : ℕ) → number ≡ Some n
+pub put-known : (number : Option ℕ) (block at : ℕ) (part a b w new : List ℕ) → number ≡ Some (block / 64)
+    → at ≡ 1056 * (block % 64) → 1056 * (block % 64) + length part ≤ 67584
+    → IsPut (1056 * block) part a b → length w ≡ 67584
+    → new ≡ put_bytes at part w → ((n : ℕ) → number ≡ Some n → IsPart a (67584 * n) w) → (n : ℕ) → number ≡ Some n
     → IsPart b (67584 * n) new
-put-known number block at cell a b w new has is len put size same shown n named =
+put-known number block at part a b w new has is fits put size same shown n named =
     let number_is : block / 64 ≡ n = same_Some (block / 64) n (sym has ∙ named) in
     let F : ℕ → Type 0 = λ m. IsPart b (67584 * m) new in
     let G : List ℕ → Type 0 = λ l. IsPart b (67584 * (block / 64)) l in
-    subst F number_is (subst G (sym same) (put-shown block at cell a b w is len put size (shown (block / 64) has)))
+    subst F number_is
+    (subst G (sym same) (put-shown block at part a b w is (omega arith) put size (shown (block / 64) has)))
 
 -- Window after window
 
@@ -173,3 +174,13 @@ pub half-next : (old new : List ℕ) (at : ℕ) (windows : List Window) (was now
 half-next old new at windows was now inside is half step =
     half-more old new at windows now inside half
     (step (subst (IsShown old) (sym is) (half.left at was (omega arith) inside)))
+
+-- windows that show nothing
+pub nothing-shown : (bytes : List ℕ) (at : ℕ) (windows : List Window)
+    → length windows ≤ at → AllWithin (λ (w : Window). w.number ≡ None) windows 0 at
+    → All (IsShown bytes) windows
+nothing-shown bytes at windows all none =
+    λ k d low n named. absurd (not_both n (sym (none k d (omega arith) (omega arith)) ∙ named))
+  where
+    not_both : (n : ℕ) → None ≡ Some n → ⊥
+    not_both n e = cc

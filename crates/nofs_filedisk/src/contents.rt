@@ -5,15 +5,15 @@
 //! its bytes are durable.
 //!
 //! A write puts its cell into the run, with no call of the file, where it is one of the run's or the one
-//! behind them. Where it has no place there, the run is put into the file first, in one row of calls;
+//! before or behind them. Where it has no place there, the run is put into the file first, in one row of calls;
 //! where that fails, the run stays as it is, and hides what stands in the file in its place.
-ghost use Rattle.std.specs.Prelude.{◌≡◌, ◌+◌, ◌*◌, ◌<◌, ◌≤◌, ℕ, All, IfOk, IsTrue, List, OnErr, OnOk, take};
+ghost use Rattle.std.specs.Prelude.{◌≡◌, ◌<◌, ◌≤◌, IfOk, IsTrue, List, OnErr, OnOk};
 ghost use Rattle.nofs_disk.specs.declared.tag.Cell.{Cell};
 ghost use Rattle.nofs_disk.specs.Disk.{Rose, cell_at};
-ghost use Rattle.nofs_filedisk.specs.Bytes.{IsPut, KeepsBytes, KeepsDurable};
+ghost use Rattle.nofs_filedisk.specs.Bytes.{KeepsBytes, KeepsDurable};
 ghost use Rattle.nofs_filedisk.specs.Present.{HasAllCells, HasPlace, IsPresent, LastsOrPresent, StaysPresent};
 ghost use Rattle.nofs_filedisk.specs.Present.{TakesCell};
-ghost use Rattle.nofs_filedisk.specs.Windows.{IsShown, ShowsFile};
+ghost use Rattle.nofs_filedisk.specs.Windows.{ShowsFile};
 
 use crate::moving::write_part;
 use crate::positioned::Positioned;
@@ -29,18 +29,6 @@ pub struct Contents<B: Positioned + Drop> {
     pub run: Run,
     windows: Windows,
     ghost shows: { ShowsFile (B.state file) windows },
-}
-
-// The windows show the cells of a run that was put into the file.
-fn show(run: &Run, windows: &mut Windows)
-    requires { 0 < run.now.count }
-    ensures { (old new : List ℕ)
-        → IsPut (1056 * run.now.first) (take (1056 * run.now.count) run.now.bytes.items) old new
-        → All (IsShown old) windows.old.windows.items → All (IsShown new) windows.new.windows.items }
-{
-    for place in 0..run.count {
-        windows.put(run.first + place, run.bytes_at(place));
-    }
 }
 
 impl<B: Positioned + Drop> Contents<B> {
@@ -146,7 +134,7 @@ impl<B: Positioned + Drop> Contents<B> {
             self.run.bytes(),
         ) {
             Ok(()) => {
-                show(&self.run, &mut self.windows);
+                self.windows.put(self.run.first, self.run.bytes());
                 Ok(())
             }
             Err(_) => {

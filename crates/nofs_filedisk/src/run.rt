@@ -1,22 +1,18 @@
 //! The cells that were written last and are not yet in the file, where they are of neighbouring blocks.
 //!
 //! Promise: a cell that is put is given back, and those beside it stay.
-ghost use Rattle.std.specs.Prelude.{◌≡◌, ◌≢◌, ◌⊎◌, ℕ, ◌+◌, ◌-◌, ◌*◌, ◌<◌, ◌≤◌, IfOk, IsFalse, IsTrue, length, max};
-ghost use Rattle.std.specs.Prelude.{slice_range, take};
+//!
+//! A run lies within the blocks of one window, and each cell has its place among the window's bytes from the start. So
+//! it grows at both ends, whether the blocks come in rising order or in falling order, and one window shows all of it.
+ghost use Rattle.std.specs.Prelude.{◌≡◌, ◌≢◌, ◌⊎◌, ℕ, ◌+◌, ◌*◌, ◌%◌, ◌<◌, ◌≤◌, IfOk, IsFalse, IsTrue, length, max, min};
 ghost use Rattle.nofs_disk.specs.Number.{put_bytes};
 ghost use Rattle.nofs_filedisk.specs.Cells.{cell_in};
 
-use crate::windows::{CELL_BYTES, copy_cell, zeros};
+use crate::windows::{CELL_BYTES, WINDOW_BYTES, WINDOW_CELLS, copy_cell, place_of, zeros};
 use nofs_disk::{Cell, write_bytes_at};
 use std::alloc::{AllocError, Global};
 
-/// How many cells a run has at most.
-const RUN_CELLS: u64 = 64;
-
-/// How many bytes those have.
-const RUN_BYTES: usize = 67_584;
-
-/// Cells of neighbouring blocks.
+/// Cells of neighbouring blocks of one window.
 #[derive(Drop)]
 pub struct Run {
     /// The block of the first cell.
@@ -25,8 +21,8 @@ pub struct Run {
     pub count: u64,
     bytes: Vec<u8>,
     ghost size: { length bytes.items ≡ 67584 },
-    ghost few: { count ≤ 64 },
-    ghost inside: { first + count ≤ 1048576 },
+    ghost inside: { first < 1048576 },
+    ghost within: { first % 64 + count ≤ 64 },
 }
 
 // Puts a cell at a place of some bytes.
@@ -41,7 +37,7 @@ fn put_parts(bytes: &mut Vec<u8>, at: usize, cell: &Cell)
 }
 
 impl Run {
-    ghost use Rattle.nofs_filedisk.specs.Present.{HasPlace};
+    ghost use Rattle.nofs_filedisk.specs.Present.{HasPlace, run_bytes};
 
     /// No cell.
     pub fn new(alloc: Global) -> Result<Run, AllocError>
@@ -50,7 +46,7 @@ impl Run {
         Ok(Run {
             first: 0,
             count: 0,
-            bytes: zeros(alloc, RUN_BYTES)?,
+            bytes: zeros(alloc, WINDOW_BYTES)?,
         })
     }
 
@@ -66,17 +62,20 @@ impl Run {
     pub fn cell(&self, block: u64, into: &mut Cell)
         requires low { self.now.first ≤ block }
         requires high { block < self.now.first + self.now.count }
-        ensures { into.new ≡ cell_in self.now.bytes.items (block - self.now.first) }
+        ensures { into.new ≡ cell_in self.now.bytes.items (block % 64) }
     {
-        let at = CELL_BYTES * (block - self.first) as usize;
-        copy_cell(self.bytes.as_slice(), at, into);
+        copy_cell(self.bytes.as_slice(), place_of(block), into);
     }
 
-    /// Whether the cell of a block has a place in it.
+    /// Whether the cell of a block has a place in it: in the same window it is one of its cells, the one before them or
+    /// the one behind them.
     pub fn takes(&self, block: u64) -> bool
+        requires { block < 1048576 }
         ensures { IsTrue result → HasPlace self.now block }
     {
-        self.first <= block && block <= self.first + self.count && block < self.first + RUN_CELLS
+        block / WINDOW_CELLS == self.first / WINDOW_CELLS
+            && self.first <= block + 1
+            && block <= self.first + self.count
     }
 
     /// No cell again, before that of a block.
@@ -93,31 +92,25 @@ impl Run {
     pub fn put(&mut self, block: u64, cell: &Cell)
         requires block { block < 1048576 }
         requires place { HasPlace self.old block }
-        ensures first { self.new.first ≡ self.old.first }
-        ensures count { self.new.count ≡ max self.old.count (block - self.old.first + 1) }
-        ensures here { cell_in self.new.bytes.items (block - self.old.first) ≡ cell.now }
+        ensures first { self.new.first ≡ min self.old.first block }
+        ensures end { self.new.first + self.new.count ≡ max (self.old.first + self.old.count) (block + 1) }
+        ensures here { cell_in self.new.bytes.items (block % 64) ≡ cell.now }
         ensures others { (k : ℕ)
-            → k ≢ block - self.old.first → cell_in self.new.bytes.items k ≡ cell_in self.old.bytes.items k }
+            → k ≢ block % 64 → cell_in self.new.bytes.items k ≡ cell_in self.old.bytes.items k }
     {
         cell.note_sizes();
-        let place = block - self.first;
-        put_parts(&mut self.bytes, CELL_BYTES * place as usize, cell);
-        self.count = self.count.max(place + 1);
+        put_parts(&mut self.bytes, place_of(block), cell);
+        let end = (self.first + self.count).max(block + 1);
+        self.first = self.first.min(block);
+        self.count = end - self.first;
     }
 
-    /// The bytes of all its cells.
+    /// The bytes of its cells.
     pub fn bytes(&self) -> &[u8]
-        ensures { result.now ≡ take (1056 * self.now.count) self.now.bytes.items }
+        ensures value { result.now ≡ run_bytes self.now }
+        ensures len { length result.now ≡ 1056 * self.now.count }
     {
-        &self.bytes.as_slice()[..CELL_BYTES * self.count as usize]
-    }
-
-    /// The bytes of one of its cells.
-    pub fn bytes_at(&self, place: u64) -> &[u8]
-        requires { place < self.now.count }
-        ensures { result.now ≡ slice_range self.now.bytes.items (1056 * place) (1056 * place + 1056) }
-    {
-        let at = CELL_BYTES * place as usize;
-        &self.bytes.as_slice()[at..at + CELL_BYTES]
+        let at = place_of(self.first);
+        &self.bytes.as_slice()[at..at + CELL_BYTES * self.count as usize]
     }
 }

@@ -23,10 +23,10 @@ use std::alloc::{AllocError, Global};
 pub const CELL_BYTES: usize = 1_056;
 
 /// How many cells a window shows.
-const WINDOW_CELLS: u64 = 64;
+pub const WINDOW_CELLS: u64 = 64;
 
 /// How many bytes a window shows.
-const WINDOW_BYTES: usize = 67_584;
+pub const WINDOW_BYTES: usize = 67_584;
 
 /// How many windows are kept.
 const WINDOWS: usize = 8;
@@ -101,8 +101,8 @@ impl Lone {
     }
 }
 
-// A block's place in its window.
-fn place_of(block: u64) -> usize
+/// A block's place in its window.
+pub fn place_of(block: u64) -> usize
     ensures value { result ≡ 1056 * (block % 64) }
     ensures fits { result + 1056 ≤ 67584 }
 {
@@ -154,12 +154,12 @@ pub fn copy_cell(bytes: &[u8], at: usize, into: &mut Cell)
     into.tag.copy_from_slice(&bytes[at + 1024..at + 1056]);
 }
 
-// Puts a cell at its place.
-fn put_cell(bytes: &mut Vec<u8>, at: usize, cell: &[u8])
-    requires { at + length cell.now ≤ length bytes.old.items }
-    ensures { bytes.new.items ≡ put_bytes at cell.now bytes.old.items }
+// Puts some bytes at their place.
+fn put_part(bytes: &mut Vec<u8>, at: usize, part: &[u8])
+    requires { at + length part.now ≤ length bytes.old.items }
+    ensures { bytes.new.items ≡ put_bytes at part.now bytes.old.items }
 {
-    write_bytes_at(bytes.as_mut_slice(), at, cell);
+    write_bytes_at(bytes.as_mut_slice(), at, part);
 }
 
 impl Window {
@@ -232,14 +232,14 @@ impl Window {
         self.number = None;
     }
 
-    // A cell of the file was written.
-    fn put(&mut self, block: u64, cell: &[u8])
-        requires { length cell.now ≡ 1056 }
-        ensures { (old new : List ℕ) → IsPut (1056 * block) cell.now old new → IsShown old self.old
+    // Bytes of the file were written, those of a block first.
+    fn put(&mut self, block: u64, part: &[u8])
+        requires { 1056 * (block % 64) + length part.now ≤ 67584 }
+        ensures { (old new : List ℕ) → IsPut (1056 * block) part.now old new → IsShown old self.old
             → IsShown new self.new }
     {
         if self.has(block) {
-            put_cell(&mut self.bytes, place_of(block), cell);
+            put_part(&mut self.bytes, place_of(block), part);
         }
     }
 }
@@ -350,14 +350,14 @@ impl Windows {
         Ok(at)
     }
 
-    /// A cell of the file was written.
-    pub fn put(&mut self, block: u64, cell: &[u8])
-        requires { length cell.now ≡ 1056 }
-        ensures { (old new : List ℕ) → IsPut (1056 * block) cell.now old new
+    /// Bytes of the file were written, those of a block first, and all within a window.
+    pub fn put(&mut self, block: u64, part: &[u8])
+        requires { 1056 * (block % 64) + length part.now ≤ 67584 }
+        ensures { (old new : List ℕ) → IsPut (1056 * block) part.now old new
             → All (IsShown old) self.old.windows.items → All (IsShown new) self.new.windows.items }
     {
         for at in 0..WINDOWS {
-            self.windows[at].put(block, cell);
+            self.windows[at].put(block, part);
         }
     }
 

@@ -47,6 +47,7 @@ told_writes t u n d e block cell result same blocks w = record {
   ok = w.ok;
   err = w.err;
   may = w.may;
+  stays = w.stays;
   others = w.others;
   during = λ image left.
       let F : ℕ → Type 0 = λ k. Picks e.may k image in

@@ -1,5 +1,6 @@
 -- What reads give, before and after a write.
-use Rattle.std.proofs.Common.{◌≡◌, ◌≢◌, ◌⊎◌, ℕ, ◌+◌, ◌-◌, ◌*◌, ◌<◌, ◌≤◌, max, List, length, take, drop, set, arith}
+use Rattle.std.proofs.Common.{◌≡◌, ◌≢◌, ◌⊎◌, ℕ, ◌+◌, ◌-◌, ◌*◌, ◌%◌, ◌<◌, ◌≤◌, max, min, List, length, take, drop, set}
+use Rattle.std.proofs.Common.{arith}
 use Rattle.std.proofs.Common.{refl, sym, ap, ◌∙◌, inl, inr}
 use Rattle.std.specs.Prelude.{slice_index, slice_range}
 use Rattle.std.proofs.lemmas.Bool.{cases_eq, cases_lt}
@@ -13,7 +14,7 @@ use Rattle.nofs_disk.specs.Disk.{cell_at, no_cell}
 use Rattle.nofs_filedisk.specs.Bytes.{IsPartlyPut, IsPut}
 use Rattle.nofs_filedisk.specs.Cells.{cell_in, part_of}
 use Rattle.nofs_filedisk.specs.Files.{at-cells_in, cells_in}
-use Rattle.nofs_filedisk.specs.Present.{HasPlace, IsPresent}
+use Rattle.nofs_filedisk.specs.Present.{HasPlace, IsPresent, run_bytes}
 use Rattle.nofs_filedisk.specs.declared.run.Run.{Run}
 use Rattle.nofs_filedisk.proofs.OnMoving.Bytes.{put-before, put-behind, put-inside}
 
@@ -93,10 +94,8 @@ cell-beside bytes new j at k cell is fits payload tag put other =
 -- reads of a block that the run has, and of another
 pub read-inside : (bytes : List ℕ) (run : Run) (now : List Cell) (block : ℕ) (into : Cell)
     → run.first ≤ block → block < run.first + run.count
-    → into ≡ cell_in run.bytes.items (block - run.first) → IsPresent bytes run now → into ≡ cell_at now block
-read-inside bytes run now block into low high is p =
-    let e : run.first + (block - run.first) ≡ block = omega arith in
-    is ∙ sym (p.inside (block - run.first) (omega arith)) ∙ ap (cell_at now) e
+    → into ≡ cell_in run.bytes.items (block % 64) → IsPresent bytes run now → into ≡ cell_at now block
+read-inside bytes run now block into low high is p = is ∙ sym (p.inside block low high)
 
 pub read-outside : (bytes : List ℕ) (run : Run) (now : List Cell) (block : ℕ) (into : Cell) → block < 1048576
     → (block < run.first) ⊎ (run.first + run.count ≤ block) → into ≡ cell_in bytes block → IsPresent bytes run now
@@ -107,7 +106,7 @@ read-outside bytes run now block into there (inr high) is p = is ∙ sym (p.behi
 -- at first there is no run
 pub present-first : (bytes : List ℕ) (run : Run) → run.count ≡ 0 → IsPresent bytes run (cells_in bytes)
 present-first bytes run none = record {
-  inside = λ k low. absurd (omega arith);
+  inside = λ b low high. absurd (omega arith);
   before = λ b there low. at-cells_in bytes b there;
   behind = λ b there low. at-cells_in bytes b there;
 }
@@ -123,46 +122,64 @@ pub present-none : (bytes : List ℕ) (next : Run) (now : List Cell)
     → next.count ≡ 0 → ((b : ℕ) → b < 1048576 → cell_at now b ≡ cell_in bytes b)
     → IsPresent bytes next now
 present-none bytes next now none all = record {
-  inside = λ k low. absurd (omega arith);
+  inside = λ b low high. absurd (omega arith);
   before = λ b there low. all b there;
   behind = λ b there low. all b there;
 }
 
--- the run was put into the file
-pub present-out : (a b : List ℕ) (run : Run) (now : List Cell)
-    → IsPut (1056 * run.first) (take (1056 * run.count) run.bytes.items) a b → IsPresent a run now
-    → (block : ℕ) → block < 1048576 → cell_at now block ≡ cell_in b block
-present-out a b run now put p block there =
-    let part = take (1056 * run.count) run.bytes.items in
+-- the place of a cell of a run, and the bytes of all
+place-in : (first count block : ℕ) → first % 64 + count ≤ 64 → first ≤ block → block < first + count
+    → block % 64 ≡ first % 64 + (block - first)
+place-in first count block within low high = omega arith
+
+pub length-run_bytes : (run : Run) → length (run_bytes run) ≡ 1056 * run.count
+length-run_bytes run =
     let size = run.size in
-    let few = run.few in
-    let len : length part ≡ 1056 * run.count = length-take-le (1056 * run.count) run.bytes.items (omega arith) in
+    let within = run.within in
+    let at : ℕ = 1056 * (run.first % 64) in
+    let cut : at + 1056 * run.count - at ≡ 1056 * run.count = omega arith in
+    let rest = length-drop at run.bytes.items in
+    ap (λ n. length (take n (drop at run.bytes.items))) cut
+    ∙ length-take-le (1056 * run.count) (drop at run.bytes.items) (omega arith)
+
+at-run_bytes : (run : Run) (k : ℕ) → k < 1056 * run.count
+    → slice_index (run_bytes run) k ≡ slice_index run.bytes.items (1056 * (run.first % 64) + k)
+at-run_bytes run k low =
+    let at : ℕ = 1056 * (run.first % 64) in
+    let cut : at + 1056 * run.count - at ≡ 1056 * run.count = omega arith in
+    ap (λ n. slice_index (take n (drop at run.bytes.items)) k) cut
+    ∙ get_or-take (1056 * run.count) (drop at run.bytes.items) k 0 low
+    ∙ get_or-drop at run.bytes.items k 0
+
+-- the run was put into the file
+pub present-out : (a b part : List ℕ) (run : Run) (now : List Cell) → part ≡ run_bytes run
+    → IsPut (1056 * run.first) part a b → IsPresent a run now
+    → (block : ℕ) → block < 1048576 → cell_at now block ≡ cell_in b block
+present-out a b part run now is put p block there =
+    let len = ap length is ∙ length-run_bytes run in
     elim (cases_lt block run.first) [
       | inl low ↦ p.before block there low
           ∙ cell-same a b block block (λ x small. sym (put.before (1056 * block + x) (omega arith)))
-      | inr high ↦ elim (cases_lt block (run.first + run.count)) [
-        | inl inside ↦
-            let k : ℕ = block - run.first in
-            let e : block ≡ run.first + (block - run.first) = omega arith in
-            ap (cell_at now) e ∙ p.inside (block - run.first) (omega arith)
-            ∙ cell-same run.bytes.items b (block - run.first) block (λ x small.
-            let place : 1056 * run.first + (1056 * (block - run.first) + x) ≡ 1056 * block + x = omega arith in
-            sym (get_or-take (1056 * run.count) run.bytes.items (1056 * (block - run.first) + x) 0 (omega arith))
-            ∙ sym (put.inside (1056 * (block - run.first) + x) (omega arith)) ∙ ap (slice_index b) place)
+      | inr low ↦ elim (cases_lt block (run.first + run.count)) [
+        | inl high ↦ p.inside block low high
+            ∙ cell-same run.bytes.items b (block % 64) block (λ x small.
+            let k : ℕ = 1056 * (block - run.first) + x in
+            let in_run = place-in run.first run.count block run.within low high in
+            let place : 1056 * run.first + k ≡ 1056 * block + x = omega arith in
+            let within : 1056 * (block % 64) + x ≡ 1056 * (run.first % 64) + k = omega arith in
+            ap (slice_index run.bytes.items) within ∙ sym (at-run_bytes run k (omega arith))
+            ∙ ap (λ l. slice_index l k) (sym is) ∙ sym (put.inside k (omega arith)) ∙ ap (slice_index b) place)
         | inr behind ↦ p.behind block there behind
             ∙ cell-same a b block block (λ x small. sym (put.behind (1056 * block + x) (omega arith)))
       ]
     ]
 
 -- the run was put into the file in part
-pub present-partly : (a b : List ℕ) (run : Run) (now : List Cell)
-    → IsPartlyPut (1056 * run.first) (take (1056 * run.count) run.bytes.items) a b
+pub present-partly : (a b part : List ℕ) (run : Run) (now : List Cell) → part ≡ run_bytes run
+    → IsPartlyPut (1056 * run.first) part a b
     → IsPresent a run now → IsPresent b run now
-present-partly a b run now partly p =
-    let part = take (1056 * run.count) run.bytes.items in
-    let size = run.size in
-    let few = run.few in
-    let len : length part ≡ 1056 * run.count = length-take-le (1056 * run.count) run.bytes.items (omega arith) in
+present-partly a b part run now is partly p =
+    let len = ap length is ∙ length-run_bytes run in
     let fits = partly.fits in
     let short : length (take partly.count part) ≡ partly.count = length-take-le partly.count part fits in
     record {
@@ -174,28 +191,46 @@ present-partly a b run now partly p =
     }
 
 -- a cell was put into the run
+grown-inside : (first count first' count' block b : ℕ) → first' ≡ min first block
+    → first' + count' ≡ max (first + count) (block + 1) → first ≤ block + 1 → block ≤ first + count
+    → first' ≤ b → b < first' + count' → b ≢ block
+    → (first ≤ b) × (b < first + count)
+grown-inside first count first' count' block b begin end low high from to other =
+    elim (cases_lt b block) [
+      | inl under ↦ (omega arith, omega arith)
+      | inr over ↦
+          let above : block < b =
+          elim (cases_lt block b) [ inl strictly ↦ strictly | inr same ↦ absurd (other (omega arith)) ] in
+          (omega arith, omega arith)
+    ]
+
+other-place : (first count block b : ℕ) → first % 64 + count ≤ 64 → first ≤ block → block < first + count
+    → first ≤ b → b < first + count → b ≢ block → b % 64 ≢ block % 64
+other-place first count block b within low high from to other same =
+    let one = place-in first count block within low high in
+    let two = place-in first count b within from to in
+    other (omega arith)
+
 pub present-put : (bytes : List ℕ) (run next : Run) (now : List Cell) (block : ℕ) (cell : Cell) → HasPlace run block
     → block < 1048576
-    → next.first ≡ run.first → next.count ≡ max run.count (block - run.first + 1)
-    → cell_in next.bytes.items (block - run.first) ≡ cell
-    → ((k : ℕ) → k ≢ block - run.first → cell_in next.bytes.items k ≡ cell_in run.bytes.items k)
+    → next.first ≡ min run.first block → next.first + next.count ≡ max (run.first + run.count) (block + 1)
+    → cell_in next.bytes.items (block % 64) ≡ cell
+    → ((k : ℕ) → k ≢ block % 64 → cell_in next.bytes.items k ≡ cell_in run.bytes.items k)
     → length now ≡ 1048576 → IsPresent bytes run now
     → IsPresent bytes next (set now block cell)
-present-put bytes run next now block cell has there first count here others size p =
+present-put bytes run next now block cell has there first end here others size p =
     let low = has.low in
-    let before_next = has.next in
+    let high = has.high in
     record {
-      inside = λ k small. elim (cases_eq k (block - run.first)) [
+      inside = λ b from to. elim (cases_eq b block) [
         | inl same ↦
-            let e : next.first + k ≡ block = omega arith in
-            ap (cell_at (set now block cell)) e ∙ get_or-set_same now block cell no_cell (omega arith) ∙ sym here
-            ∙ ap (cell_in next.bytes.items) (sym same)
+            ap (cell_at (set now block cell)) same ∙ get_or-set_same now block cell no_cell (omega arith) ∙ sym here
+            ∙ ap (λ k. cell_in next.bytes.items (k % 64)) (sym same)
         | inr other ↦
-            let place : next.first + k ≡ run.first + k = omega arith in
-            let apart : run.first + k ≢ block = λ e. other (omega arith) in
-            let within : k < run.count = inside_old k run.count (block - run.first) (omega arith) (omega arith) other in
-            ap (cell_at (set now block cell)) place ∙ get_or-set_other now block (run.first + k) cell no_cell apart
-            ∙ p.inside k within ∙ sym (others k other)
+            let old = grown-inside run.first run.count next.first next.count block b first end low high from to other in
+            let place = other-place next.first next.count block b next.within (omega arith)
+            (omega arith) from to other in
+            get_or-set_other now block b cell no_cell other ∙ p.inside b old.0 old.1 ∙ sym (others (b % 64) place)
       ];
       before = λ b there_b under.
           let apart : b ≢ block = λ e. omega arith in
@@ -204,12 +239,6 @@ present-put bytes run next now block cell has there first count here others size
           let apart : b ≢ block = λ e. omega arith in
           get_or-set_other now block b cell no_cell apart ∙ p.behind b there_b (omega arith);
     }
-  where
-    inside_old : (k count j : ℕ) → k < max count (j + 1) → j ≤ count → k ≢ j → k < count
-    inside_old k count j small next other = elim (cases_lt k count) [
-      | inl under ↦ under
-      | inr over ↦ absurd (other (omega arith))
-    ]
 
 -- a cell that was taken out of some bytes
 range-is : (bytes : List ℕ) (at n : ℕ) → at + n ≤ length bytes → slice_range bytes at (at + n) ≡ part_of bytes at n
@@ -221,13 +250,14 @@ range-is bytes at n fits =
     ∙ sym (part-is bytes (take n (drop at bytes)) at n len
     (λ k low. sym (get_or-take n (drop at bytes) k 0 low ∙ get_or-drop at bytes k 0)))
 
-pub cell-taken : (bytes : List ℕ) (j : ℕ) (cell : Cell) → 1056 * j + 1056 ≤ length bytes
-    → cell.payload ≡ slice_range bytes (1056 * j) (1056 * j + 1024)
-    → cell.tag ≡ slice_range bytes (1056 * j + 1024) (1056 * j + 1056) → cell ≡ cell_in bytes j
+pub cell-taken : (bytes : List ℕ) (j at : ℕ) (cell : Cell) → at ≡ 1056 * j → at + 1056 ≤ length bytes
+    → cell.payload ≡ slice_range bytes at (at + 1024)
+    → cell.tag ≡ slice_range bytes (at + 1024) (at + 1056) → cell ≡ cell_in bytes j
 unfolding cell_in
-cell-taken bytes j cell fits payload tag =
-    let end : 1056 * j + 1056 ≡ 1056 * j + 1024 + 32 = omega arith in
-    let one = payload ∙ range-is bytes (1056 * j) 1024 (omega arith) in
-    let two = tag ∙ ap (λ k. slice_range bytes (1056 * j + 1024) k) end
-    ∙ range-is bytes (1056 * j + 1024) 32 (omega arith) in
+cell-taken bytes j at cell is fits payload tag =
+    let end : at + 1056 ≡ at + 1024 + 32 = omega arith in
+    let rest : at + 1024 ≡ 1056 * j + 1024 = omega arith in
+    let one = payload ∙ range-is bytes at 1024 (omega arith) ∙ ap (λ k. part_of bytes k 1024) is in
+    let two = tag ∙ ap (λ k. slice_range bytes (at + 1024) k) end
+    ∙ range-is bytes (at + 1024) 32 (omega arith) ∙ ap (λ k. part_of bytes k 32) rest in
     λ x. record { payload = one x; tag = two x }

@@ -1,4 +1,4 @@
-use Rattle.std.proofs.Common.{◌-◌, ◌*◌, arith, refl}
+use Rattle.std.proofs.Common.{◌%◌, arith}
 use Rattle.nofs_filedisk.proofs.OnFiledisk.Present.{cell-beside, cell-put}
 use Rattle.nofs_filedisk.proofs.run.Run.put.Goals as goal
 
@@ -6,18 +6,16 @@ pub returns-clause-here : goal.returns-clause-here
 returns-clause-here c =
     let run = c.args.self.now in
     let size = run.size in
-    let place = c.requires.place.fits in
-    let low = c.requires.place.low in
-    cell-put run.bytes.items c.put_parts.new.bytes.items (c.args.block - run.first)
-    (1056 * (c.args.block - run.first)) c.args.cell.now refl (omega arith)
+    let fits = c.place_of.ensures.fits in
+    cell-put run.bytes.items c.put_parts.new.bytes.items (c.args.block % 64)
+    c.place_of.result c.args.cell.now c.place_of.ensures.value (omega arith)
     c.note_sizes.ensures.payload.len c.note_sizes.ensures.tag.len c.put_parts.ensures.value
 
 pub returns-clause-others : goal.returns-clause-others
 returns-clause-others c k other =
     let run = c.args.self.now in
     let size = run.size in
-    let place = c.requires.place.fits in
-    let low = c.requires.place.low in
-    cell-beside run.bytes.items c.put_parts.new.bytes.items (c.args.block - run.first)
-    (1056 * (c.args.block - run.first)) k c.args.cell.now refl
+    let fits = c.place_of.ensures.fits in
+    cell-beside run.bytes.items c.put_parts.new.bytes.items (c.args.block % 64)
+    c.place_of.result k c.args.cell.now c.place_of.ensures.value
     (omega arith) c.note_sizes.ensures.payload.len c.note_sizes.ensures.tag.len c.put_parts.ensures.value other

@@ -9,13 +9,13 @@ invariant_of-self c =
     let fits = c.place_of.ensures.fits in
     let len = c.requires in
     record {
-      size = ap length c.put_cell.ensures ∙ length-put_bytes c.place_of.result c.args.cell.now
+      size = ap length c.put_part.ensures ∙ length-put_bytes c.place_of.result c.args.part.now
           c.args.self.now.bytes.items (omega arith) ∙ size;
     }
 
 pub returns-then-has : goal.returns-then-has
 returns-then-has c old new put shown =
     let window = c.args.self.now in
-    put-known window.number c.args.block c.place_of.result c.args.cell.now old new window.bytes.items
-    c.put_cell.new.bytes.items
-    (c.has.ensures.yes c.if-has.true) c.place_of.ensures.value c.requires put window.size c.put_cell.ensures shown
+    put-known window.number c.args.block c.place_of.result c.args.part.now old new window.bytes.items
+    c.put_part.new.bytes.items
+    (c.has.ensures.yes c.if-has.true) c.place_of.ensures.value c.requires put window.size c.put_part.ensures shown
