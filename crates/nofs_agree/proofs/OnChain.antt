@@ -1,7 +1,6 @@
 -- The way up from a directory, and the back links of an inode, one after another.
 use Rattle.std.proofs.Common.{◌≡◌, ℕ, ◌<◌, ◌+◌, ◌≤◌, inl, inr, Bool, true, false, ◌&&◌, IsTrue, List, length, get_or}
-use Rattle.std.proofs.Common.{Option, Some, None, Result, Ok, Err}
-use Rattle.std.proofs.Common.{IfOk, refl, sym, ap, ◌∙◌, subst, arith}
+use Rattle.std.proofs.Common.{Option, Some, None, Result, Ok, Err, IfOk, refl, sym, ap, ◌∙◌, subst, arith}
 use Rattle.std.specs.List.{list_any}
 use Rattle.std.proofs.lemmas.Bool.{cases_lt}
 use Rattle.std.proofs.lemmas.List.{get_or_default}
@@ -9,9 +8,13 @@ use Rattle.std.proofs.lemmas.List.Folds.{list_any_at, list_any_none}
 use Rattle.nofs_disk.specs.Disk.{DiskState, StaysButFaults}
 use Rattle.nofs_disk.specs.Chains.{StaysButFaults-refl, StaysButFaults-trans}
 use Rattle.nofs_disk.specs.declared.Failed.{Failed}
-use Rattle.nofs_model.specs.Cells.{BackLink, Record, SuperBlock, no_link}
+use Rattle.nofs_inode.specs.declared.inode.BackLink.{BackLink}
+use Rattle.nofs_inode.specs.declared.inode.Record.{Record}
+use Rattle.nofs_super.specs.declared.superblock.SuperBlock.{SuperBlock}
+use Rattle.nofs_inode.specs.InodeRecords.{no_link}
 use Rattle.nofs_model.specs.Files.{agreed, files_in, has_agreed_link, is_pair, is_root, is_special}
-use Rattle.nofs_model.specs.Geometry.{Image, IsGeometry, inode, super_at}
+use Rattle.nofs_model.specs.Geometry.{Image, inode, super_at}
+use Rattle.nofs_super.specs.Geometry.{IsGeometry}
 use Rattle.nofs_model.proofs.OnFiles.Parents.{any-links, linked-is, root-is, special-is}
 use Rattle.nofs_agree.specs.Chain.{AreTrue, IsDirectoryAbove, IsPartner, ReadsPair, ReadsParent, TellsAgreed}
 use Rattle.nofs_agree.specs.Chain.{first_link, is_agreed_link}
@@ -186,6 +189,12 @@ climb-none old now new at known first here last next res c root special reads is
       cause = tt;
     }
 
+-- an answer that is known
+pub tells-is : (now new : DiskState) (known : List (Option Bool)) (says : Image → Bool) (last : LastRead)
+    (res : Result Bool Failed) (answer : Bool) → TellsAgreed now new known says last res → res ≡ Ok answer
+    → TellsAgreed now new known says last (Ok answer)
+tells-is now new known says last res answer tells is = subst (TellsAgreed now new known says last) is tells
+
 -- none of the first so many back links is a pair with an agreed directory
 pub record Passed (old now : DiskState) (known : List (Option Bool)) (i : ℕ) (r : Record) (last : LastRead)
     (place : ℕ) : Type 0 where
@@ -201,10 +210,8 @@ pub passed-goes : (old now new : DiskState) (known : List (Option Bool)) (i : �
     → res ≡ Ok false
     → Passed old new known i r next (place + 1)
 passed-goes old now new known i r last next place res p reads is =
-    let q : TellsAgreed now new known
-    (λ X. is_agreed_link (files_in X) i (get_or r.links place no_link)) next (Ok false) =
-    subst (λ (w : Result Bool Failed). TellsAgreed now new known
-    (λ X. is_agreed_link (files_in X) i (get_or r.links place no_link)) next w) is reads in
+    let q = tells-is now new known (λ X. is_agreed_link (files_in X) i (get_or r.links place no_link)) next res false
+    reads is in
     record {
       stays = StaysButFaults-trans old now new p.stays q.stays;
       kept = q.kept;
@@ -229,10 +236,8 @@ pub passed-found : (old now new : DiskState) (at : SuperBlock) (known : List (Op
     → res ≡ Ok true
     → TellsAgreed old new known (λ X. list_any (is_agreed_link (files_in X) i) r.links) next (Ok true)
 passed-found old now new at known i r last next place res is p low reads e =
-    let q : TellsAgreed now new known
-    (λ X. is_agreed_link (files_in X) i (get_or r.links place no_link)) next (Ok true) =
-    subst (λ (w : Result Bool Failed). TellsAgreed now new known
-    (λ X. is_agreed_link (files_in X) i (get_or r.links place no_link)) next w) e reads in
+    let q = tells-is now new known (λ X. is_agreed_link (files_in X) i (get_or r.links place no_link)) next res true
+    reads e in
     record {
       stays = StaysButFaults-trans old now new p.stays q.stays;
       found = λ t a.

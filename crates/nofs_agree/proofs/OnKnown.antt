@@ -9,7 +9,8 @@ use Rattle.std.proofs.lemmas.List.{length-set}
 use Rattle.nofs_disk.specs.Disk.{DiskState, StaysButFaults}
 use Rattle.nofs_disk.specs.Chains.{Rose-within, StaysButFaults-trans}
 use Rattle.nofs_disk.specs.declared.Failed.{Failed}
-use Rattle.nofs_model.specs.Cells.{Record, SuperBlock}
+use Rattle.nofs_inode.specs.declared.inode.Record.{Record}
+use Rattle.nofs_super.specs.declared.superblock.SuperBlock.{SuperBlock}
 use Rattle.nofs_model.specs.Files.{agreed, files_in, is_root, is_special}
 use Rattle.nofs_model.specs.Geometry.{Image, inode}
 use Rattle.nofs_agree.specs.Chain.{AreTrue, LearnsAgreement, LearnsAbove, LearnsOne, LearnsChain, ReadsParent}

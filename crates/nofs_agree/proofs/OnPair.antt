@@ -6,10 +6,13 @@ use Rattle.std.specs.List.{list_any, count_by, position, position_or_len}
 use Rattle.std.proofs.lemmas.List.Sums.{sum_by-cons}
 use Rattle.nofs_inode.specs.InodeRecords.{AllowsRecord, HasRecordSpelling, record_or_free}
 use Rattle.nofs_inode.specs.declared.inode.FileKind.TheVariants.{Directory}
-use Rattle.nofs_model.specs.Cells.{FileKind, BackLink, Record, fields_in, free_record, is_empty_link, no_link}
-use Rattle.nofs_model.specs.Cells.{record_at, record_of}
+use Rattle.nofs_inode.specs.declared.inode.FileKind.{FileKind}
+use Rattle.nofs_inode.specs.declared.inode.BackLink.{BackLink}
+use Rattle.nofs_inode.specs.declared.inode.Record.{Record}
+use Rattle.nofs_inode.specs.InodeRecords.{fields_in, free_record, is_empty_link, no_link, record_at, record_of}
 use Rattle.nofs_model.specs.Files.{agreed, files_in, has_agreed_link, is_pair}
-use Rattle.nofs_model.specs.Geometry.{Image, cell_at, inode, is_inode}
+use Rattle.nofs_model.specs.Geometry.{Image, inode, is_inode}
+use Rattle.nofs_disk.specs.Disk.{cell_at}
 use Rattle.nofs_model.proofs.OnFiles.Parents.{any-links, empty-unpaired}
 use Rattle.nofs_agree.specs.Chain.{first_link}
 

@@ -1,12 +1,14 @@
 -- What the check of a chain answers, over any disk.
 use Rattle.std.specs.Prelude.{◌≡◌, ◌⊎◌, ℕ, ◌-◌, ◌<◌, ◌≤◌, Bool, false, ◌&&◌, not, IsTrue, List, length, get_or, nat_le}
-use Rattle.std.specs.Prelude.{Option, Some, None, is_some}
-use Rattle.std.specs.Prelude.{if◌then◌else◌, Result, IfOk, IfSome, IsNone, OnOk, OnErr}
+use Rattle.std.specs.Prelude.{Option, Some, None, is_some, if◌then◌else◌, Result, IfOk, IfSome, IsNone, OnOk, OnErr}
 use Rattle.std.specs.List.{position_or_len}
 use Rattle.nofs_disk.specs.declared.Failed.{Failed}
 use Rattle.nofs_disk.specs.Disk.{DiskState, StaysButFaults, Rose}
 use Rattle.nofs_inode.specs.declared.inode.FileKind.TheVariants as kind
-use Rattle.nofs_model.specs.Cells.{BackLink, Record, SuperBlock, is_empty_link, no_link}
+use Rattle.nofs_inode.specs.declared.inode.BackLink.{BackLink}
+use Rattle.nofs_inode.specs.declared.inode.Record.{Record}
+use Rattle.nofs_super.specs.declared.superblock.SuperBlock.{SuperBlock}
+use Rattle.nofs_inode.specs.InodeRecords.{is_empty_link, no_link}
 use Rattle.nofs_model.specs.Files.{Files, agreed, files_in, has_agreed_link, is_pair}
 use Rattle.nofs_model.specs.Geometry.{Image}
 use Rattle.nofs_agree.specs.Reads.{IsLast, KnowsDirectory}

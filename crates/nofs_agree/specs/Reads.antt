@@ -4,8 +4,10 @@ use Rattle.nofs_disk.specs.declared.Failed.{Failed}
 use Rattle.nofs_disk.specs.Disk.{DiskState, StaysButFaults, Rose, cell_at}
 use Rattle.nofs_inode.specs.InodeRecords.{HasRecordSpelling, is_live}
 use Rattle.nofs_inode.specs.declared.inode.FileKind.TheVariants.{Directory}
-use Rattle.nofs_model.specs.Cells.{Record, SuperBlock}
-use Rattle.nofs_model.specs.Geometry.{IsGeometry, super_at, inode}
+use Rattle.nofs_inode.specs.declared.inode.Record.{Record}
+use Rattle.nofs_super.specs.declared.superblock.SuperBlock.{SuperBlock}
+use Rattle.nofs_super.specs.Geometry.{IsGeometry}
+use Rattle.nofs_model.specs.Geometry.{super_at, inode}
 use Rattle.nofs_agree.specs.declared.reads.LastRead.{LastRead}
 
 -- a format would accept the numbers on this disk, and where the disk tells, block 0 has them

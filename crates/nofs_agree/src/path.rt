@@ -4,6 +4,7 @@
 //! record, the blocks above the slot, and its own block.
 ghost use Rattle.std.specs.Prelude.{◌≡◌, ◌<◌, IsTrue, IfOk, OnErr};
 ghost use Rattle.nofs_disk.specs.Disk.{Rose, StaysButFaults};
+ghost use Rattle.nofs_ptrs.specs.Paths as paths;
 ghost use Rattle.nofs_model.specs.Places.{IsPlace, place_path};
 ghost use Rattle.nofs_model.specs.Slots as slots;
 ghost use Rattle.nofs_agree.specs.Reads.{IsAt, IsLast, KnowsInode};
@@ -30,10 +31,10 @@ pub fn check_path<D: Disk>(
     slot: u64,
 ) -> Result<PathAnswer, Failed>
     requires numbers { IsAt (D.state disk.old) at.now }
-    requires slot { IsTrue (slots.is_slot slot) }
+    requires slot { IsTrue (paths.is_slot slot) }
     ensures stays { StaysButFaults (D.state disk.old) (D.state disk.new) }
     ensures found { IfOk result (λ answer. IsTrue (D.state disk.old).tells
-        → answer ≡ slots.find (D.state disk.old).now inode (slots.path_of slot)) }
+        → answer ≡ slots.find (D.state disk.old).now inode (paths.path_of slot)) }
     ensures cause { OnErr result (Rose (D.state disk.old).faults (D.state disk.new).faults) }
 {
     let mut last = LastRead::NONE;
@@ -86,7 +87,7 @@ fn find_in_record<D: Disk>(
     requires known { KnowsInode (D.state disk.old) at.now inode it.now }
     requires last { IsLast (D.state disk.old) last.old }
     ensures { FindsSlot (D.state disk.old) (D.state disk.new) at.now
-        (λ X. slots.find X inode (slots.InRecord place)) last.new result }
+        (λ X. slots.find X inode (paths.InRecord place)) last.new result }
 {
     let pointer = record_pointer(it, place);
     judge(disk, at, inode, it, Place::InRecord(place), pointer, last)
@@ -144,7 +145,7 @@ fn find_under_record<D: Disk>(
     requires place { IsPlace (Place.UnderRecord above place) }
     requires last { IsLast (D.state disk.old) last.old }
     ensures { FindsSlot (D.state disk.old) (D.state disk.new) at.now
-        (λ X. slots.find X inode (slots.Under (slots.InRecord above) place)) last.new result }
+        (λ X. slots.find X inode (paths.Under (paths.InRecord above) place)) last.new result }
 {
     match find_in_record(disk, at, inode, it, above, last)? {
         PathAnswer::Hole => Ok(PathAnswer::Hole),

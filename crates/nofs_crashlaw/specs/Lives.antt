@@ -4,16 +4,23 @@ use Rattle.std.specs.Prelude.{get_or, if◌then◌else◌, ◌==◌, Contains}
 use Rattle.nofs_history.specs.declared.machine.history.Claims.{Claims}
 use Rattle.nofs_history.specs.declared.machine.history.Entry1.{Entry1}
 use Rattle.nofs_history.specs.Machine.{given_by}
-use Rattle.nofs_history.specs.History.{agreed_files, files_along, values_given, is_generation}
+use Rattle.nofs_history.specs.Since.{agreed_files, files_along, values_given, is_generation}
 use Rattle.nofs_history.specs.Allowed.{IsAllowed}
 use Rattle.nofs_history.specs.World.{World, world_of}
 use Rattle.nofs_history.specs.Claims.{claimed_blocks}
 use Rattle.nofs_history.specs.Next.{Run}
 use Rattle.nofs_history.specs.Good.{IsFresh}
-use Rattle.nofs_model.specs.Cells.{Super, is_null, tag_of, slot_limit}
-use Rattle.nofs_model.specs.Image.{is_super, Image, cell_at, super_at, inode, record_pointer, value, Files, files_in}
-use Rattle.nofs_model.specs.Image.{agreed, is_used_inode}
-use Rattle.nofs_model.specs.Image.{is_used_block, IsSound}
+use Rattle.nofs_disk.specs.declared.tag.Kind.TheVariants.{Super}
+use Rattle.nofs_disk.specs.Pointer.{is_null}
+use Rattle.nofs_disk.specs.Tag.{tag_of}
+use Rattle.nofs_ptrs.specs.Paths.{slot_limit}
+use Rattle.nofs_super.specs.Super.{is_super}
+use Rattle.nofs_model.specs.Geometry.{Image, super_at, inode}
+use Rattle.nofs_disk.specs.Disk.{cell_at}
+use Rattle.nofs_model.specs.Slots.{record_pointer, value}
+use Rattle.nofs_model.specs.Files.{Files, files_in, agreed}
+use Rattle.nofs_model.specs.Owners.{is_used_inode, is_used_block}
+use Rattle.nofs_model.specs.Sound.{IsSound}
 use Rattle.nofs_model.specs.declared.image.value.Value.TheVariants.{Bytes}
 use Rattle.nofs_model.specs.declared.image.value.Value.{Value}
 

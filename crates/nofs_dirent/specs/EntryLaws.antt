@@ -50,6 +50,18 @@ module _ (inode generation : ℕ) (name : List ℕ) (short : length name ≤ 48)
   unfolding with_name
   length-named = length-put_bytes 16 name (zeros 64) (omega (arith, length-zeros 64)) ∙ length-zeros 64
 
+  abbrev second : List ℕ
+  second = put_number 8 8 generation with_name
+
+  length-second : length second ≡ 64
+  length-second = let l = length-named in length-put_number 8 8 generation with_name (omega arith) ∙ l
+
+  abbrev third : List ℕ
+  third = put_number 4 4 (length name) second
+
+  length-third : length third ≡ 64
+  length-third = let l = length-second in length-put_number 4 4 (length name) second (omega arith) ∙ l
+
   -- what stands from the name on
   tail-named : drop 16 with_name ≡ name ++ drop (16 + length name) (zeros 64)
   unfolding with_name put_bytes
@@ -59,52 +71,41 @@ module _ (inode generation : ℕ) (name : List ℕ) (short : length name ≤ 48)
   pub tail-spelled : drop 16 (spelled_entry inode generation name) ≡ name ++ drop (16 + length name) (zeros 64)
   unfolding spelled_entry with_name
   tail-spelled =
-      let l = length-named in
-      let l1 = length-put_number 8 8 generation with_name (omega arith) in
-      let l2 = length-put_number 4 4 (length name) (put_number 8 8 generation with_name) (omega arith) in
-      drop-put_number 4 0 inode 16 (put_number 4 4 (length name) (put_number 8 8 generation with_name))
+      let l = length-named in let l1 = length-second in let l2 = length-third in
+      drop-put_number 4 0 inode 16 third
       (omega arith) (omega arith)
-      ∙ drop-put_number 4 4 (length name) 16 (put_number 8 8 generation with_name) (omega arith) (omega arith)
+      ∙ drop-put_number 4 4 (length name) 16 second (omega arith) (omega arith)
       ∙ drop-put_number 8 8 generation 16 with_name (omega arith) (omega arith)
       ∙ tail-named
 
   pub length-spelled_entry : length (spelled_entry inode generation name) ≡ 64
   unfolding spelled_entry with_name
   length-spelled_entry =
-      let l = length-named in
-      let l1 = length-put_number 8 8 generation with_name (omega arith) in
-      let l2 = length-put_number 4 4 (length name) (put_number 8 8 generation with_name) (omega arith) in
-      length-put_number 4 0 inode (put_number 4 4 (length name) (put_number 8 8 generation with_name))
-      (omega arith) ∙ l2 ∙ l1 ∙ l
+      let l = length-named in let l1 = length-second in let l2 = length-third in
+      length-put_number 4 0 inode third (omega arith) ∙ l2
 
   pub inode-spelled : inode < 2 ^ 32 → number_at 4 0 (spelled_entry inode generation name) ≡ inode
   unfolding spelled_entry with_name
   inode-spelled small =
-      let l = length-named in
-      let l1 = length-put_number 8 8 generation with_name (omega arith) in
-      let l2 = length-put_number 4 4 (length name) (put_number 8 8 generation with_name) (omega arith) in
+      let l = length-named in let l1 = length-second in let l2 = length-third in
       number_at-put_same 4 0 inode
-      (put_number 4 4 (length name) (put_number 8 8 generation with_name)) small (omega arith)
+      third small (omega arith)
 
   pub length-spelled : number_at 4 4 (spelled_entry inode generation name) ≡ length name
   unfolding spelled_entry with_name
   length-spelled =
-      let l = length-named in
-      let l1 = length-put_number 8 8 generation with_name (omega arith) in
-      let l2 = length-put_number 4 4 (length name) (put_number 8 8 generation with_name) (omega arith) in
-      number_at-put_before 4 0 4 4 inode (put_number 4 4 (length name) (put_number 8 8 generation with_name))
+      let l = length-named in let l1 = length-second in let l2 = length-third in
+      number_at-put_before 4 0 4 4 inode third
       (omega arith) (omega arith)
-      ∙ number_at-put_same 4 4 (length name) (put_number 8 8 generation with_name) (omega arith) (omega arith)
+      ∙ number_at-put_same 4 4 (length name) second (omega arith) (omega arith)
 
   pub generation-spelled : generation < 2 ^ 64 → number_at 8 8 (spelled_entry inode generation name) ≡ generation
   unfolding spelled_entry with_name
   generation-spelled small =
-      let l = length-named in
-      let l1 = length-put_number 8 8 generation with_name (omega arith) in
-      let l2 = length-put_number 4 4 (length name) (put_number 8 8 generation with_name) (omega arith) in
-      number_at-put_before 4 0 8 8 inode (put_number 4 4 (length name) (put_number 8 8 generation with_name))
+      let l = length-named in let l1 = length-second in let l2 = length-third in
+      number_at-put_before 4 0 8 8 inode third
       (omega arith) (omega arith)
-      ∙ number_at-put_before 4 4 8 8 (length name) (put_number 8 8 generation with_name) (omega arith) (omega arith)
+      ∙ number_at-put_before 4 4 8 8 (length name) second (omega arith) (omega arith)
       ∙ number_at-put_same 8 8 generation with_name small (omega arith)
 
   zeros-after : list_all (λ b. b == 0) (drop (length name) (name ++ drop (16 + length name) (zeros 64))) ≡ true

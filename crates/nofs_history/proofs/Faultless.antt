@@ -1,8 +1,7 @@
 -- No refusal that a row names is a fault of the device, and no answer is.
-use Rattle.std.proofs.Common.{◌≡◌, ℕ, ◌-◌, Bool, true, false, cond, not, List, Option, Some, None}
-use Rattle.std.proofs.Common.{refl}
-use Rattle.nofs_model.specs.Cells.{Entry}
-use Rattle.nofs_model.specs.Image.{FileState, entry_at}
+use Rattle.std.proofs.Common.{◌≡◌, ℕ, ◌-◌, Bool, true, false, cond, not, List, Option, Some, None, refl}
+use Rattle.nofs_dirent.specs.declared.entry.Entry.{Entry}
+use Rattle.nofs_model.specs.Files.{FileState, entry_at}
 use Rattle.nofs_model.specs.declared.image.value.Value.{Value}
 use Rattle.nofs_model.specs.declared.image.value.Value.TheVariants.{Hole, Bytes, Lost}
 use Rattle.nofs_history.specs.Search.{least_from, first_of}
@@ -10,8 +9,7 @@ use Rattle.nofs_history.specs.Machine.{found, value_of, is_hole, is_lost, link_t
 use Rattle.nofs_history.specs.World.{World}
 use Rattle.nofs_history.specs.Refusals.{rows}
 use Rattle.nofs_history.specs.Answers.{found_file, found_entry, found_reply, dropped_entry, dropped_reply}
-use Rattle.nofs_history.specs.Answers.{lines_in_slot, listed_reply, got_reply}
-use Rattle.nofs_history.specs.Answers.{stat_file, reply_of}
+use Rattle.nofs_history.specs.Answers.{lines_in_slot, listed_reply, got_reply, stat_file, reply_of}
 use Rattle.nofs_history.specs.declared.machine.history.Claims.{Claims}
 use Rattle.nofs_history.specs.declared.machine.replies.NameLine.{NameLine}
 use Rattle.nofs_history.specs.declared.machine.steps.Step.{Step}

@@ -2,7 +2,7 @@
 use Rattle.std.proofs.Common.{◌≡◌, ℕ, zero, suc, ◌+◌, ◌-◌, ◌<◌, Bool, true, false, eqb, ◌&&◌, ◌||◌, List, [], ◌∷◌, Some}
 use Rattle.std.proofs.Common.{None, refl, ap, ◌∙◌, eqb-true, arith}
 use Rattle.std.specs.List.{list_any}
-use Rattle.nofs_model.specs.Cells.{BackLink}
+use Rattle.nofs_inode.specs.declared.inode.BackLink.{BackLink}
 use Rattle.nofs_history.specs.Machine.{same_link}
 use Rattle.nofs_history.specs.Search.{least_from}
 

@@ -1,20 +1,25 @@
 -- A name that every version since the mark agrees on is a pair in each image.
 use Rattle.std.proofs.Common.{◌≡◌, ℕ, ◌/◌, ◌%◌, ◌<◌, inl, inr, true, ltb, ◌||◌, not, List, Option, Some, None, is_some}
-use Rattle.std.proofs.Common.{refl, subst, arith, Contains, lt-ltb}
-use Rattle.std.proofs.Common.{eq-eqb}
+use Rattle.std.proofs.Common.{refl, subst, arith, Contains, lt-ltb, eq-eqb}
 use Rattle.nofs_history.specs.Meta.{Gone, Is, meta_of, is_bytes, MayRead}
 use Rattle.nofs_history.specs.declared.machine.history.Entry1.{Entry1}
-use Rattle.nofs_history.specs.History.{since, since_meta}
+use Rattle.nofs_history.specs.Since.{since, since_meta}
 use Rattle.nofs_history.specs.Allowed.{HasVersions, IsFolderMeta, NamesStay}
-use Rattle.nofs_model.specs.Cells.{FileKind, File, BackLink, Record, is_live, entry_in, entry_limit, slot_limit}
-use Rattle.nofs_inode.specs.declared.inode.FileKind.TheVariants.{Directory as Folder}
-use Rattle.nofs_model.specs.Image.{Image, inode, value, files_in, is_folder, entry_in_file, entry_at, names, is_a}
-use Rattle.nofs_model.specs.Image.{is_pair}
+use Rattle.nofs_inode.specs.declared.inode.FileKind.{FileKind}
+use Rattle.nofs_inode.specs.declared.inode.FileKind.TheVariants.{File, Directory as Folder}
+use Rattle.nofs_inode.specs.declared.inode.BackLink.{BackLink}
+use Rattle.nofs_inode.specs.declared.inode.Record.{Record}
+use Rattle.nofs_inode.specs.InodeRecords.{is_live}
+use Rattle.nofs_dirent.specs.Entries.{entry_in, entry_limit}
+use Rattle.nofs_ptrs.specs.Paths.{slot_limit}
+use Rattle.nofs_model.specs.Geometry.{Image, inode}
+use Rattle.nofs_model.specs.Slots.{value}
+use Rattle.nofs_model.specs.Files.{files_in, is_folder, entry_in_file, entry_at, names, is_a, is_pair}
 use Rattle.nofs_model.specs.declared.image.value.Value.{Value}
 use Rattle.nofs_model.specs.declared.image.value.Value.TheVariants.{Bytes}
 
 -- the kind of a folder's record
-folder-kind : (r : Record) → IsFolderMeta (meta_of r) → r.kind ≡ Some Folder
+pub folder-kind : (r : Record) → IsFolderMeta (meta_of r) → r.kind ≡ Some Folder
 folder-kind r h = go r.kind refl h
   where
     go : (o : Option FileKind) → r.kind ≡ o → IsFolderMeta (elim o [ None ↦ Gone | Some kind ↦ Is kind r.size r.links ])
@@ -23,7 +28,8 @@ folder-kind r h = go r.kind refl h
     go (Some File) e f = cc
     go (Some Folder) e f = e
 
-is-bytes-of : (v : Value) (P : List ℕ → Type 0) → (content : List ℕ) × (v ≡ Bytes content) × P content
+-- what stands as bytes is bytes
+pub is-bytes-of : (v : Value) (P : List ℕ → Type 0) → (content : List ℕ) × (v ≡ Bytes content) × P content
     → is_bytes v ≡ true
 is-bytes-of v P (c, e, p) = rw e
 

@@ -1,3 +1,4 @@
+-- The list of accepted values, as it is computed, is that of the definition.
 pub mod Padded
 pub mod LinkLists
 pub mod Resized

@@ -1,14 +1,12 @@
 -- What the rows of refusals name: no fault of the device, and numbers of the world after the step.
 use Rattle.std.proofs.Common.{◌≡◌, ℕ, ◌+◌, ◌-◌, ◌*◌, ◌/◌, Bool, true, false, cond, ltb, ◌&&◌, List, [], ◌∷◌, Option}
-use Rattle.std.proofs.Common.{Some, None}
-use Rattle.std.proofs.Common.{is_some, option_map, refl, min}
-use Rattle.nofs_model.specs.Image.{InRecord, Under}
+use Rattle.std.proofs.Common.{Some, None, is_some, option_map, refl, min}
+use Rattle.nofs_ptrs.specs.Paths.{InRecord, Under}
 use Rattle.nofs_history.specs.Search.{first_of}
 use Rattle.nofs_history.specs.Machine.{found, first_dead, first_lost_slot, size_of, slots_in, node_of}
 use Rattle.nofs_history.specs.World.{World, unverified_inodes, unverified_blocks, next_inode}
 use Rattle.nofs_history.specs.Refusals.{row, missing, exists, not_empty_at, too_many_links, directory_full, inodes_full}
-use Rattle.nofs_history.specs.Refusals.{full, serials_spent}
-use Rattle.nofs_history.specs.Refusals.{is_damaged, lost_resize, rows}
+use Rattle.nofs_history.specs.Refusals.{full, serials_spent, is_damaged, lost_resize, rows}
 use Rattle.nofs_history.specs.declared.machine.steps.Step.{Step}
 use Rattle.nofs_history.specs.declared.machine.steps.Step.TheVariants as step
 use Rattle.nofs_history.specs.declared.machine.replies.Refusal.{Refusal}

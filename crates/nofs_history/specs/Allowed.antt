@@ -1,8 +1,14 @@
 -- What a crash may leave of a history: THE PROMISE. The words that it stands on are those of Since.antt and Meta.antt,
 -- of what a step gives (Machine.antt), and of what an image says (nofs_model).
 use Rattle.std.specs.Prelude.{◌≡◌, ◌≢◌, ℕ, ◌/◌, ◌%◌, ◌<◌, true, List, length, get_or, Contains}
-use Rattle.nofs_model.specs.Cells.{BackLink, is_live, entry_in, entry_limit, slot_limit}
-use Rattle.nofs_model.specs.Image.{Image, cell_at, inode, value, files_in, names, is_folder, is_pair}
+use Rattle.nofs_inode.specs.declared.inode.BackLink.{BackLink}
+use Rattle.nofs_inode.specs.InodeRecords.{is_live}
+use Rattle.nofs_dirent.specs.Entries.{entry_in, entry_limit}
+use Rattle.nofs_ptrs.specs.Paths.{slot_limit}
+use Rattle.nofs_model.specs.Geometry.{Image, inode}
+use Rattle.nofs_disk.specs.Disk.{cell_at}
+use Rattle.nofs_model.specs.Slots.{value}
+use Rattle.nofs_model.specs.Files.{files_in, names, is_folder, is_pair}
 use Rattle.nofs_model.specs.declared.image.value.Value.{Value}
 use Rattle.nofs_model.specs.declared.image.value.Value.TheVariants.{Bytes, Lost}
 use Rattle.nofs_history.specs.Meta.{Meta, Gone, Is, meta_of, MayRead}

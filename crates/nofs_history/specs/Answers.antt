@@ -1,9 +1,11 @@
 -- What a step is answered where no refusal comes.
 use Rattle.std.specs.Prelude.{ℕ, zero, suc, ◌-◌, ◌*◌, ◌&&◌, not, List, [], ◌∷◌, ◌++◌, Option, Some, None, if◌then◌else◌}
 use Rattle.std.specs.Prelude.{count_by}
-use Rattle.nofs_model.specs.Cells.{FileKind, BackLink, Entry}
+use Rattle.nofs_inode.specs.declared.inode.FileKind.{FileKind}
+use Rattle.nofs_inode.specs.declared.inode.BackLink.{BackLink}
+use Rattle.nofs_dirent.specs.declared.entry.Entry.{Entry}
 use Rattle.nofs_inode.specs.declared.inode.FileKind.TheVariants.{File, Directory}
-use Rattle.nofs_model.specs.Image.{FileState, Files, entry_at, is_pair}
+use Rattle.nofs_model.specs.Files.{FileState, Files, entry_at, is_pair}
 use Rattle.nofs_model.specs.declared.image.value.Value.{Value}
 use Rattle.nofs_model.specs.declared.image.value.Value.TheVariants.{Hole, Bytes, Lost}
 use Rattle.nofs_history.specs.Search.{least_from}

@@ -1,10 +1,11 @@
 -- What a step claims, and where each used block belongs after it.
 use Rattle.std.specs.Prelude.{◌≡◌, ◌≢◌, ℕ, ◌+◌, ◌*◌, ◌/◌, ◌^◌, ◌<◌, ◌≤◌, Bool, true, false, ◌&&◌, not, List, [], ◌∷◌}
-use Rattle.std.specs.Prelude.{◌++◌, Option, Some, None, option_map}
-use Rattle.std.specs.Prelude.{if◌then◌else◌, nat_lt, ◌==◌, Contains}
-use Rattle.nofs_model.specs.Cells.{Pointer, null, slot_limit}
-use Rattle.nofs_model.specs.Image.{Path, InRecord, Under, path_of, slot_of, NodeState, Absent, Present, Damaged, Files}
-use Rattle.nofs_model.specs.Image.{Home, home_at}
+use Rattle.std.specs.Prelude.{◌++◌, Option, Some, None, option_map, if◌then◌else◌, nat_lt, ◌==◌, Contains}
+use Rattle.nofs_disk.specs.declared.tag.Pointer.{Pointer}
+use Rattle.nofs_disk.specs.Pointer.{null}
+use Rattle.nofs_ptrs.specs.Paths.{slot_limit, Path, InRecord, Under, path_of, slot_of}
+use Rattle.nofs_model.specs.Files.{NodeState, Absent, Present, Damaged, Files}
+use Rattle.nofs_model.specs.Owners.{Home, home_at}
 use Rattle.nofs_history.specs.Meta.{is_bytes}
 use Rattle.nofs_history.specs.Search.{first_of}
 use Rattle.nofs_history.specs.Machine.{value_of, node_of, place_for}

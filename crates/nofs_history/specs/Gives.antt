@@ -1,7 +1,9 @@
 -- What an entry gives to one inode: nothing, a cell, a meta, or its birth.
 use Rattle.std.specs.Prelude.{◌≡◌, ◌≢◌, ℕ, List, Some, None, if◌then◌else◌, ◌==◌}
-use Rattle.nofs_model.specs.Cells.{FileKind, BackLink}
-use Rattle.nofs_model.specs.Image.{Path, path_of, Present}
+use Rattle.nofs_inode.specs.declared.inode.FileKind.{FileKind}
+use Rattle.nofs_inode.specs.declared.inode.BackLink.{BackLink}
+use Rattle.nofs_ptrs.specs.Paths.{Path, path_of}
+use Rattle.nofs_model.specs.Files.{Present}
 use Rattle.nofs_model.specs.declared.image.value.Value.{Value}
 use Rattle.nofs_model.specs.declared.image.value.Value.TheVariants.{Hole}
 use Rattle.nofs_history.specs.Meta.{Meta, Gone, Is}

@@ -1,7 +1,9 @@
 -- Maps that are right, verdicts that stay, and stamps that are fresh.
 use Rattle.std.specs.Prelude.{◌≡◌, ℕ, ◌+◌, ◌*◌, ◌^◌, ◌<◌, Bool, true, false, not, List, Contains}
-use Rattle.nofs_model.specs.Cells.{Cell}
-use Rattle.nofs_model.specs.Image.{Image, super_at, owner, is_used_inode, is_used_block, CellBelow}
+use Rattle.nofs_disk.specs.declared.tag.Cell.{Cell}
+use Rattle.nofs_model.specs.Geometry.{Image, super_at}
+use Rattle.nofs_model.specs.Owners.{owner, is_used_inode, is_used_block}
+use Rattle.nofs_model.specs.Sound.{CellBelow}
 use Rattle.nofs_history.specs.History.{FilesMatch}
 use Rattle.nofs_history.specs.World.{World, uses_inode, uses_block}
 

@@ -1,15 +1,10 @@
--- A history and the files of an image: what the machine has is what the image says. The words of what was given since
--- the last flush and of the mark are here too, each from the file that defines it.
+-- A history and the files of an image: what the machine has is what the image says.
 use Rattle.std.specs.Prelude.{◌≡◌, ℕ, ◌<◌, true, false, List, [], ◌∷◌, Option, Some, None}
-use Rattle.nofs_model.specs.Cells.{slot_limit}
-use Rattle.nofs_model.specs.Image.{Image, Path, is_pointer_slot, IsSlot, FileState, Files}
+use Rattle.nofs_ptrs.specs.Paths.{slot_limit, Path, is_pointer_slot, IsSlot}
+use Rattle.nofs_model.specs.Geometry.{Image}
+use Rattle.nofs_model.specs.Files.{FileState, Files}
 use Rattle.nofs_history.specs.Machine.{is_write_fault}
-unfoldable pub use Rattle.nofs_history.specs.Since.{agreed_files}
-pub use Rattle.nofs_history.specs.Since.{files_along, values_given, metas_given, is_generation, accepted_of}
-pub use Rattle.nofs_history.specs.Since.{accepted_meta_of, last_in, is_flushed}
-pub use Rattle.nofs_history.specs.Since.{begun, mark_from, mark, before_mark, since_mark, files_at_mark, since}
-pub use Rattle.nofs_history.specs.Since.{since_meta, stands}
-pub use Rattle.nofs_history.specs.Marks.{mark_at, new_mark}
+use Rattle.nofs_history.specs.Since.{agreed_files}
 use Rattle.nofs_history.specs.declared.machine.history.Entry1.{Entry1}
 
 -- The machine's file is what the image says of this inode

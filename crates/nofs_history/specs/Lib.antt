@@ -12,6 +12,7 @@ pub mod World
 pub mod Refusals
 pub mod Answers
 pub mod Claims
+pub mod Writes
 pub mod Next
 pub mod Good
 pub mod Gives

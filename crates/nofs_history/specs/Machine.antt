@@ -5,10 +5,14 @@ use Rattle.std.specs.Prelude.{replicate, map, Option, Some, None, is_some, optio
 use Rattle.std.specs.Prelude.{◌==◌, bytes_eq, unwrap_or}
 use Rattle.std.specs.List.{list_any}
 use Rattle.nofs_disk.specs.Number.{put_bytes}
-use Rattle.nofs_model.specs.Cells.{FileKind, File, BackLink, is_empty_link, slot_limit, spelled_entry, entry_limit}
-use Rattle.nofs_model.specs.Image.{Path, InRecord, Under, path_of, NodeState, Absent, Present, FileState, Files}
-use Rattle.nofs_model.specs.Image.{is_folder, entry_at, is_pair}
-use Rattle.nofs_model.specs.Image.{links_of, is_special}
+use Rattle.nofs_inode.specs.declared.inode.FileKind.{FileKind}
+use Rattle.nofs_inode.specs.declared.inode.FileKind.TheVariants.{File}
+use Rattle.nofs_inode.specs.declared.inode.BackLink.{BackLink}
+use Rattle.nofs_inode.specs.InodeRecords.{is_empty_link}
+use Rattle.nofs_ptrs.specs.Paths.{slot_limit, Path, InRecord, Under, path_of}
+use Rattle.nofs_dirent.specs.Entries.{spelled_entry, entry_limit}
+use Rattle.nofs_model.specs.Files.{NodeState, Absent, Present, FileState, Files, is_folder, entry_at, is_pair}
+use Rattle.nofs_model.specs.Files.{links_of, is_special}
 use Rattle.nofs_model.specs.declared.image.value.Value.{Value}
 use Rattle.nofs_model.specs.declared.image.value.Value.TheVariants.{Hole, Bytes, Lost}
 use Rattle.nofs_history.specs.Meta.{Meta, Gone, Is, is_bytes}

@@ -1,7 +1,7 @@
 -- The tools of the proof of what a crash may leave: the mark, as a record of what may be read since it, and a step
 -- under way.
 use Rattle.std.specs.Prelude.{◌≡◌, ℕ, ◌≤◌, Bool, ◌&&◌, List, [], ◌∷◌, ◌++◌, length, is_some, ◌==◌}
-use Rattle.nofs_model.specs.Image.{Image}
+use Rattle.nofs_model.specs.Geometry.{Image}
 use Rattle.nofs_model.specs.declared.image.value.Value.{Value}
 use Rattle.nofs_history.specs.Meta.{Meta}
 use Rattle.nofs_history.specs.Machine.{generation_of}

@@ -1,6 +1,8 @@
 -- What an entry gives of an inode, and which values may be read. These are words of the promise.
 use Rattle.std.specs.Prelude.{◌≡◌, ℕ, ◌⊎◌, Bool, true, false, List, Some, None, Contains}
-use Rattle.nofs_model.specs.Cells.{FileKind, BackLink, Record}
+use Rattle.nofs_inode.specs.declared.inode.FileKind.{FileKind}
+use Rattle.nofs_inode.specs.declared.inode.BackLink.{BackLink}
+use Rattle.nofs_inode.specs.declared.inode.Record.{Record}
 use Rattle.nofs_model.specs.declared.image.value.Value.{Value}
 use Rattle.nofs_model.specs.declared.image.value.Value.TheVariants.{Hole, Bytes, Lost}
 

@@ -1,6 +1,6 @@
 -- The steps of the machine, and its runs.
 use Rattle.std.specs.Prelude.{◌≡◌, ◌≢◌, ℕ, ◌+◌, ◌<◌, ◌≤◌, ◌⊎◌, Bool, true, false, ◌||◌, List, [], ◌∷◌, Some, None, ◌==◌}
-use Rattle.nofs_model.specs.Image.{Image}
+use Rattle.nofs_model.specs.Geometry.{Image}
 use Rattle.nofs_history.specs.Search.{first_of}
 use Rattle.nofs_history.specs.Machine.{gives, files_after}
 use Rattle.nofs_history.specs.World.{World, uses_inode, uses_block, inodes_needed, blocks_needed, world_of}

@@ -1,16 +1,16 @@
 -- Why a step is refused: a table for each step, tested from its top.
 use Rattle.std.specs.Prelude.{ℕ, ◌+◌, ◌-◌, ◌*◌, ◌/◌, ◌%◌, ◌^◌, min, Bool, true, false, ◌&&◌, ◌||◌, not, List, [], ◌∷◌}
-use Rattle.std.specs.Prelude.{length, Option, Some, None, is_some}
-use Rattle.std.specs.Prelude.{option_map, if◌then◌else◌, nat_lt, nat_le, ◌==◌}
-use Rattle.nofs_model.specs.Cells.{Entry, entry_limit, slot_limit, is_name}
-use Rattle.nofs_model.specs.Image.{InRecord, Under, path_of, NodeState, Absent, Present, Damaged, entry_at}
+use Rattle.std.specs.Prelude.{length, Option, Some, None, is_some, option_map, if◌then◌else◌, nat_lt, nat_le, ◌==◌}
+use Rattle.nofs_dirent.specs.declared.entry.Entry.{Entry}
+use Rattle.nofs_dirent.specs.Entries.{entry_limit}
+use Rattle.nofs_ptrs.specs.Paths.{slot_limit, InRecord, Under, path_of}
+use Rattle.nofs_dirent.specs.Names.{is_name}
+use Rattle.nofs_model.specs.Files.{NodeState, Absent, Present, Damaged, entry_at}
 use Rattle.nofs_history.specs.Search.{least_from, first_of}
 use Rattle.nofs_history.specs.Machine.{generation_of, value_of, size_of, node_of, is_folder_at, is_paired, found}
-use Rattle.nofs_history.specs.Machine.{first_dead, is_lost}
-use Rattle.nofs_history.specs.Machine.{first_lost_slot, place_for, link_place, slots_in, cut_of}
+use Rattle.nofs_history.specs.Machine.{first_dead, is_lost, first_lost_slot, place_for, link_place, slots_in, cut_of}
 use Rattle.nofs_history.specs.World.{World, free_inodes, free_blocks, unverified_inodes, unverified_blocks, next_inode}
-use Rattle.nofs_history.specs.World.{next_block, damaged_above}
-use Rattle.nofs_history.specs.World.{blocks_needed, inodes_needed}
+use Rattle.nofs_history.specs.World.{next_block, damaged_above, blocks_needed, inodes_needed}
 use Rattle.nofs_history.specs.declared.machine.steps.Step.{Step}
 use Rattle.nofs_history.specs.declared.machine.steps.Step.TheVariants as step
 use Rattle.nofs_history.specs.declared.machine.replies.Refusal.{Refusal}

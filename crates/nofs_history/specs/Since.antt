@@ -1,11 +1,12 @@
 -- What was given since the last flush: for each slot and for each meta the versions of which a crash leaves one.
 -- These are words of the promise; what only its proof needs stands in Marks.antt.
 use Rattle.std.specs.Prelude.{ℕ, suc, Bool, true, false, ◌&&◌, not, List, [], ◌∷◌, ◌++◌, take, drop, is_some}
-use Rattle.std.specs.Prelude.{option_to_list, None, if◌then◌else◌}
-use Rattle.std.specs.Prelude.{nat_lt, nat_le, ◌==◌}
+use Rattle.std.specs.Prelude.{option_to_list, None, if◌then◌else◌, nat_lt, nat_le, ◌==◌}
 use Rattle.std.specs.List.{list_any}
-use Rattle.nofs_model.specs.Cells.{is_live}
-use Rattle.nofs_model.specs.Image.{Image, inode, value, Files, files_in, agreed}
+use Rattle.nofs_inode.specs.InodeRecords.{is_live}
+use Rattle.nofs_model.specs.Geometry.{Image, inode}
+use Rattle.nofs_model.specs.Slots.{value}
+use Rattle.nofs_model.specs.Files.{Files, files_in, agreed}
 use Rattle.nofs_model.specs.declared.image.value.Value.{Value}
 use Rattle.nofs_history.specs.Meta.{Meta, meta_of, is_gone, AllBytes}
 use Rattle.nofs_history.specs.Machine.{given_by, files_by, generation_of}

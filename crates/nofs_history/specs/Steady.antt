@@ -1,8 +1,12 @@
 -- What is the same in all that a crash may leave, and what of the base is left beside the machine's files.
 use Rattle.std.specs.Prelude.{◌≡◌, ℕ, ◌<◌, ◌⊎◌, true, false, List, [], length}
 use Rattle.nofs_disk.specs.Disk.{Picks}
-use Rattle.nofs_model.specs.Cells.{Cell, is_live, slot_limit}
-use Rattle.nofs_model.specs.Image.{Image, inode, Path, path_of, IsAbove, pointer, value, files_in, agreed}
+use Rattle.nofs_disk.specs.declared.tag.Cell.{Cell}
+use Rattle.nofs_inode.specs.InodeRecords.{is_live}
+use Rattle.nofs_ptrs.specs.Paths.{slot_limit, Path, path_of}
+use Rattle.nofs_model.specs.Geometry.{Image, inode}
+use Rattle.nofs_model.specs.Slots.{IsAbove, pointer, value}
+use Rattle.nofs_model.specs.Files.{files_in, agreed}
 use Rattle.nofs_model.specs.declared.image.value.Value.TheVariants.{Lost}
 use Rattle.nofs_history.specs.Meta.{meta_of}
 use Rattle.nofs_history.specs.Since.{agreed_files, values_given, metas_given, stands, IsSure}

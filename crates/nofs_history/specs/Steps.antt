@@ -1,7 +1,7 @@
 -- Which replies fit a step, and what a caller has made.
 use Rattle.std.specs.Prelude.{ℕ, ◌≡◌, ◌<◌, ◌≤◌, ◌^◌, ◌++◌, List, [], ◌∷◌, length, All, IsTrue, Bool, true, false}
 use Rattle.std.specs.Prelude.{if◌then◌else◌}
-use Rattle.nofs_model.specs.Cells.{is_name}
+use Rattle.nofs_dirent.specs.Names.{is_name}
 use Rattle.nofs_history.specs.declared.machine.steps.Step.{Step}
 use Rattle.nofs_history.specs.declared.machine.steps.Step.TheVariants as step
 use Rattle.nofs_history.specs.declared.machine.replies.NameLine.{NameLine}

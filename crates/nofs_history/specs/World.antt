@@ -1,12 +1,14 @@
 -- The machine's state: files, the blocks that are used, and what is known of both.
 use Rattle.std.specs.Prelude.{ℕ, suc, ◌+◌, ◌/◌, Bool, true, false, ◌&&◌, ◌||◌, not, Option, Some, None, is_some}
 use Rattle.std.specs.Prelude.{if◌then◌else◌, nat_le, unwrap_or}
-use Rattle.nofs_model.specs.Image.{Image, super_at, Path, InRecord, Under, path_of, Absent, Present, Damaged, Files}
-use Rattle.nofs_model.specs.Image.{is_special, Home, owner}
+use Rattle.nofs_model.specs.Geometry.{Image, super_at}
+use Rattle.nofs_ptrs.specs.Paths.{Path, InRecord, Under, path_of}
+use Rattle.nofs_model.specs.Files.{Absent, Present, Damaged, Files, is_special}
+use Rattle.nofs_model.specs.Owners.{Home, owner}
 use Rattle.nofs_history.specs.Meta.{is_bytes}
 use Rattle.nofs_history.specs.Search.{count_below, least_from}
 use Rattle.nofs_history.specs.Machine.{value_of, node_of, place_for}
-use Rattle.nofs_history.specs.History.{agreed_files}
+use Rattle.nofs_history.specs.Since.{agreed_files}
 use Rattle.nofs_history.specs.declared.machine.steps.Step.{Step}
 use Rattle.nofs_history.specs.declared.machine.steps.Step.TheVariants as step
 

@@ -1,7 +1,7 @@
 -- The other records of a cell stay as one is written, and the same bytes are the same record.
 use Rattle.std.specs.Prelude.{◌≡◌, ℕ, zero, ◌+◌, ◌*◌, ◌<◌, ◌≤◌, ◌⊎◌, List, length, get_or}
 use Rattle.std.specs.Prelude.{IfSome, Option, Some, None, slice_index, refl}
-use Rattle.std.proofs.Common.{arith, sym, ap, ◌∙◌, inl, inr, ⊎_elim, subst}
+use Rattle.std.proofs.Common.{arith, sym, ap, ◌∙◌, inl, inr, subst}
 use Rattle.std.proofs.lemmas.Bool.{cases_eq}
 use Rattle.std.proofs.lemmas.List.{ext_get_or, get_or_default}
 use Rattle.nofs_disk.specs.Number.{IsBytes, number_at}
@@ -10,7 +10,7 @@ use Rattle.nofs_disk.specs.declared.tag.Pointer.{Pointer}
 use Rattle.nofs_inode.specs.Beside.{SameBeside, SameBeside-range, SameBeside-trans, SameBeside-wider, SameRange}
 use Rattle.nofs_inode.specs.Beside.{number_at-beside, number_at-range}
 use Rattle.nofs_inode.specs.Beside.{pointer_in-beside}
-use Rattle.nofs_inode.specs.InodeRecords.{HasNumbers, HasRecordSpelling, SpellsRecord}
+use Rattle.nofs_inode.specs.InodeRecords.{HasNumbers, HasRecordSpelling}
 use Rattle.nofs_inode.specs.InodeRecords.{direct_in, fields_in, file_kind_of}
 use Rattle.nofs_inode.specs.InodeRecords.{link_in, links_in, no_link, record_of}
 use Rattle.nofs_inode.specs.InodeRecords.{record_with}
@@ -32,26 +32,31 @@ pub link_in-beside : (at n to : ℕ) (old new : List ℕ) → SameBeside at n ol
     → link_in to new ≡ link_in to old
 link_in-beside at n to old new same apart = link_in-same to new old (SameBeside-range at n to 16 old new same apart)
 
+-- 16 bytes of a group that lies beside lie beside too
+within : (at n to most j : ℕ) → j + 16 ≤ most → (to + most ≤ at) ⊎ (at + n ≤ to)
+    → (to + j + 16 ≤ at) ⊎ (at + n ≤ to + j)
+within at n to most j fits (inl before) = inl (omega (arith, fits, before))
+within at n to most j fits (inr behind) = inr (omega (arith, behind))
+
+first-within : (at n to most : ℕ) → 16 ≤ most → (to + most ≤ at) ⊎ (at + n ≤ to) → (to + 16 ≤ at) ⊎ (at + n ≤ to)
+first-within at n to most fits (inl before) = inl (omega (arith, fits, before))
+first-within at n to most fits (inr behind) = inr behind
+
 pub links_in-beside : (at n to : ℕ) (old new : List ℕ) → SameBeside at n old new → (to + 64 ≤ at) ⊎ (at + n ≤ to)
     → links_in to new ≡ links_in to old
 links_in-beside at n to old new same apart =
     let link : (j : ℕ) → j + 16 ≤ 64 → link_in (to + j) new ≡ link_in (to + j) old =
-    λ j fits. link_in-beside at n (to + j) old new same
-    (⊎_elim (λ before. inl (omega arith)) (λ behind. inr (omega arith)) apart) in
-    let first : link_in to new ≡ link_in to old =
-    link_in-beside at n to old new same (⊎_elim (λ before. inl (omega arith)) (λ behind. inr behind) apart) in
+    λ j fits. link_in-beside at n (to + j) old new same (within at n to 64 j fits apart) in
+    let first = link_in-beside at n to old new same (first-within at n to 64 (omega arith) apart) in
     rw (first, link 16 (omega arith), link 32 (omega arith), link 48 (omega arith)) refl
 
 pub direct_in-beside : (at n to : ℕ) (old new : List ℕ) → SameBeside at n old new → (to + 128 ≤ at) ⊎ (at + n ≤ to)
     → direct_in to new ≡ direct_in to old
 direct_in-beside at n to old new same apart =
     let at_place : (j : ℕ) → j + 16 ≤ 128 → pointer_in (to + j) new ≡ pointer_in (to + j) old =
-    λ j fits. pointer_in-beside at n (to + j) old new same
-    (⊎_elim (λ before. inl (omega arith)) (λ behind. inr (omega arith)) apart) in
-    let first : pointer_in to new ≡ pointer_in to old = pointer_in-beside at n to old new same
-    (⊎_elim (λ before. inl (omega arith)) (λ behind. inr behind) apart) in
+    λ j fits. pointer_in-beside at n (to + j) old new same (within at n to 128 j fits apart) in
     rw (
-      first,
+      pointer_in-beside at n to old new same (first-within at n to 128 (omega arith) apart),
       at_place 16 (omega arith),
       at_place 32 (omega arith),
       at_place 48 (omega arith),

@@ -254,15 +254,13 @@ module _ (xs ys : List ℕ) (small_x : (k : ℕ) → slice_index xs k < 256)
 
   links-range : (at : ℕ) → links_in at xs ≡ links_in at ys → SameRange at 64 xs ys
   links-range at e k low high =
-      let j = (k - at) / 16 in
-      let below : j < 4 = omega arith in
+      let j = (k - at) / 16 in let below : j < 4 = omega arith in
       link-range (at + 16 * j) (sym (links_in-at at xs j below) ∙ ap (λ l. get_or l j no_link) e
       ∙ links_in-at at ys j below) k (omega arith) (omega arith)
 
   direct-range : (at : ℕ) → direct_in at xs ≡ direct_in at ys → SameRange at 128 xs ys
   direct-range at e k low high =
-      let j = (k - at) / 16 in
-      let below : j < 8 = omega arith in
+      let j = (k - at) / 16 in let below : j < 8 = omega arith in
       pointer-range (at + 16 * j) (sym (direct_in-at at xs j below) ∙ ap (λ l. get_or l j null) e
       ∙ direct_in-at at ys j below) k (omega arith) (omega arith)
 

@@ -1,28 +1,8 @@
--- The words of the formats, each from the crate of its format, and the test of one tag.
+-- Whether two kinds of blocks are one, and two tags.
 use Rattle.std.specs.Prelude.{Bool, true, false, ◌&&◌, ◌==◌}
-unfoldable pub use Rattle.nofs_disk.specs.Number.{number_at}
-unfoldable pub use Rattle.nofs_disk.specs.Tag.{tag_of}
-pub use Rattle.nofs_disk.specs.declared.tag.Cell.{Cell}
-pub use Rattle.nofs_disk.specs.declared.tag.Kind.{Kind}
-pub use Rattle.nofs_disk.specs.declared.tag.Kind.TheVariants.{Nothing, Content, Directory, Leaf, Table, Super}
-pub use Rattle.nofs_disk.specs.declared.tag.Tag.{Tag}
-pub use Rattle.nofs_disk.specs.declared.tag.Pointer.{Pointer}
-pub use Rattle.nofs_disk.specs.Pointer.{null, is_null}
-unfoldable pub use Rattle.nofs_disk.specs.Pointer.{pointer_in}
-pub use Rattle.nofs_inode.specs.declared.inode.FileKind.{FileKind}
-pub use Rattle.nofs_inode.specs.declared.inode.FileKind.TheVariants.{File}
-pub use Rattle.nofs_inode.specs.declared.inode.BackLink.{BackLink}
-pub use Rattle.nofs_inode.specs.declared.inode.Record.{Record}
-pub use Rattle.nofs_inode.specs.InodeRecords.{free_record, is_live, is_empty_link, no_link}
-unfoldable pub use Rattle.nofs_inode.specs.InodeRecords.{record_of, record_at, fields_in, link_in}
-unfoldable pub use Rattle.nofs_ptrs.specs.Cells.{pointer_at}
-pub use Rattle.nofs_ptrs.specs.Paths.{slot_limit}
-pub use Rattle.nofs_dirent.specs.declared.entry.Entry.{Entry}
-pub use Rattle.nofs_dirent.specs.Entries.{entry_in, entry_limit}
-pub use Rattle.nofs_dirent.specs.EntryLaws.{Spells}
-unfoldable pub use Rattle.nofs_dirent.specs.Entries.{entry_of, entry_fields, spelled_entry}
-unfoldable pub use Rattle.nofs_dirent.specs.Names.{is_name}
-pub use Rattle.nofs_super.specs.declared.superblock.SuperBlock.{SuperBlock}
+use Rattle.nofs_disk.specs.declared.tag.Kind.{Kind}
+use Rattle.nofs_disk.specs.declared.tag.Kind.TheVariants.{Nothing, Content, Directory, Leaf, Table, Super}
+use Rattle.nofs_disk.specs.declared.tag.Tag.{Tag}
 
 -- whether two kinds are one
 abbrev pub same_kind : Kind → Kind → Bool

@@ -4,10 +4,19 @@
 -- `law_owners` say that each of them is the fact of this file. Mountable and sound images are defined in Geometry and
 -- Sound.
 use Rattle.std.specs.Prelude.{◌≡◌, ◌≢◌, ◌↔◌, ℕ, ◌+◌, ◌/◌, ◌%◌, ◌<◌, ◌≤◌, ◌⊎◌, true, ◌&&◌, ◌||◌, not, Some, Contains}
-use Rattle.nofs_model.specs.Cells.{Pointer, BackLink, Entry, tag_of, null, pointer_at, entry_in, is_live, entry_limit}
-use Rattle.nofs_model.specs.Kinds as kind
-use Rattle.nofs_model.specs.Geometry.{Image, cell_at, inodes_of, blocks_of, inode}
-use Rattle.nofs_model.specs.Slots.{Path, InRecord, Under, is_slot, path_of, record_pointer, tag_for, find, value}
+use Rattle.nofs_disk.specs.declared.tag.Pointer.{Pointer}
+use Rattle.nofs_inode.specs.declared.inode.BackLink.{BackLink}
+use Rattle.nofs_dirent.specs.declared.entry.Entry.{Entry}
+use Rattle.nofs_disk.specs.Tag.{tag_of}
+use Rattle.nofs_disk.specs.Pointer.{null}
+use Rattle.nofs_ptrs.specs.Cells.{pointer_at}
+use Rattle.nofs_dirent.specs.Entries.{entry_in, entry_limit}
+use Rattle.nofs_inode.specs.InodeRecords.{is_live}
+use Rattle.nofs_inode.specs.declared.inode.FileKind.TheVariants as kind
+use Rattle.nofs_model.specs.Geometry.{Image, inodes_of, blocks_of, inode}
+use Rattle.nofs_disk.specs.Disk.{cell_at}
+use Rattle.nofs_ptrs.specs.Paths.{Path, InRecord, Under, is_slot, path_of}
+use Rattle.nofs_model.specs.Slots.{record_pointer, tag_for, find, value}
 use Rattle.nofs_model.specs.Files.{Files, files_in, is_pair, is_root, is_special, has_agreed_link, agreed, Agreed}
 use Rattle.nofs_model.specs.Owners.{owner, home_at, is_used_inode, is_used_block}
 use Rattle.nofs_model.specs.declared.image.path.PathAnswer.TheVariants as answer

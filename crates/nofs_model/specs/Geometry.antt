@@ -1,13 +1,15 @@
 -- An image, its numbers, and the records of its inode table. An image is a list of cells, one a block.
 use Rattle.std.specs.Prelude.{◌≡◌, ◌↔◌, ℕ, ◌+◌, ◌-◌, ◌/◌, ◌%◌, ◌<◌, Bool, true, ◌&&◌, List, length, if◌then◌else◌}
-use Rattle.std.specs.Prelude.{nat_lt, nat_le}
-pub use Rattle.nofs_disk.specs.Disk.{cell_at}
+use Rattle.std.specs.Prelude.{nat_lt, nat_le, ◌==◌}
+use Rattle.nofs_disk.specs.Disk.{cell_at}
 use Rattle.nofs_disk.specs.Disk.{IsSizedCell}
-unfoldable pub use Rattle.nofs_super.specs.Super.{super_in, is_super}
-unfoldable pub use Rattle.nofs_super.specs.Geometry.{is_geometry}
-pub use Rattle.nofs_super.specs.Geometry.{IsGeometry}
-pub use Rattle.nofs_super.specs.Geometry.{IsGeometry}
-use Rattle.nofs_model.specs.Cells.{Cell, Record, SuperBlock, free_record, record_at}
+use Rattle.nofs_super.specs.Super.{super_in, is_super}
+use Rattle.nofs_super.specs.Geometry.{is_geometry}
+use Rattle.nofs_super.specs.Geometry.{IsGeometry}
+use Rattle.nofs_disk.specs.declared.tag.Cell.{Cell}
+use Rattle.nofs_inode.specs.declared.inode.Record.{Record}
+use Rattle.nofs_super.specs.declared.superblock.SuperBlock.{SuperBlock}
+use Rattle.nofs_inode.specs.InodeRecords.{free_record, record_at}
 
 abbrev pub Image : Type 0
 Image = List Cell
@@ -61,3 +63,7 @@ is_inode X i = nat_le 1 i && nat_le i (super_at X).inodes
 -- the record of inode i: free where its bytes spell none, and where there is no such inode
 unfoldable pub inode : Image → ℕ → Record
 inode X i = if is_inode X i then record_at (cell_at X (1 + (i - 1) / 4)).payload ((i - 1) % 4) else free_record
+
+-- whether the records of two inodes stand in one cell of the inode table
+abbrev pub in_one_table_cell : ℕ → ℕ → Bool
+in_one_table_cell i j = (i - 1) / 4 == (j - 1) / 4

@@ -1,10 +1,8 @@
 pub mod Cells
-pub mod Kinds
 pub mod Geometry
 pub mod Slots
 pub mod Files
 pub mod Places
 pub mod Owners
 pub mod Sound
-pub mod Image
 pub mod Definitions

@@ -1,10 +1,14 @@
 -- Owners of blocks, and the scan of an image.
 use Rattle.std.specs.Prelude.{◌≡◌, ◌≢◌, ℕ, ◌-◌, ◌/◌, ◌<◌, ◌≤◌, Bool, true, List, length, ◌&&◌, ◌||◌, Option, Some, None}
 use Rattle.std.specs.Prelude.{is_some, if◌then◌else◌, nat_le, ◌==◌}
-use Rattle.nofs_model.specs.Cells.{Tag, Pointer, tag_of}
+use Rattle.nofs_disk.specs.declared.tag.Tag.{Tag}
+use Rattle.nofs_disk.specs.declared.tag.Pointer.{Pointer}
+use Rattle.nofs_disk.specs.Tag.{tag_of}
 use Rattle.nofs_bits.specs.Bits.{is_set}
-use Rattle.nofs_model.specs.Geometry.{Image, cell_at, super_at, inodes_of, blocks_of}
-use Rattle.nofs_model.specs.Slots.{Path, IsSlot, is_slot, path_of, find}
+use Rattle.nofs_model.specs.Geometry.{Image, super_at, inodes_of, blocks_of}
+use Rattle.nofs_disk.specs.Disk.{cell_at}
+use Rattle.nofs_ptrs.specs.Paths.{Path, IsSlot, is_slot, path_of}
+use Rattle.nofs_model.specs.Slots.{find}
 use Rattle.nofs_model.specs.Files.{files_in, agreed, is_special}
 use Rattle.nofs_model.specs.declared.image.path.PathAnswer.{PathAnswer}
 use Rattle.nofs_model.specs.declared.image.path.PathAnswer.TheVariants as answer

@@ -1,9 +1,11 @@
 -- Places of slots, as the program keeps them, and what the program has read of an image.
 use Rattle.std.specs.Prelude.{◌≡◌, ℕ, ◌+◌, ◌-◌, ◌/◌, ◌<◌, ◌≤◌, Bool, true, false, ◌&&◌, List, length, Some, nat_le}
 use Rattle.std.specs.Prelude.{slice_get, unwrap_or}
-use Rattle.nofs_model.specs.Cells.{Record, SuperBlock}
-use Rattle.nofs_model.specs.Geometry.{Image, IsGeometry, super_at, inode}
-use Rattle.nofs_model.specs.Slots.{Path, InRecord, Under, child}
+use Rattle.nofs_inode.specs.declared.inode.Record.{Record}
+use Rattle.nofs_super.specs.declared.superblock.SuperBlock.{SuperBlock}
+use Rattle.nofs_model.specs.Geometry.{Image, super_at, inode}
+use Rattle.nofs_super.specs.Geometry.{IsGeometry}
+use Rattle.nofs_ptrs.specs.Paths.{Path, InRecord, Under, child}
 use Rattle.nofs_model.specs.Files.{files_in, agreed}
 use Rattle.nofs_model.specs.declared.image.place.Place.{Place}
 use Rattle.nofs_model.specs.declared.image.place.Place.TheVariants as place

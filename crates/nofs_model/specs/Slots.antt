@@ -2,13 +2,22 @@
 --
 -- A slot is a place in the record, or a place in the block of the slot above it.
 use Rattle.std.specs.Prelude.{◌≡◌, ℕ, ◌⊎◌, Bool, false, ◌&&◌, get_or, Option, Some, None, if◌then◌else◌, ◌==◌}
-unfoldable pub use Rattle.nofs_ptrs.specs.Paths.{path_of, slot_of}
-pub use Rattle.nofs_ptrs.specs.Paths.{Path, InRecord, Under, leaf, top, child, is_pointer_slot, IsSlot, is_slot}
-use Rattle.nofs_model.specs.Cells.{Kind, Content, Directory, Leaf, Tag, Pointer, FileKind, Record, same_tag, tag_of}
-use Rattle.nofs_model.specs.Cells.{null, is_null, pointer_at}
-use Rattle.nofs_model.specs.Cells.{is_live}
+use Rattle.nofs_ptrs.specs.Paths.{path_of, slot_of}
+use Rattle.nofs_ptrs.specs.Paths.{Path, InRecord, Under, is_pointer_slot}
+use Rattle.nofs_disk.specs.declared.tag.Kind.{Kind}
+use Rattle.nofs_disk.specs.declared.tag.Kind.TheVariants.{Content, Directory, Leaf}
+use Rattle.nofs_disk.specs.declared.tag.Tag.{Tag}
+use Rattle.nofs_disk.specs.declared.tag.Pointer.{Pointer}
+use Rattle.nofs_inode.specs.declared.inode.FileKind.{FileKind}
+use Rattle.nofs_inode.specs.declared.inode.Record.{Record}
+use Rattle.nofs_model.specs.Cells.{same_tag}
+use Rattle.nofs_disk.specs.Tag.{tag_of}
+use Rattle.nofs_disk.specs.Pointer.{null, is_null}
+use Rattle.nofs_ptrs.specs.Cells.{pointer_at}
+use Rattle.nofs_inode.specs.InodeRecords.{is_live}
 use Rattle.nofs_inode.specs.declared.inode.FileKind.TheVariants as file
-use Rattle.nofs_model.specs.Geometry.{Image, cell_at, is_data_block, inode}
+use Rattle.nofs_model.specs.Geometry.{Image, is_data_block, inode}
+use Rattle.nofs_disk.specs.Disk.{cell_at}
 use Rattle.nofs_model.specs.declared.image.path.PathAnswer.{PathAnswer}
 use Rattle.nofs_model.specs.declared.image.path.PathAnswer.TheVariants as answer
 use Rattle.nofs_model.specs.declared.image.value.Value.{Value}

@@ -1,8 +1,16 @@
 -- Sound images: every generation and stamp in them is one that some mount before the next one gave.
 use Rattle.std.specs.Prelude.{◌≡◌, ℕ, ◌+◌, ◌-◌, ◌*◌, ◌/◌, ◌%◌, ◌^◌, ◌<◌, ◌≤◌, true, List, length, IfSome, All, Contains}
-use Rattle.nofs_model.specs.Cells.{Cell, Directory, Leaf, Record, tag_of, pointer_at, record_at, is_live, entry_in}
+use Rattle.nofs_disk.specs.declared.tag.Cell.{Cell}
+use Rattle.nofs_disk.specs.declared.tag.Kind.TheVariants.{Directory, Leaf}
+use Rattle.nofs_inode.specs.declared.inode.Record.{Record}
+use Rattle.nofs_disk.specs.Tag.{tag_of}
+use Rattle.nofs_ptrs.specs.Cells.{pointer_at}
+use Rattle.nofs_inode.specs.InodeRecords.{record_at, is_live}
+use Rattle.nofs_dirent.specs.Entries.{entry_in}
 use Rattle.nofs_super.specs.Format.{formatted_cell}
-use Rattle.nofs_model.specs.Geometry.{Image, IsGeometry, cell_at, super_at, is_mountable, is_inode}
+use Rattle.nofs_model.specs.Geometry.{Image, super_at, is_mountable, is_inode}
+use Rattle.nofs_super.specs.Geometry.{IsGeometry}
+use Rattle.nofs_disk.specs.Disk.{cell_at}
 use Rattle.nofs_model.specs.Slots.{record_pointer}
 
 -- the generations and stamps of a tag, of the entries of a directory's cell, and of the pointers of a cell of pointers

@@ -6,17 +6,18 @@ pub(crate) mod tags;
 pub(crate) mod value;
 
 ghost use Rattle.std.specs.Prelude.{◌≡◌, ◌<◌, length};
+ghost use Rattle.nofs_disk.specs.Disk.{cell_at};
 ghost use Rattle.nofs_model.specs.Geometry as image;
 ghost use Rattle.nofs_model.specs.Places.{IsRead, IsRecord};
 
-use nofs_disk::{Cell, read_u32_at, read_u64_at};
+use nofs_disk::Cell;
 use nofs_inode::{FREE_RECORD, Record, record_at};
-use nofs_super::SuperBlock;
+use nofs_super::{SuperBlock, numbers_in};
 
 /// The cell of a block.
 pub(crate) fn cell_at(cells: &[Cell], block: u64) -> &Cell
     requires { block < length cells.now }
-    ensures { result.now ≡ image.cell_at cells.now block }
+    ensures { result.now ≡ cell_at cells.now block }
 {
     &cells[block as usize]
 }
@@ -27,19 +28,7 @@ pub(crate) fn numbers_of(cells: &[Cell]) -> SuperBlock
     requires { image.IsMountable cells.now }
     ensures { IsRead cells.now result }
 {
-    super_in(&cell_at(cells, 0).payload)
-}
-
-#[tactic(auto, unfolding(nofs_super::specs::Super::super_in))]
-pub(crate) fn super_in(payload: &[u8; 1024]) -> SuperBlock
-    ensures { result ≡ image.super_in payload.now }
-{
-    SuperBlock {
-        version: read_u32_at(payload, 8),
-        blocks: read_u64_at(payload, 16),
-        inodes: read_u64_at(payload, 24),
-        mount: read_u64_at(payload, 32),
-    }
+    numbers_in(&cell_at(cells, 0).payload)
 }
 
 /// The record of an inode: free where its bytes spell none, and where there is no such inode.

@@ -1,11 +1,12 @@
 //! Whether an image can be mounted.
 ghost use Rattle.std.specs.Prelude.{◌≡◌, ◌↔◌, ◌<◌, ◌==◌, IsTrue, is_none, not, position};
+ghost use Rattle.nofs_super.specs.Geometry.{IsGeometry};
 ghost use Rattle.nofs_model.specs.Geometry as image;
 ghost use Rattle.nofs_super.specs.Super.{has_magic, is_super, is_version, rest_fault};
 
-use crate::image::{cell_at, super_in};
+use crate::image::cell_at;
 use nofs_disk::{Cell, read_u32_at};
-use nofs_super::MAGIC;
+use nofs_super::{MAGIC, numbers_in};
 
 /// Whether cells are an image that can be mounted: block 0 spells a superblock of version 1 or 2
 /// whose numbers format would accept on a device of so many blocks.
@@ -17,12 +18,12 @@ pub fn is_mountable(cells: &[Cell]) -> bool
         return false;
     }
     let payload = &cell_at(cells, 0).payload;
-    let at = super_in(payload);
+    let at = numbers_in(payload);
     is_super(payload) && is_geometry(cells.len() as u64, at.blocks, at.inodes)
 }
 
 fn is_geometry(device: u64, blocks: u64, inodes: u64) -> bool
-    ensures { IsTrue result ↔ image.IsGeometry device blocks inodes }
+    ensures { IsTrue result ↔ IsGeometry device blocks inodes }
 {
     inodes % 4 == 0
         && inodes >= 4

@@ -3,7 +3,7 @@ ghost use Rattle.std.specs.Prelude.{◌≡◌, ◌<◌, Some};
 ghost use Rattle.nofs_model.specs.Geometry.{IsMountable};
 ghost use Rattle.nofs_model.specs.Owners as owners;
 ghost use Rattle.nofs_model.specs.Places.{AreAgreed, IsRead};
-ghost use Rattle.nofs_model.specs.Slots.{is_slot};
+ghost use Rattle.nofs_ptrs.specs.Paths.{is_slot};
 
 use crate::image::path::PathAnswer;
 use crate::image::{cell_at, numbers_of};

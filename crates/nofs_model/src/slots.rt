@@ -1,6 +1,7 @@
 //! What stands in the slots of an image.
 ghost use Rattle.std.specs.Prelude.{◌≡◌, ◌<◌, ◌+◌, ◌/◌, IfOk, IsTrue};
 ghost use Rattle.nofs_ptrs.specs.Paths.{slot_limit};
+ghost use Rattle.nofs_ptrs.specs.Paths as paths;
 ghost use Rattle.nofs_model.specs.Geometry.{IsMountable};
 ghost use Rattle.nofs_model.specs.Places.{InArea, IsPlace, IsRead, IsRecord, place_path};
 ghost use Rattle.nofs_model.specs.Slots as slots;
@@ -38,8 +39,8 @@ pub fn value_of(alloc: Global, cells: &[Cell], inode: u32, slot: u64) -> Result<
 /// What stands in the slot with this number.
 pub(crate) fn find_number(cells: &[Cell], at: &SuperBlock, inode: u32, slot: u64) -> PathAnswer
     requires numbers { IsRead cells.now at.now }
-    requires slot { IsTrue (slots.is_slot slot) }
-    ensures found { result ≡ slots.find cells.now inode (slots.path_of slot) }
+    requires slot { IsTrue (paths.is_slot slot) }
+    ensures found { result ≡ slots.find cells.now inode (paths.path_of slot) }
     ensures area { InArea at.now result }
 {
     let it = read_inode(cells, at, inode);
@@ -71,7 +72,7 @@ fn find_in_record(
 ) -> PathAnswer
     requires known { IsRecord cells.now at.now inode it.now }
     requires place { place < 10 }
-    ensures found { result ≡ slots.find cells.now inode (slots.InRecord place) }
+    ensures found { result ≡ slots.find cells.now inode (paths.InRecord place) }
     ensures area { InArea at.now result }
 {
     let pointer = record_pointer(it, place);
@@ -88,7 +89,7 @@ fn find_under_record(
 ) -> PathAnswer
     requires known { IsRecord cells.now at.now inode it.now }
     requires place { IsPlace (Place.UnderRecord above place) }
-    ensures found { result ≡ slots.find cells.now inode (slots.Under (slots.InRecord above) place) }
+    ensures found { result ≡ slots.find cells.now inode (paths.Under (paths.InRecord above) place) }
     ensures area { InArea at.now result }
 {
     let node = find_in_record(cells, at, inode, it, above);
@@ -106,7 +107,7 @@ fn find_under_child(
 ) -> PathAnswer
     requires place { IsPlace (Place.UnderChild child place) }
     requires known { IsRecord cells.now at.now inode it.now }
-    ensures found { result ≡ slots.find cells.now inode (slots.Under (slots.child child) place) }
+    ensures found { result ≡ slots.find cells.now inode (paths.Under (paths.child child) place) }
     ensures area { InArea at.now result }
 {
     let node = find_under_record(cells, at, inode, it, 9, child);
@@ -128,9 +129,9 @@ fn find_under(
     requires here { IsPlace here }
     requires place { place < 64 }
     requires above { InArea at.now above }
-    ensures found { (path : slots.Path) → above ≡ slots.find cells.now inode path
-        → place_path here ≡ slots.Under path place
-        → result ≡ slots.find cells.now inode (slots.Under path place) }
+    ensures found { (path : paths.Path) → above ≡ slots.find cells.now inode path
+        → place_path here ≡ paths.Under path place
+        → result ≡ slots.find cells.now inode (paths.Under path place) }
     ensures area { InArea at.now result }
 {
     match above {

@@ -1,11 +1,10 @@
 -- The entries of a move in a history are one of which the laws of paths speak.
 use Rattle.std.proofs.Common.{◌≡◌, ◌≢◌, ℕ, zero, suc, ◌+◌, ◌-◌, ◌<◌, ◌≤◌, inl, inr, Bool, true, false, eqb, List, []}
-use Rattle.std.proofs.Common.{◌∷◌, ◌++◌, length, Some, refl, sym, ap}
-use Rattle.std.proofs.Common.{◌∙◌, subst, arith, eqb-true, eq-eqb}
+use Rattle.std.proofs.Common.{◌∷◌, ◌++◌, length, Some, refl, sym, ap, ◌∙◌, subst, arith, eqb-true, eq-eqb}
 use Rattle.std.specs.Prelude.{slice_get}
 use Rattle.std.proofs.lemmas.Bool.{cases_lt}
 use Rattle.std.proofs.lemmas.Option.{slice_get_within}
-use Rattle.nofs_model.specs.Image.{Image}
+use Rattle.nofs_model.specs.Geometry.{Image}
 use Rattle.nofs_history.specs.Steps.{Made}
 use Rattle.nofs_history.specs.declared.machine.history.Entry1.{Entry1}
 use Rattle.nofs_history.specs.Callers.{done_of, steps_by}

@@ -1,14 +1,14 @@
 -- Names that nobody takes away stay.
 use Rattle.std.proofs.Common.{◌≡◌, ◌≢◌, ℕ, zero, suc, ◌+◌, ◌<◌, ◌≤◌, ◌⊎◌, inl, inr, Bool, true, false, eqb, List, []}
-use Rattle.std.proofs.Common.{◌∷◌, length, Some, is_some, refl, sym}
-use Rattle.std.proofs.Common.{ap, ◌∙◌, subst, arith, eqb-true, eq-eqb}
+use Rattle.std.proofs.Common.{◌∷◌, length, Some, is_some, refl, sym, ap, ◌∙◌, subst, arith, eqb-true, eq-eqb}
 use Rattle.std.specs.Prelude.{slice_get}
 use Rattle.std.proofs.lemmas.Bool.{cases_lt}
 use Rattle.std.proofs.lemmas.Option.{slice_get_within}
-use Rattle.nofs_model.specs.Cells.{Entry}
-use Rattle.nofs_model.specs.Image.{Image, Files, entry_at}
+use Rattle.nofs_dirent.specs.declared.entry.Entry.{Entry}
+use Rattle.nofs_model.specs.Geometry.{Image}
+use Rattle.nofs_model.specs.Files.{Files, entry_at}
 use Rattle.nofs_history.specs.Machine.{found, place_for, link_to, given_by}
-use Rattle.nofs_history.specs.History.{agreed_files}
+use Rattle.nofs_history.specs.Since.{agreed_files}
 use Rattle.nofs_history.specs.Steps.{Made}
 use Rattle.nofs_history.specs.World.{World}
 use Rattle.nofs_history.specs.Next.{Next}
@@ -29,7 +29,7 @@ use Rattle.nofs_crashlaw.proofs.OnRuns.Base.{sane-run}
 use Rattle.nofs_crashlaw.proofs.OnPaths.Alone.{Places, look-places, link-place-is}
 use Rattle.nofs_crashlaw.proofs.OnPaths.Looks.{Only, plain-guard, keeping-guard, found-name, name-finds, look-linked}
 use Rattle.nofs_crashlaw.proofs.OnPaths.Links.{link-linked}
-use Rattle.nofs_move.specs.Own.{RunBy, place_in, end_in}
+use Rattle.nofs_move.specs.Own.{RunBy, place_in, end_in, own_place}
 use Rattle.nofs_move.specs.Linked.{is_idle, DropMade, LinkedSteps}
 use Rattle.nofs_move.specs.Laws.{OthersKeepNames, LeavesName, NamesLeft, LawNamesLeft}
 use Rattle.nofs_move.proofs.Own.{OwnEntry}
@@ -145,20 +145,22 @@ module _ (B : Image) (H : List Entry1) (r : SaneRun B H) (c : ℕ) (from to : Pa
       rises c (command.Move from to) made H run s.link s.drop _ done.dropped
       (omega (arith, a, b))
 
+  -- an entry of the caller that takes no name
+  own-leaves : (k : ℕ) (m : Made) (its : OwnEntry c H k m) (x : Entry1) (q d : ℕ) (name : List ℕ)
+      → LeavesName m.0 d name → q ≡ own_place c H k → slice_get H q ≡ Some x → LeavesName x.step d name
+  own-leaves k m its x q d name leaves e there =
+      let same : x ≡ its.entry = same-entry H q (own_place c H k) x its.entry e there its.there in
+      subst (λ (t : Step). LeavesName t d name)
+      (sym (ap (λ (y : Entry1). y.step) same ∙ ap (λ (y : Made). y.0) its.is)) leaves
+
   -- Look and Link take no name
   look-leaves : (x : Entry1) (q d : ℕ) (name : List ℕ) → q ≡ spot s.look → slice_get H q ≡ Some x
       → LeavesName x.step d name
-  look-leaves x q d name e there =
-      let same : x ≡ the-look.entry = same-entry H q (spot s.look) x the-look.entry e there the-look.there in
-      subst (λ (t : Step). LeavesName t d name)
-      (sym (ap (λ (y : Entry1). y.step) same ∙ ap (λ (y : Made). y.0) the-look.is)) tt
+  look-leaves x q d name e there = own-leaves (length run.front + s.look) _ the-look x q d name tt e there
 
   link-leaves : (x : Entry1) (q d : ℕ) (name : List ℕ) → q ≡ spot s.link → slice_get H q ≡ Some x
       → LeavesName x.step d name
-  link-leaves x q d name e there =
-      let same : x ≡ the-link.entry = same-entry H q (spot s.link) x the-link.entry e there the-link.there in
-      subst (λ (t : Step). LeavesName t d name)
-      (sym (ap (λ (y : Entry1). y.step) same ∙ ap (λ (y : Made). y.0) the-link.is)) tt
+  link-leaves x q d name e there = own-leaves (length run.front + s.link) _ the-link x q d name tt e there
 
   -- each entry before Drop leaves the old name, or what it gives keeps the entry
   module _ (place : ℕ) where

@@ -1,17 +1,16 @@
 -- What an entry of a run was answered, and what it gives.
 use Rattle.std.proofs.Common.{◌≡◌, ℕ, ◌/◌, ◌-◌, Bool, true, false, cond, not, ◌||◌, List, Option, Some, None, refl, sym}
 use Rattle.std.proofs.Common.{ap, ◌∙◌, subst}
-use Rattle.nofs_model.specs.Cells.{BackLink, Entry}
-use Rattle.nofs_model.specs.Image.{Files, FileState, entry_at}
+use Rattle.nofs_inode.specs.declared.inode.BackLink.{BackLink}
+use Rattle.nofs_dirent.specs.declared.entry.Entry.{Entry}
+use Rattle.nofs_model.specs.Files.{Files, FileState, entry_at}
 use Rattle.nofs_model.specs.declared.image.value.Value.{Value}
 use Rattle.nofs_model.specs.declared.image.value.Value.TheVariants.{Hole, Bytes, Lost}
 use Rattle.nofs_history.specs.Search.{least_from}
 use Rattle.nofs_history.specs.Machine.{Given, nothing, gives, found, given_by, is_refused, is_write_fault, may_give}
-use Rattle.nofs_history.specs.Machine.{generation_of, link_to, value_of}
-use Rattle.nofs_history.specs.Machine.{is_hole, is_lost}
+use Rattle.nofs_history.specs.Machine.{generation_of, link_to, value_of, is_hole, is_lost}
 use Rattle.nofs_history.specs.Answers.{found_file, found_entry, found_reply, dropped_entry, dropped_reply}
-use Rattle.nofs_history.specs.Answers.{lines_in_slot, listed_reply, got_reply}
-use Rattle.nofs_history.specs.Answers.{stat_file, reply_of}
+use Rattle.nofs_history.specs.Answers.{lines_in_slot, listed_reply, got_reply, stat_file, reply_of}
 use Rattle.nofs_history.specs.World.{World}
 use Rattle.nofs_history.specs.Next.{Next}
 use Rattle.nofs_history.specs.declared.machine.history.Claims.{Claims}

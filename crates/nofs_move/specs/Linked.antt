@@ -1,6 +1,6 @@
 -- Which of the steps of one run of a move are which.
 use Rattle.std.specs.Prelude.{◌≡◌, ◌≢◌, ℕ, ◌<◌, ◌⊎◌, Bool, true, false, ◌&&◌, ◌||◌, not, List, length, Some, slice_get}
-use Rattle.nofs_model.specs.Cells.{FileKind}
+use Rattle.nofs_inode.specs.declared.inode.FileKind.{FileKind}
 use Rattle.nofs_history.specs.Machine.{is_refused, is_write_fault}
 use Rattle.nofs_history.specs.Steps.{Made}
 use Rattle.nofs_history.specs.declared.machine.steps.Step.{Step}

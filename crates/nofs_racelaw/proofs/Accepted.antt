@@ -4,20 +4,19 @@ use Rattle.std.proofs.Common.{Some, None, is_some, refl, ap, ◌∙◌, subst}
 use Rattle.std.specs.Prelude.{option_map}
 use Rattle.std.specs.List.{list_any}
 use Rattle.std.proofs.lemmas.Bool.{and_parts}
-use Rattle.nofs_model.specs.Cells.{Entry, entry_limit}
-use Rattle.nofs_model.specs.Image.{FileState, Files, entry_at, links_in_file, is_pair}
+use Rattle.nofs_dirent.specs.declared.entry.Entry.{Entry}
+use Rattle.nofs_dirent.specs.Entries.{entry_limit}
+use Rattle.nofs_model.specs.Files.{FileState, Files, entry_at, links_in_file, is_pair}
 use Rattle.nofs_model.specs.declared.image.value.Value.{Value}
 use Rattle.nofs_model.specs.declared.image.value.Value.TheVariants.{Hole, Bytes, Lost}
 use Rattle.std.specs.Str.{bytes_eq}
 use Rattle.nofs_history.specs.Search.{first_of, least_from}
 use Rattle.nofs_history.specs.Machine.{first_dead, first_lost_slot, found, generation_of, entry_has_name, is_hole}
-use Rattle.nofs_history.specs.Machine.{is_lost, is_paired, is_refused}
-use Rattle.nofs_history.specs.Machine.{link_to, same_link, value_of}
+use Rattle.nofs_history.specs.Machine.{is_lost, is_paired, is_refused, link_to, same_link, value_of}
 use Rattle.nofs_history.specs.World.{World}
 use Rattle.nofs_history.specs.Refusals.{bad_name, missing, not_directory, not_empty, rows, stale}
 use Rattle.nofs_history.specs.Answers.{dropped_entry, dropped_reply, found_entry, found_file, found_reply, got_reply}
-use Rattle.nofs_history.specs.Answers.{listed_reply, lines_in_slot}
-use Rattle.nofs_history.specs.Answers.{reply_of, stat_file}
+use Rattle.nofs_history.specs.Answers.{listed_reply, lines_in_slot, reply_of, stat_file}
 use Rattle.nofs_history.specs.declared.machine.history.Claims.{Claims}
 use Rattle.nofs_history.specs.declared.machine.steps.Step.{Step}
 use Rattle.nofs_history.specs.declared.machine.steps.Step.TheVariants as step

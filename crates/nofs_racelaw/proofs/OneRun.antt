@@ -1,6 +1,6 @@
 -- The history decides the files and the homes.
 use Rattle.std.proofs.Common.{◌≡◌, ◌/◌, ◌⊎◌, inl, inr, true, false, leb, ◌||◌, [], ◌∷◌, is_some, refl, sym, ap, ◌∙◌}
-use Rattle.nofs_model.specs.Image.{Files, is_special}
+use Rattle.nofs_model.specs.Files.{Files, is_special}
 use Rattle.nofs_history.specs.Machine.{gives, files_after, is_refused}
 use Rattle.nofs_history.specs.World.{World}
 use Rattle.nofs_history.specs.Claims.{homes_after}

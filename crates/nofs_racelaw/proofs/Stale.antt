@@ -1,6 +1,8 @@
 -- A verdict taken in one world of a run holds in every later one in which its element isn't known.
 use Rattle.std.proofs.Common.{◌≡◌, ℕ, ◌/◌, ◌<◌, Bool, leb, ◌||◌, [], ◌∷◌, is_some, refl, sym, ap, ◌∙◌, subst}
-use Rattle.nofs_model.specs.Image.{Image, is_special, is_used_inode, is_used_block}
+use Rattle.nofs_model.specs.Geometry.{Image}
+use Rattle.nofs_model.specs.Files.{is_special}
+use Rattle.nofs_model.specs.Owners.{is_used_inode, is_used_block}
 use Rattle.nofs_history.specs.World.{World, uses_inode, uses_block}
 use Rattle.nofs_crashlaw.proofs.OnMaps.Homes.{uses-inode}
 use Rattle.nofs_racelaw.specs.Laws.{LawPasses, Shows, LawStale}

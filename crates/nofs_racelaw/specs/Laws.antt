@@ -1,6 +1,7 @@
 -- The laws of unchanged and of stale verdicts.
 use Rattle.std.specs.Prelude.{◌≡◌, ℕ, ◌<◌, false, List, ◌++◌, Bool}
-use Rattle.nofs_model.specs.Image.{Image, is_used_inode, is_used_block}
+use Rattle.nofs_model.specs.Geometry.{Image}
+use Rattle.nofs_model.specs.Owners.{is_used_inode, is_used_block}
 use Rattle.nofs_history.specs.declared.machine.history.Entry1.{Entry1}
 use Rattle.nofs_history.specs.World.{World}
 use Rattle.nofs_history.specs.Next.{Run}

@@ -68,26 +68,28 @@ module _ (it : SuperBlock) (version : it.version < 2 ^ 32) (blocks : it.blocks <
   len4 : length p4 ≡ 1024
   len4 = let a = len3 in length-put_number 8 24 it.inodes p3 (omega arith) ∙ a
 
+  -- the numbers before those that are put last
+  before_mount : (n at : ℕ) → at + n ≤ 32 → number_at n at p5 ≡ number_at n at p4
+  before_mount n at low = let d = len4 in number_at-put_after 8 32 n at it.mount p4 (omega arith) low
+
+  before_inodes : (n at : ℕ) → at + n ≤ 24 → number_at n at p5 ≡ number_at n at p3
+  before_inodes n at low = let c = len3 in
+      before_mount n at (omega arith) ∙ number_at-put_after 8 24 n at it.inodes p3 (omega arith) low
+
   version_is : number_at 4 8 p5 ≡ it.version
   version_is =
-      let a = len1 in let b = len2 in let c = len3 in let d = len4 in
-      number_at-put_after 8 32 4 8 it.mount p4 (omega arith) (omega arith)
-      ∙ number_at-put_after 8 24 4 8 it.inodes p3 (omega arith) (omega arith)
+      let a = len1 in let b = len2 in
+      before_inodes 4 8 (omega arith)
       ∙ number_at-put_after 8 16 4 8 it.blocks p2 (omega arith) (omega arith)
       ∙ number_at-put_same 4 8 it.version p1 (omega arith) (omega arith)
 
   blocks_is : number_at 8 16 p5 ≡ it.blocks
-  blocks_is =
-      let a = len1 in let b = len2 in let c = len3 in let d = len4 in
-      number_at-put_after 8 32 8 16 it.mount p4 (omega arith) (omega arith)
-      ∙ number_at-put_after 8 24 8 16 it.inodes p3 (omega arith) (omega arith)
-      ∙ number_at-put_same 8 16 it.blocks p2 (omega arith) (omega arith)
+  blocks_is = let b = len2 in
+      before_inodes 8 16 (omega arith) ∙ number_at-put_same 8 16 it.blocks p2 (omega arith) (omega arith)
 
   inodes_is : number_at 8 24 p5 ≡ it.inodes
-  inodes_is =
-      let a = len1 in let b = len2 in let c = len3 in let d = len4 in
-      number_at-put_after 8 32 8 24 it.mount p4 (omega arith) (omega arith)
-      ∙ number_at-put_same 8 24 it.inodes p3 (omega arith) (omega arith)
+  inodes_is = let c = len3 in
+      before_mount 8 24 (omega arith) ∙ number_at-put_same 8 24 it.inodes p3 (omega arith) (omega arith)
 
   mount_is : number_at 8 32 p5 ≡ it.mount
   mount_is = let d = len4 in number_at-put_same 8 32 it.mount p4 (omega arith) (omega arith)

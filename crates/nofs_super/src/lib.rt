@@ -14,4 +14,4 @@ mod tests;
 pub use fresh::format;
 pub use geometry::{FormatFault, MOST_BLOCKS, MOST_INODES};
 pub use raise::raise_mount;
-pub use superblock::{MAGIC, MountFault, SuperBlock, read_super, write_super};
+pub use superblock::{MAGIC, MountFault, SuperBlock, numbers_in, read_super, write_super};

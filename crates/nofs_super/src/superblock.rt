@@ -68,6 +68,7 @@ pub fn read_super<D: Disk>(disk: &mut D) -> Result<SuperBlock, MountFault>
         (λ it. IsTrue (D.state disk.old).tells → super_of (cell_at (D.state disk.old).now 0).payload ≡ Some it) }
     ensures mountable { IfOk result (CanMount (D.state disk.old).blocks) }
     ensures cause { result ≡ Err MountFault.ReadFault → Rose (D.state disk.old).faults (D.state disk.new).faults }
+    ensures no_fault { result ≢ Err MountFault.ReadFault → (D.state disk.new).faults ≡ (D.state disk.old).faults }
     ensures reads { IsReadAnswer result }
 {
     let device = disk.blocks();
@@ -147,9 +148,9 @@ pub fn check(payload: &[u8; 1024], device: u64) -> Result<SuperBlock, MountFault
     Ok(it)
 }
 
-// The numbers of a superblock.
+/// The numbers of a superblock.
 #[tactic(auto, unfolding(crate::specs::Super::super_in))]
-fn numbers_in(payload: &[u8; 1024]) -> SuperBlock
+pub fn numbers_in(payload: &[u8; 1024]) -> SuperBlock
     ensures { result ≡ super_in payload.now }
 {
     SuperBlock {

@@ -1,19 +1,27 @@
 -- A block that is claimed for a slot.
-use Rattle.nofs_model.specs.Kinds.{Directory as Folder}
+use Rattle.nofs_inode.specs.declared.inode.FileKind.TheVariants.{Directory as Folder, File}
 use Rattle.nofs_model.specs.declared.image.path.PathAnswer.{PathAnswer}
 use Rattle.nofs_model.specs.declared.image.path.PathAnswer.TheVariants as answer
 use Rattle.nofs_crashlaw.specs.Images.Reasons.{Holes, ReadsSince}
 use Rattle.std.proofs.Common.{◌≡◌, ℕ, ◌<◌, ◌≤◌, ◌⊎◌, inl, inr, Bool, true, false, ◌||◌, ◌++◌, option_to_list, Option}
-use Rattle.std.proofs.Common.{Some, None, refl, sym, ap, ◌∙◌, subst}
-use Rattle.std.proofs.Common.{subst₂, arith, Contains, ne_eqb}
+use Rattle.std.proofs.Common.{Some, None, refl, sym, ap, ◌∙◌, subst, subst₂, arith, Contains, ne_eqb}
 use Rattle.std.proofs.lemmas.List.Elements.{Contains-push}
-use Rattle.nofs_model.specs.Cells.{Cell, File, Content, Directory, Tag, Pointer, tag_of, is_null, is_live, slot_limit}
-use Rattle.nofs_model.specs.Image.{super_in, Image, cell_at, super_at, is_data_block, inode, kind_in, tag_for, Path}
-use Rattle.nofs_model.specs.Image.{InRecord, Under, path_of, find}
-use Rattle.nofs_model.specs.Image.{value, value_in, IsAbove}
+use Rattle.nofs_disk.specs.declared.tag.Cell.{Cell}
+use Rattle.nofs_disk.specs.declared.tag.Kind.TheVariants.{Content, Directory}
+use Rattle.nofs_disk.specs.declared.tag.Tag.{Tag}
+use Rattle.nofs_disk.specs.declared.tag.Pointer.{Pointer}
+use Rattle.nofs_disk.specs.Tag.{tag_of}
+use Rattle.nofs_disk.specs.Pointer.{is_null}
+use Rattle.nofs_inode.specs.InodeRecords.{is_live}
+use Rattle.nofs_ptrs.specs.Paths.{slot_limit, Path, InRecord, Under, path_of}
+use Rattle.nofs_super.specs.Super.{super_in}
+use Rattle.nofs_model.specs.Geometry.{Image, super_at, is_data_block, inode}
+use Rattle.nofs_disk.specs.Disk.{cell_at}
+use Rattle.nofs_model.specs.Slots.{kind_in, tag_for, find, value, value_in, IsAbove}
 use Rattle.nofs_model.specs.declared.image.value.Value.{Value}
 use Rattle.nofs_model.specs.declared.image.value.Value.TheVariants.{Hole, Bytes}
-use Rattle.nofs_model.proofs.OnSlots.Paths.{below-null, above-refl, path_of-content, slot_of-path_of}
+use Rattle.nofs_model.proofs.OnSlots.Paths.{below-null, above-refl, path_of-content}
+use Rattle.nofs_ptrs.specs.PathLaws.{slot_of-path_of}
 use Rattle.nofs_history.specs.Marks.{Mark}
 use Rattle.nofs_history.specs.Machine.{Given, lies_above, same_path}
 use Rattle.nofs_crashlaw.specs.Images.Proper.{IsContentKind, Proper, OfContent}

@@ -7,9 +7,14 @@ use Rattle.nofs_model.proofs.OnSlots.Find.{judged-built-null}
 use Rattle.nofs_crashlaw.proofs.OnUntouched.Frames.{judged-same}
 use Rattle.nofs_crashlaw.proofs.OnFiles.Growth.{kept-under}
 use Rattle.nofs_model.specs.declared.image.path.PathAnswer.TheVariants as answer
-use Rattle.nofs_model.specs.Cells.{Pointer, is_null, pointer_at}
-use Rattle.nofs_model.specs.Image.{Image, cell_at, inode, files_in, agreed, Path, InRecord, Under, judged, find}
-use Rattle.nofs_model.specs.Image.{record_pointer, IsSlot}
+use Rattle.nofs_disk.specs.declared.tag.Pointer.{Pointer}
+use Rattle.nofs_disk.specs.Pointer.{is_null}
+use Rattle.nofs_ptrs.specs.Cells.{pointer_at}
+use Rattle.nofs_model.specs.Geometry.{Image, inode}
+use Rattle.nofs_disk.specs.Disk.{cell_at}
+use Rattle.nofs_model.specs.Files.{files_in, agreed}
+use Rattle.nofs_ptrs.specs.Paths.{Path, InRecord, Under, IsSlot}
+use Rattle.nofs_model.specs.Slots.{judged, find, record_pointer}
 
 module _ (s : ℕ) (X Y : Image) (i : ℕ) (w : Rewrites s X Y) (owned : agreed (files_in X) i ≡ true)
     (same : SameIdentity X Y i) (old : OldPointers s X i)

@@ -11,11 +11,15 @@ use Rattle.nofs_history.specs.Meta.{Meta}
 use Rattle.nofs_history.specs.Machine.{Given, is_at, filled, after_meta, born_file, file_after, files_after, value_of}
 use Rattle.nofs_history.specs.Machine.{size_of, lies_above, same_path}
 use Rattle.nofs_history.specs.History.{SameFile}
-use Rattle.nofs_model.specs.Cells.{FileKind, File, Record, Pointer, Content, Directory}
-use Rattle.nofs_model.specs.Kinds.{Directory as Folder}
-use Rattle.nofs_model.specs.Image.{Image, super_at, is_data_block, inode, is_inode, Path, InRecord, Under, find}
-use Rattle.nofs_model.specs.Image.{NodeState, FileState, Files}
-use Rattle.nofs_model.specs.Image.{is_folder}
+use Rattle.nofs_inode.specs.declared.inode.FileKind.{FileKind}
+use Rattle.nofs_inode.specs.declared.inode.FileKind.TheVariants.{File, Directory as Folder}
+use Rattle.nofs_inode.specs.declared.inode.Record.{Record}
+use Rattle.nofs_disk.specs.declared.tag.Pointer.{Pointer}
+use Rattle.nofs_disk.specs.declared.tag.Kind.TheVariants.{Content, Directory}
+use Rattle.nofs_model.specs.Geometry.{Image, super_at, is_data_block, inode, is_inode}
+use Rattle.nofs_ptrs.specs.Paths.{Path, InRecord, Under}
+use Rattle.nofs_model.specs.Slots.{find}
+use Rattle.nofs_model.specs.Files.{NodeState, FileState, Files, is_folder}
 use Rattle.nofs_model.specs.declared.image.value.Value.{Value}
 
 -- a file to which nothing is given stays

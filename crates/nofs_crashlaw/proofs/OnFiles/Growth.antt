@@ -4,14 +4,22 @@ use Rattle.std.proofs.Common.{ap₂, ◌∙◌, subst, arith, eqb-true, eq-eqb}
 use Rattle.nofs_model.specs.declared.image.path.PathAnswer.{PathAnswer}
 use Rattle.nofs_crashlaw.specs.Untouched.Frames.{Rewrites, SameIdentity, OldPointers}
 use Rattle.nofs_model.proofs.OnSlots.Find.{and-both, find-built, agrees-built, judged-built-null}
-use Rattle.nofs_model.proofs.OnSlots.Paths.{path_of-slot, path_of-content, slot_of-path_of, above-refl, above-up}
+use Rattle.nofs_ptrs.specs.PathLaws.{path_of-slot, slot_of-path_of}
+use Rattle.nofs_model.proofs.OnSlots.Paths.{path_of-content, above-refl, above-up}
 use Rattle.nofs_crashlaw.proofs.OnUntouched.Frames.{judged-same}
 use Rattle.nofs_model.specs.declared.image.path.PathAnswer.TheVariants as answer
 use Rattle.nofs_history.specs.Machine.{same_path}
-use Rattle.nofs_model.specs.Cells.{Cell, Pointer, tag_of, is_null, pointer_at, is_live, slot_limit}
-use Rattle.nofs_model.specs.Image.{Image, cell_at, is_data_block, inode, files_in, agreed, value, value_in, Path}
-use Rattle.nofs_model.specs.Image.{InRecord, Under, path_of, slot_of}
-use Rattle.nofs_model.specs.Image.{is_pointer_slot, tag_for, judged, find, pointer, record_pointer, IsAbove, IsSlot}
+use Rattle.nofs_disk.specs.declared.tag.Cell.{Cell}
+use Rattle.nofs_disk.specs.declared.tag.Pointer.{Pointer}
+use Rattle.nofs_disk.specs.Tag.{tag_of}
+use Rattle.nofs_disk.specs.Pointer.{is_null}
+use Rattle.nofs_ptrs.specs.Cells.{pointer_at}
+use Rattle.nofs_inode.specs.InodeRecords.{is_live}
+use Rattle.nofs_ptrs.specs.Paths.{slot_limit, Path, InRecord, Under, path_of, slot_of, is_pointer_slot, IsSlot}
+use Rattle.nofs_model.specs.Geometry.{Image, is_data_block, inode}
+use Rattle.nofs_disk.specs.Disk.{cell_at}
+use Rattle.nofs_model.specs.Files.{files_in, agreed}
+use Rattle.nofs_model.specs.Slots.{value, value_in, tag_for, judged, find, pointer, record_pointer, IsAbove}
 use Rattle.nofs_model.specs.declared.image.value.Value.TheVariants.{Bytes}
 use Rattle.nofs_crashlaw.specs.Files.Growth.{IsPlaced}
 

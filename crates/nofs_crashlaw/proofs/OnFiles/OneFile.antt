@@ -1,8 +1,10 @@
 -- A step that changes the content, the size and the blocks of one file, and nothing else.
 use Rattle.std.proofs.Common.{◌≡◌, ◌≢◌, ℕ, Bool, true, false, eqb, Option, Some, None, is_some, refl, sym, ap, ◌∙◌}
 use Rattle.std.proofs.Common.{subst, subst₂, eqb-true, eq-eqb, ne_eqb}
-use Rattle.nofs_model.specs.Cells.{FileKind, Record}
-use Rattle.nofs_model.specs.Image.{Image, inode, file_from, files_in, FileState, Files, is_folder}
+use Rattle.nofs_inode.specs.declared.inode.FileKind.{FileKind}
+use Rattle.nofs_inode.specs.declared.inode.Record.{Record}
+use Rattle.nofs_model.specs.Geometry.{Image, inode}
+use Rattle.nofs_model.specs.Files.{file_from, files_in, FileState, Files, is_folder}
 use Rattle.nofs_history.specs.Machine.{Given, files_after}
 use Rattle.nofs_history.specs.History.{FilesMatch, SameFile}
 use Rattle.nofs_crashlaw.specs.Untouched.Frames.{Touches, Rewrites, OldPointers, SameIdentity, SameNames}

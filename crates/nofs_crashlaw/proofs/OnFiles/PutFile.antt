@@ -1,20 +1,19 @@
 -- The file after a Put, wherever its slot lies.
 use Rattle.std.proofs.Common.{◌≡◌, ◌≢◌, ℕ, ◌+◌, ◌*◌, ◌<◌, max, Bool, true, false, cond, eqb, ◌&&◌, List, length, Option}
-use Rattle.std.proofs.Common.{Some, None, unwrap_or, refl, sym, ap}
-use Rattle.std.proofs.Common.{◌∙◌, subst, subst₂, eqb-true, eq-eqb, ne_eqb}
-use Rattle.nofs_model.specs.Cells.{FileKind, slot_limit}
-use Rattle.nofs_model.specs.Image.{Image, inode, file_from, files_in, value, node_in, Path, path_of, is_pointer_slot}
-use Rattle.nofs_model.specs.Image.{find, Present, FileState, Files}
-use Rattle.nofs_model.specs.Image.{is_folder, IsSlot}
+use Rattle.std.proofs.Common.{Some, None, unwrap_or, refl, sym, ap, ◌∙◌, subst, subst₂, eqb-true, eq-eqb, ne_eqb}
+use Rattle.nofs_inode.specs.declared.inode.FileKind.{FileKind}
+use Rattle.nofs_ptrs.specs.Paths.{slot_limit, Path, path_of, is_pointer_slot, IsSlot}
+use Rattle.nofs_model.specs.Geometry.{Image, inode}
+use Rattle.nofs_model.specs.Files.{file_from, files_in, node_in, Present, FileState, Files, is_folder}
+use Rattle.nofs_model.specs.Slots.{value, find}
 use Rattle.nofs_model.specs.declared.image.value.Value.TheVariants.{Bytes}
 use Rattle.nofs_history.specs.Meta.{Meta, Gone, Is}
 use Rattle.nofs_history.specs.Machine.{put_given, put_content, meta_with, is_at, filled, after_meta, file_after}
-use Rattle.nofs_history.specs.Machine.{files_after, value_of, size_of}
-use Rattle.nofs_history.specs.Machine.{lies_above}
+use Rattle.nofs_history.specs.Machine.{files_after, value_of, size_of, lies_above}
 use Rattle.nofs_history.specs.History.{FilesMatch, SameFile}
 use Rattle.nofs_crashlaw.specs.Untouched.Frames.{SameNames}
 use Rattle.nofs_history.specs.Gives.{GivesNothing}
-pub use Rattle.nofs_crashlaw.proofs.OnUntouched.Agreement.{file-in}
+use Rattle.nofs_crashlaw.proofs.OnUntouched.Agreement.{file-in}
 use Rattle.nofs_crashlaw.proofs.OnFiles.Given.{at-itself, value-of, size-of}
 use Rattle.nofs_crashlaw.proofs.OnFiles.OneFile.{GivesFile}
 
@@ -44,18 +43,11 @@ module _ (F : Files) (i g k at : ℕ) (bytes : List ℕ) (f : FileState) (is : F
 
   -- what is given, and to whom
   pub put-gives : GivesFile F (put_given F i g k at bytes) i f put-made
-  put-gives = record {
-    is = is;
-    file = file;
-    elsewhere = elsewhere;
-    new = put-new;
-    generation = refl;
-    kind = refl;
-    links = refl;
-  }
+  put-gives =
+      record { is = is; file = file; elsewhere = other; new = put-new; generation = refl; kind = refl; links = refl }
     where
-      elsewhere : (j : ℕ) → j ≢ i → GivesNothing (put_given F i g k at bytes) j
-      elsewhere j ne =
+      other : (j : ℕ) → j ≢ i → GivesNothing (put_given F i g k at bytes) j
+      other j ne =
           let e : eqb i j ≡ false = ne_eqb i j (λ q. ne (sym q)) in
           record {
             born = refl;

@@ -1,13 +1,21 @@
 -- A Put into a slot that holds: its block is written in place, and each slot of its path stays.
 use Rattle.std.proofs.Common.{◌≡◌, ◌≢◌, ℕ, ◌≤◌, ◌⊎◌, inl, inr, Bool, true, false, eqb, List, Some, refl, sym, ap, ◌∙◌}
 use Rattle.std.proofs.Common.{subst, eqb-true, eq-eqb}
-use Rattle.nofs_model.specs.Cells.{Cell, Tag, Pointer, tag_of, pointer_at}
-use Rattle.nofs_model.specs.Image.{Image, cell_at, is_data_block, inode, Path, InRecord, Under, path_of, slot_of}
-use Rattle.nofs_model.specs.Image.{is_pointer_slot, kind_in, tag_for}
-use Rattle.nofs_model.specs.Image.{find, pointer, FileState, Files, IsAbove, IsSlot, IsFree}
+use Rattle.nofs_disk.specs.declared.tag.Cell.{Cell}
+use Rattle.nofs_disk.specs.declared.tag.Tag.{Tag}
+use Rattle.nofs_disk.specs.declared.tag.Pointer.{Pointer}
+use Rattle.nofs_disk.specs.Tag.{tag_of}
+use Rattle.nofs_ptrs.specs.Cells.{pointer_at}
+use Rattle.nofs_model.specs.Geometry.{Image, is_data_block, inode}
+use Rattle.nofs_disk.specs.Disk.{cell_at}
+use Rattle.nofs_ptrs.specs.Paths.{Path, InRecord, Under, path_of, slot_of, is_pointer_slot, IsSlot}
+use Rattle.nofs_model.specs.Slots.{kind_in, tag_for, find, pointer, IsAbove}
+use Rattle.nofs_model.specs.Files.{FileState, Files}
+use Rattle.nofs_model.specs.Owners.{IsFree}
 use Rattle.nofs_model.specs.declared.image.path.PathAnswer.TheVariants as answer
 use Rattle.nofs_model.proofs.OnSlots.Find.{find-held}
-use Rattle.nofs_model.proofs.OnSlots.Paths.{path_of-slot, path_of-slot_of, path_of-content, above-up, above-slot}
+use Rattle.nofs_ptrs.specs.PathLaws.{path_of-slot, path_of-slot_of}
+use Rattle.nofs_model.proofs.OnSlots.Paths.{path_of-content, above-up, above-slot}
 use Rattle.nofs_history.specs.declared.machine.history.Claims.{Claims}
 use Rattle.nofs_history.specs.Claims.{is_claimed}
 use Rattle.nofs_crashlaw.specs.Untouched.Frames.{Touches}
@@ -17,7 +25,7 @@ use Rattle.nofs_crashlaw.proofs.OnFiles.Claims.{super-same}
 use Rattle.nofs_crashlaw.specs.Files.Puts.{PutHeld, PutLies, LawPutHeld}
 
 -- above a slot that holds, each slot holds
-above-held : (X : Image) (i : ℕ) (a p : Path) (x : Pointer) → IsAbove a p → find X i p ≡ answer.Holds x
+pub above-held : (X : Image) (i : ℕ) (a p : Path) (x : Pointer) → IsAbove a p → find X i p ≡ answer.Holds x
     → find X i a ≡ answer.Holds (pointer X i a)
 above-held X i a (InRecord n) x e held = subst (λ (q : Path). find X i q ≡ answer.Holds (pointer X i q)) (sym e)
     (held ∙ ap answer.Holds (sym (find-held X i (InRecord n) x held).same))

@@ -1,9 +1,11 @@
 -- A Put at any depth: the files after it, and the homes of what it claims.
 use Rattle.std.proofs.Common.{◌≡◌, ◌≢◌, ℕ, ◌<◌, inl, inr, true, false, eqb, List, refl, sym, ap, ◌∙◌, subst, eqb-true}
-use Rattle.nofs_model.specs.Cells.{Pointer, slot_limit}
-use Rattle.nofs_model.specs.Image.{Image, files_in, agreed, value, node_in, Path, path_of, is_pointer_slot, find}
-use Rattle.nofs_model.specs.Image.{FileState, Files, Home, home_at}
-use Rattle.nofs_model.specs.Image.{IsAbove, IsSlot}
+use Rattle.nofs_disk.specs.declared.tag.Pointer.{Pointer}
+use Rattle.nofs_ptrs.specs.Paths.{slot_limit, Path, path_of, is_pointer_slot, IsSlot}
+use Rattle.nofs_model.specs.Geometry.{Image}
+use Rattle.nofs_model.specs.Files.{files_in, agreed, node_in, FileState, Files}
+use Rattle.nofs_model.specs.Slots.{value, find, IsAbove}
+use Rattle.nofs_model.specs.Owners.{Home, home_at}
 use Rattle.nofs_model.specs.declared.image.value.Value.TheVariants.{Bytes}
 use Rattle.nofs_model.specs.declared.image.path.PathAnswer.TheVariants as answer
 use Rattle.nofs_model.proofs.OnSlots.Paths.{path_of-content, above-refl}

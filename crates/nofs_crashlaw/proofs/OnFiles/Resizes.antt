@@ -5,26 +5,26 @@ use Rattle.std.proofs.Common.{not, ◌++◌, option_to_list, Option, Some, None,
 use Rattle.std.proofs.Common.{subst₂, arith, Contains, eqb-true, ne_eqb}
 use Rattle.std.proofs.lemmas.Bool.{cases_lt, le-leb}
 use Rattle.std.proofs.lemmas.List.Elements.{Contains-push}
-use Rattle.nofs_model.specs.Cells.{FileKind, slot_limit}
-use Rattle.nofs_model.specs.Image.{Image, cell_at, inode, file_from, files_in, agreed, value, value_in, node_in, Path}
-use Rattle.nofs_model.specs.Image.{InRecord, Under, path_of}
-use Rattle.nofs_model.specs.Image.{is_pointer_slot, find, NodeState, Absent, FileState, Files, is_folder, IsAbove}
-use Rattle.nofs_model.specs.Image.{IsSlot}
+use Rattle.nofs_inode.specs.declared.inode.FileKind.{FileKind}
+use Rattle.nofs_ptrs.specs.Paths.{slot_limit, Path, InRecord, Under, path_of, is_pointer_slot, IsSlot}
+use Rattle.nofs_model.specs.Geometry.{Image, inode}
+use Rattle.nofs_disk.specs.Disk.{cell_at}
+use Rattle.nofs_model.specs.Files.{file_from, files_in, agreed, node_in, NodeState, Absent, FileState, Files, is_folder}
+use Rattle.nofs_model.specs.Slots.{value, value_in, find, IsAbove}
 use Rattle.nofs_model.specs.declared.image.path.PathAnswer.{PathAnswer}
 use Rattle.nofs_model.specs.declared.image.path.PathAnswer.TheVariants as answer
 use Rattle.nofs_model.specs.declared.image.value.Value.{Value}
 use Rattle.nofs_model.specs.declared.image.value.Value.TheVariants.{Hole, Bytes, Lost}
-use Rattle.nofs_model.proofs.OnSlots.Paths.{path-direct, path-leaf, path-far, path_of-slot}
+use Rattle.nofs_ptrs.specs.PathLaws.{path-direct, path-leaf, path-far, path_of-slot}
 use Rattle.nofs_history.specs.Meta.{Meta, Gone, Is, is_bytes}
 use Rattle.nofs_history.specs.Machine.{slots_in, is_at, meta_with, filled, after_meta, file_after, files_after}
-use Rattle.nofs_history.specs.Machine.{value_of, size_of, resize_slot}
-use Rattle.nofs_history.specs.Machine.{resize_node, resize_given}
+use Rattle.nofs_history.specs.Machine.{value_of, size_of, resize_slot, resize_node, resize_given}
 use Rattle.nofs_history.specs.History.{FilesMatch, SameFile}
 use Rattle.nofs_history.specs.declared.machine.steps.Step.TheVariants as step
 use Rattle.nofs_history.specs.Gives.{GivesNothing}
 use Rattle.nofs_crashlaw.proofs.OnUntouched.Matches.{matched-file}
 use Rattle.nofs_crashlaw.proofs.OnUntouched.Frames.{some-is}
-use Rattle.nofs_crashlaw.proofs.OnUntouched.Agreement.{some-alike}
+use Rattle.nofs_crashlaw.proofs.OnUntouched.Agreement.{some-alike, file-in}
 use Rattle.nofs_crashlaw.proofs.OnFiles.Given.{at-itself, value-of, size-of}
 use Rattle.nofs_crashlaw.proofs.OnFiles.CutSlots.{both}
 use Rattle.nofs_crashlaw.specs.Maps.Moves.{HeldMove}
@@ -33,7 +33,6 @@ use Rattle.nofs_crashlaw.proofs.OnMaps.Moves.{law-move, law-shrink}
 use Rattle.nofs_crashlaw.specs.Files.Resizes.{first_slot_below, is_cut, cut_at, ResizeLies, LawResizeFiles}
 use Rattle.nofs_crashlaw.specs.Files.Resizes.{LawResizeHomes, LawResizeHoles}
 use Rattle.nofs_crashlaw.proofs.OnFiles.OneFile.{OwnFile, touched-file, GivesFile, files, one-file}
-use Rattle.nofs_crashlaw.proofs.OnFiles.PutFile.{file-in}
 
 -- The cut
 

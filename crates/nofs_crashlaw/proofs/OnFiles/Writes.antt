@@ -1,18 +1,23 @@
 -- Each write of a step on a file is proper.
 use Rattle.std.proofs.Common.{◌≡◌, ◌≢◌, ℕ, ◌<◌, ◌≤◌, inl, inr, Bool, true, false, eqb, ◌++◌, option_to_list, Option}
-use Rattle.std.proofs.Common.{Some, None, refl, sym, ap, ◌∙◌, subst}
-use Rattle.std.proofs.Common.{subst₂, Contains, eqb-true, eq-eqb}
+use Rattle.std.proofs.Common.{Some, None, refl, sym, ap, ◌∙◌, subst, subst₂, Contains, eqb-true, eq-eqb}
 use Rattle.std.proofs.lemmas.List.Elements.{Contains-push, Contains-append_left}
-use Rattle.nofs_model.specs.Cells.{File, Content, Directory, Leaf, Pointer, Record, tag_of, pointer_at}
-use Rattle.nofs_model.specs.Kinds.{Directory as Folder}
-use Rattle.nofs_model.specs.Image.{Image, cell_at, inode, Path, InRecord, Under, path_of, slot_of, kind_in, tag_for}
-use Rattle.nofs_model.specs.Image.{find, pointer, record_pointer}
-use Rattle.nofs_model.specs.Image.{IsAbove}
+use Rattle.nofs_inode.specs.declared.inode.FileKind.TheVariants.{File, Directory as Folder}
+use Rattle.nofs_disk.specs.declared.tag.Kind.TheVariants.{Content, Directory, Leaf}
+use Rattle.nofs_disk.specs.declared.tag.Pointer.{Pointer}
+use Rattle.nofs_inode.specs.declared.inode.Record.{Record}
+use Rattle.nofs_disk.specs.Tag.{tag_of}
+use Rattle.nofs_ptrs.specs.Cells.{pointer_at}
+use Rattle.nofs_model.specs.Geometry.{Image, inode}
+use Rattle.nofs_disk.specs.Disk.{cell_at}
+use Rattle.nofs_ptrs.specs.Paths.{Path, InRecord, Under, path_of, slot_of}
+use Rattle.nofs_model.specs.Slots.{kind_in, tag_for, find, pointer, record_pointer, IsAbove}
 use Rattle.nofs_model.specs.declared.image.path.PathAnswer.TheVariants as answer
 use Rattle.nofs_model.specs.declared.image.value.Value.{Value}
 use Rattle.nofs_model.specs.declared.image.value.Value.TheVariants.{Hole, Bytes}
 use Rattle.nofs_model.proofs.OnSlots.Find.{find-held}
-use Rattle.nofs_model.proofs.OnSlots.Paths.{path_of-content, slot_of-path_of}
+use Rattle.nofs_model.proofs.OnSlots.Paths.{path_of-content}
+use Rattle.nofs_ptrs.specs.PathLaws.{slot_of-path_of}
 use Rattle.nofs_history.specs.Meta.{Meta, meta_of}
 use Rattle.nofs_history.specs.Marks.{Mark}
 use Rattle.nofs_history.specs.Machine.{Given}

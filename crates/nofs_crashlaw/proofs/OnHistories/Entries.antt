@@ -1,6 +1,6 @@
 -- The crash theorem over histories: what a step writes leaves each image allowed.
 use Rattle.std.proofs.Common.{◌≡◌, ℕ, ◌+◌, true, List, [], ◌∷◌, ◌++◌, length, IsTrue, sym, ◌∙◌, subst, arith}
-use Rattle.nofs_disk.specs.Disk.{DiskState, IsDisk, Picks}
+use Rattle.nofs_disk.specs.Disk.{DiskState, IsDisk, Picks, cell_at}
 use Rattle.nofs_crashlaw.specs.Images.Reasons.{IsMark, IsKept}
 use Rattle.nofs_crashlaw.specs.Histories.Laws.{LawStep}
 use Rattle.nofs_crashlaw.specs.Histories.Stage.{LawSteady}
@@ -10,15 +10,16 @@ use Rattle.nofs_crashlaw.proofs.OnHistories.Marks.{since-grows, metas-grow, stan
 use Rattle.nofs_crashlaw.proofs.OnUntouched.Matches.{matched-file}
 use Rattle.nofs_model.proofs.OnSlots.Find.{find-held}
 use Rattle.nofs_crashlaw.proofs.OnImages.Steady.{kept-holds}
-use Rattle.nofs_history.specs.Marks.{Mark, IsUnderWay}
+use Rattle.nofs_history.specs.Marks.{Mark, IsUnderWay, mark_at}
 use Rattle.nofs_history.specs.declared.machine.history.Entry1.{Entry1}
 use Rattle.nofs_history.specs.Machine.{given_by}
-use Rattle.nofs_history.specs.History.{agreed_files, files_along, stands, mark_at}
+use Rattle.nofs_history.specs.Since.{agreed_files, files_along, stands}
 use Rattle.nofs_history.specs.Allowed.{HasVersions, IsAllowed}
 use Rattle.nofs_history.specs.Steady.{SteadyPointers}
 use Rattle.nofs_history.proofs.Names.{names-stay}
-use Rattle.nofs_model.specs.Cells.{Cell}
-use Rattle.nofs_model.specs.Image.{Image, cell_at, files_in, agreed}
+use Rattle.nofs_disk.specs.declared.tag.Cell.{Cell}
+use Rattle.nofs_model.specs.Geometry.{Image}
+use Rattle.nofs_model.specs.Files.{files_in, agreed}
 
 -- the mark with one more entry under way is the mark during what that entry gives
 pub mark-during : (B : Image) (H : List Entry1) (e : Entry1) (l m : ℕ) (image : Image) (stamps : ℕ) → IsUnderWay H e l m

@@ -4,11 +4,12 @@ use Rattle.std.proofs.lemmas.Bool.{cases_lt}
 use Rattle.nofs_disk.specs.Disk.{DiskState, cell_at}
 use Rattle.nofs_disk.specs.Moments.{AtEach}
 use Rattle.nofs_disk.specs.Chains.{settled_image}
-use Rattle.nofs_model.specs.Geometry.{IsGeometry}
-use Rattle.nofs_model.specs.Cells.{Cell}
-use Rattle.nofs_model.specs.Image.{Image, super_at, CellBelow}
+use Rattle.nofs_super.specs.Geometry.{IsGeometry}
+use Rattle.nofs_disk.specs.declared.tag.Cell.{Cell}
+use Rattle.nofs_model.specs.Geometry.{Image, super_at}
+use Rattle.nofs_model.specs.Sound.{CellBelow}
 use Rattle.nofs_model.proofs.OnSound.Writes.{mountable-law}
-use Rattle.nofs_history.specs.History.{mark_at, new_mark}
+use Rattle.nofs_history.specs.Marks.{mark_at, new_mark}
 use Rattle.nofs_history.specs.Allowed.{IsAllowed}
 use Rattle.nofs_history.specs.Steady.{SteadyRest}
 use Rattle.nofs_crashlaw.specs.Images.Reasons.{IsMark}

@@ -1,22 +1,25 @@
 -- A flush that succeeds makes a new mark, from which the next step may begin.
-use Rattle.nofs_model.specs.Geometry.{IsGeometry}
+use Rattle.nofs_super.specs.Geometry.{IsGeometry}
 use Rattle.std.proofs.Common.{◌≡◌, ℕ, suc, ◌+◌, ◌%◌, ◌<◌, ◌≤◌, inl, inr, true, false, cond, is_some, append-nil, eqb}
 use Rattle.std.proofs.Common.{if◌then◌else◌, leb, ◌&&◌, List, [], ◌∷◌}
 use Rattle.std.proofs.Common.{◌++◌, length, Option, Some, None, IsTrue, Ok, refl, sym, ap, ◌∙◌, subst, arith, le_refl}
 use Rattle.std.proofs.lemmas.Bool.{cases_lt}
 use Rattle.nofs_disk.specs.Disk.{DiskState, IsDisk, IsSettled, Flushes, Picks, cell_at}
-use Rattle.nofs_model.specs.Cells.{SuperBlock}
-use Rattle.nofs_model.specs.Image.{Image, super_at, is_mountable, inode, value, Files, FileState, CellBelow}
+use Rattle.nofs_super.specs.declared.superblock.SuperBlock.{SuperBlock}
+use Rattle.nofs_model.specs.Geometry.{Image, super_at, is_mountable, inode}
+use Rattle.nofs_model.specs.Slots.{value}
+use Rattle.nofs_model.specs.Files.{Files, FileState}
+use Rattle.nofs_model.specs.Sound.{CellBelow}
 use Rattle.nofs_model.proofs.OnSound.Writes.{supers, mountable-law}
 use Rattle.nofs_crashlaw.specs.Images.Reasons.{IsMark}
 use Rattle.nofs_crashlaw.specs.Images.Moments.{AllExplained}
 use Rattle.nofs_crashlaw.proofs.OnImages.Moments.{law-images, law-flush}
 use Rattle.nofs_history.specs.Meta.{meta_of}
-use Rattle.nofs_history.specs.Marks.{Mark}
+use Rattle.nofs_history.specs.Marks.{Mark, mark_at, new_mark}
 use Rattle.nofs_history.specs.Machine.{generation_of, nothing, gives, file_after, files_after}
-use Rattle.nofs_history.specs.History.{agreed_files, files_along, mark_at, mark, mark_from, is_flushed, new_mark}
-use Rattle.nofs_history.specs.History.{last_in, is_generation}
-use Rattle.nofs_history.specs.History.{values_given, metas_given, FilesMatch, NoWriteFault}
+use Rattle.nofs_history.specs.Since.{agreed_files, files_along, mark, mark_from, is_flushed, last_in, is_generation}
+use Rattle.nofs_history.specs.Since.{values_given, metas_given}
+use Rattle.nofs_history.specs.History.{FilesMatch, NoWriteFault}
 use Rattle.nofs_history.specs.Allowed.{IsAllowed}
 use Rattle.nofs_history.specs.Steady.{SteadyRest}
 use Rattle.nofs_history.specs.declared.machine.history.Entry1.{Entry1}

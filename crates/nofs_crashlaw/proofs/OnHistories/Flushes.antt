@@ -1,7 +1,6 @@
 -- A flush makes a new mark.
 use Rattle.std.proofs.Common.{◌≡◌, ℕ, ◌%◌, ◌<◌, inl, inr, Bool, true, false, eqb, ◌&&◌, List, [], ◌∷◌, Some, is_some}
-use Rattle.std.proofs.Common.{refl, sym, ap, ◌∙◌, subst, subst₂}
-use Rattle.std.proofs.Common.{arith, Contains, eqb-true, eq-eqb}
+use Rattle.std.proofs.Common.{refl, sym, ap, ◌∙◌, subst, subst₂, arith, Contains, eqb-true, eq-eqb}
 use Rattle.nofs_crashlaw.specs.Images.Reasons.{IsMark}
 use Rattle.nofs_model.proofs.OnSlots.Find.{and-both}
 use Rattle.nofs_crashlaw.proofs.OnLives.Era.{IsCurrent, current-accepted}
@@ -9,12 +8,18 @@ use Rattle.nofs_crashlaw.proofs.OnUntouched.Matches.{Matched, matched-file, matc
 use Rattle.nofs_history.specs.Meta.{Meta, meta_of, MayRead}
 use Rattle.nofs_history.specs.declared.machine.history.Entry1.{Entry1}
 use Rattle.nofs_history.specs.Machine.{generation_of}
-use Rattle.nofs_history.specs.History.{agreed_files, files_along, accepted_of, accepted_meta_of, last_in, is_generation}
+use Rattle.nofs_history.specs.Since.{agreed_files, files_along, accepted_of, accepted_meta_of, last_in, is_generation}
 use Rattle.nofs_history.specs.History.{FilesMatch, NoWriteFault}
-use Rattle.nofs_history.specs.History.{new_mark}
+use Rattle.nofs_history.specs.Marks.{new_mark}
 use Rattle.nofs_history.specs.Steady.{Untouched, SteadyRest}
-use Rattle.nofs_model.specs.Cells.{Tag, is_live, tag_of, slot_limit}
-use Rattle.nofs_model.specs.Image.{Image, super_at, cell_at, is_data_block, inode, files_in, agreed, value, Files}
+use Rattle.nofs_disk.specs.declared.tag.Tag.{Tag}
+use Rattle.nofs_inode.specs.InodeRecords.{is_live}
+use Rattle.nofs_disk.specs.Tag.{tag_of}
+use Rattle.nofs_ptrs.specs.Paths.{slot_limit}
+use Rattle.nofs_model.specs.Geometry.{Image, super_at, is_data_block, inode}
+use Rattle.nofs_disk.specs.Disk.{cell_at}
+use Rattle.nofs_model.specs.Files.{files_in, agreed, Files}
+use Rattle.nofs_model.specs.Slots.{value}
 use Rattle.nofs_model.specs.declared.image.value.Value.{Value}
 
 only : {A : Type 0} → (xs : List A) (v : A) → xs ≡ v ∷ [] → Contains xs v

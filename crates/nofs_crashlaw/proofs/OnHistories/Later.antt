@@ -11,10 +11,11 @@ use Rattle.nofs_crashlaw.specs.Histories.Laws.{AllLater, LawLater}
 use Rattle.nofs_history.specs.Meta.{Meta, meta_of, MayRead, is_gone}
 use Rattle.nofs_history.specs.declared.machine.history.Entry1.{Entry1}
 use Rattle.nofs_history.specs.Machine.{generation_of}
-use Rattle.nofs_history.specs.History.{agreed_files, files_along, values_given, metas_given, accepted_of}
-use Rattle.nofs_history.specs.History.{accepted_meta_of, last_in, begun, mark_from}
-use Rattle.nofs_history.specs.History.{mark, before_mark, since_mark, since, since_meta, stands, is_flushed}
-use Rattle.nofs_model.specs.Image.{Image, inode, value}
+use Rattle.nofs_history.specs.Since.{agreed_files, files_along, values_given, metas_given, accepted_of}
+use Rattle.nofs_history.specs.Since.{accepted_meta_of, last_in, begun, mark_from}
+use Rattle.nofs_history.specs.Since.{mark, before_mark, since_mark, since, since_meta, stands, is_flushed}
+use Rattle.nofs_model.specs.Geometry.{Image, inode}
+use Rattle.nofs_model.specs.Slots.{value}
 use Rattle.nofs_model.specs.declared.image.value.Value.{Value}
 
 later-leb : (a m : ℕ) → m < a → leb a m ≡ false

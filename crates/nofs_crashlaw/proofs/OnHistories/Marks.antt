@@ -14,13 +14,13 @@ use Rattle.nofs_crashlaw.proofs.OnLives.Images.{values-append, metas-append, alo
 use Rattle.nofs_history.specs.Meta.{Meta, Gone, Is, is_gone}
 use Rattle.nofs_history.specs.declared.machine.history.Entry1.{Entry1}
 use Rattle.nofs_history.specs.Machine.{Given, gives, given_by, files_by, nothing, generation_of, filled, after_meta}
-use Rattle.nofs_history.specs.Machine.{born_file, new_file, file_after}
-use Rattle.nofs_history.specs.Machine.{files_after, is_refused, is_write_fault}
-use Rattle.nofs_history.specs.History.{agreed_files, files_along, values_given, metas_given, accepted_of}
-use Rattle.nofs_history.specs.History.{accepted_meta_of, last_in, begun, mark}
-use Rattle.nofs_history.specs.History.{before_mark, since_mark, files_at_mark, since, since_meta, stands}
+use Rattle.nofs_history.specs.Machine.{born_file, new_file, file_after, files_after, is_refused, is_write_fault}
+use Rattle.nofs_history.specs.Since.{agreed_files, files_along, values_given, metas_given, accepted_of}
+use Rattle.nofs_history.specs.Since.{accepted_meta_of, last_in, begun, mark}
+use Rattle.nofs_history.specs.Since.{before_mark, since_mark, files_at_mark, since, since_meta, stands}
 use Rattle.nofs_history.specs.Marks.{IsUnderWay}
-use Rattle.nofs_model.specs.Image.{Image, FileState, Files}
+use Rattle.nofs_model.specs.Geometry.{Image}
+use Rattle.nofs_model.specs.Files.{FileState, Files}
 use Rattle.nofs_model.specs.declared.image.value.Value.{Value}
 
 list-gone : (o : Option Meta) → list_any is_gone (option_to_list o) ≡ is_removal o

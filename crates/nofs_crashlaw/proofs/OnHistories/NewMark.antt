@@ -1,15 +1,15 @@
 -- Where the last entry that has begun flushed, the mark of the moment is the new mark.
 use Rattle.std.proofs.Common.{◌≡◌, ℕ, Bool, true, false, eqb, ◌&&◌, not, List, [], ◌++◌, length, take, drop, is_some}
-use Rattle.std.proofs.Common.{refl, ap, ◌∙◌, le_refl, append-nil}
-use Rattle.std.proofs.Common.{take_all, drop_of_length-le}
+use Rattle.std.proofs.Common.{refl, ap, ◌∙◌, le_refl, append-nil, take_all, drop_of_length-le}
 use Rattle.std.specs.List.{list_any}
 use Rattle.nofs_history.specs.Meta.{is_gone}
 use Rattle.nofs_history.specs.declared.machine.history.Entry1.{Entry1}
 use Rattle.nofs_history.specs.Machine.{generation_of}
-use Rattle.nofs_history.specs.History.{agreed_files, files_along, values_given, metas_given, accepted_of}
-use Rattle.nofs_history.specs.History.{accepted_meta_of, last_in, begun, mark}
-use Rattle.nofs_history.specs.History.{before_mark, since_mark, since, since_meta, stands, mark_at, new_mark}
-use Rattle.nofs_model.specs.Image.{Image}
+use Rattle.nofs_history.specs.Since.{agreed_files, files_along, values_given, metas_given, accepted_of}
+use Rattle.nofs_history.specs.Since.{accepted_meta_of, last_in, begun, mark}
+use Rattle.nofs_history.specs.Since.{before_mark, since_mark, since, since_meta, stands}
+use Rattle.nofs_history.specs.Marks.{mark_at, new_mark}
+use Rattle.nofs_model.specs.Geometry.{Image}
 
 and-true : (a b : Bool) → (a && (b && true)) ≡ (a && b)
 and-true true true = refl

@@ -4,13 +4,21 @@ use Rattle.std.proofs.Common.{arith}
 use Rattle.nofs_model.specs.declared.image.path.PathAnswer.{PathAnswer}
 use Rattle.nofs_crashlaw.specs.Untouched.Frames.{OldPointers, Touches}
 use Rattle.nofs_model.proofs.OnSlots.Find.{agrees-true, find-held}
-use Rattle.nofs_model.proofs.OnSlots.Paths.{path_of-slot}
+use Rattle.nofs_ptrs.specs.PathLaws.{path_of-slot}
 use Rattle.nofs_crashlaw.proofs.OnUntouched.Inodes.{one-owner}
 use Rattle.nofs_model.specs.declared.image.path.PathAnswer.TheVariants as answer
-use Rattle.nofs_model.specs.Cells.{Cell, Tag, Pointer, Record, tag_of, is_null, pointer_at, slot_limit}
-use Rattle.nofs_model.specs.Image.{super_in, Image, cell_at, super_at, is_data_block, inode, value, value_in, Path}
-use Rattle.nofs_model.specs.Image.{InRecord, Under, path_of, tag_for}
-use Rattle.nofs_model.specs.Image.{agrees, judged, find, pointer, record_pointer, IsSlot}
+use Rattle.nofs_disk.specs.declared.tag.Cell.{Cell}
+use Rattle.nofs_disk.specs.declared.tag.Tag.{Tag}
+use Rattle.nofs_disk.specs.declared.tag.Pointer.{Pointer}
+use Rattle.nofs_inode.specs.declared.inode.Record.{Record}
+use Rattle.nofs_disk.specs.Tag.{tag_of}
+use Rattle.nofs_disk.specs.Pointer.{is_null}
+use Rattle.nofs_ptrs.specs.Cells.{pointer_at}
+use Rattle.nofs_ptrs.specs.Paths.{slot_limit, Path, InRecord, Under, path_of, IsSlot}
+use Rattle.nofs_super.specs.Super.{super_in}
+use Rattle.nofs_model.specs.Geometry.{Image, super_at, is_data_block, inode}
+use Rattle.nofs_disk.specs.Disk.{cell_at}
+use Rattle.nofs_model.specs.Slots.{value, value_in, tag_for, agrees, judged, find, pointer, record_pointer}
 use Rattle.nofs_model.specs.declared.image.value.Value.{Value}
 use Rattle.nofs_model.specs.declared.image.value.Value.TheVariants.{Lost}
 

@@ -1,8 +1,7 @@
 -- What is live and not agreed stays the base's, as far as it is still there.
 use Rattle.nofs_crashlaw.specs.Histories.Laws.{LawRest}
 use Rattle.std.proofs.Common.{◌≡◌, ℕ, ◌⊎◌, inl, inr, Bool, true, false, List, [], ◌∷◌, ◌++◌, Option, Some, None}
-use Rattle.std.proofs.Common.{is_some, option_to_list, refl, sym, ap, ◌∙◌}
-use Rattle.std.proofs.Common.{subst}
+use Rattle.std.proofs.Common.{is_some, option_to_list, refl, sym, ap, ◌∙◌, subst}
 use Rattle.nofs_crashlaw.specs.Untouched.Frames.{OldPointers, Touches}
 use Rattle.nofs_crashlaw.proofs.OnLives.Images.{values-append, metas-append}
 use Rattle.nofs_crashlaw.proofs.OnUntouched.Matches.{matched-file, matched-agreed}
@@ -10,10 +9,14 @@ use Rattle.nofs_crashlaw.proofs.OnHistories.Rest.{value-or-lost}
 use Rattle.nofs_history.specs.Meta.{meta_of}
 use Rattle.nofs_history.specs.declared.machine.history.Entry1.{Entry1}
 use Rattle.nofs_history.specs.Machine.{given_by}
-use Rattle.nofs_history.specs.History.{agreed_files, files_along, values_given, metas_given, FilesMatch}
+use Rattle.nofs_history.specs.Since.{agreed_files, files_along, values_given, metas_given}
+use Rattle.nofs_history.specs.History.{FilesMatch}
 use Rattle.nofs_history.specs.Steady.{Untouched, SteadyRest}
-use Rattle.nofs_model.specs.Cells.{Record, is_live}
-use Rattle.nofs_model.specs.Image.{Image, inode, value, FileState, Files, files_in, agreed}
+use Rattle.nofs_inode.specs.declared.inode.Record.{Record}
+use Rattle.nofs_inode.specs.InodeRecords.{is_live}
+use Rattle.nofs_model.specs.Geometry.{Image, inode}
+use Rattle.nofs_model.specs.Slots.{value}
+use Rattle.nofs_model.specs.Files.{FileState, Files, files_in, agreed}
 use Rattle.nofs_model.specs.declared.image.value.Value.TheVariants.{Lost}
 
 -- F are the machine's files before the entry, and E after it

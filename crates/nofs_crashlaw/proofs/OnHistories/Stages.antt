@@ -6,14 +6,17 @@ use Rattle.std.proofs.lemmas.Bool.{cases_lt}
 use Rattle.nofs_disk.specs.Disk.{DiskState, IsDisk, Picks, cell_at}
 use Rattle.nofs_disk.specs.Moments.{AtEach}
 use Rattle.nofs_disk.specs.Adds.{Adds, WasOr, Adds-stays}
-use Rattle.nofs_model.specs.Cells.{Cell}
-use Rattle.nofs_model.specs.Image.{Image, super_at, Files, CellBelow}
+use Rattle.nofs_disk.specs.declared.tag.Cell.{Cell}
+use Rattle.nofs_model.specs.Geometry.{Image, super_at}
+use Rattle.nofs_model.specs.Files.{Files}
+use Rattle.nofs_model.specs.Sound.{CellBelow}
 use Rattle.nofs_crashlaw.specs.Images.Proper.{Proper}
 use Rattle.nofs_crashlaw.specs.Images.Moments.{during, OnlyProper}
 use Rattle.nofs_history.specs.Machine.{given_by, files_by}
-use Rattle.nofs_history.specs.History.{FilesMatch, agreed_files, files_along, mark_at, mark_from, begun, is_flushed}
+use Rattle.nofs_history.specs.History.{FilesMatch}
+use Rattle.nofs_history.specs.Since.{agreed_files, files_along, mark_from, begun, is_flushed}
+use Rattle.nofs_history.specs.Marks.{mark_at, IsUnderWay}
 use Rattle.nofs_history.specs.Allowed.{IsAllowed}
-use Rattle.nofs_history.specs.Marks.{IsUnderWay}
 use Rattle.nofs_history.specs.declared.machine.history.Entry1.{Entry1}
 use Rattle.nofs_crashlaw.proofs.OnLives.Images.{along-append}
 use Rattle.nofs_crashlaw.proofs.OnUntouched.Matches.{matched-file}

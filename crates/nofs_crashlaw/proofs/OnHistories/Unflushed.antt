@@ -1,7 +1,6 @@
 -- Until a flush has succeeded, the base is among what a crash may leave.
 use Rattle.std.proofs.Common.{◌≡◌, ◌≢◌, ℕ, true, false, cond, eqb, ◌&&◌, not, List, [], ◌∷◌, ◌++◌, take, Option, Some}
-use Rattle.std.proofs.Common.{None, is_some, inr, refl, sym, ap, ◌∙◌}
-use Rattle.std.proofs.Common.{subst, arith, Contains, eqb-true, eq-eqb}
+use Rattle.std.proofs.Common.{None, is_some, inr, refl, sym, ap, ◌∙◌, subst, arith, Contains, eqb-true, eq-eqb}
 use Rattle.std.specs.List.{list_any}
 use Rattle.std.proofs.lemmas.List.Elements.{Contains-append_left}
 use Rattle.nofs_crashlaw.specs.Histories.Laws.{LawUnflushed}
@@ -11,14 +10,16 @@ use Rattle.nofs_crashlaw.proofs.OnUntouched.Matches.{matched-file, gen-of}
 use Rattle.nofs_history.specs.Meta.{Meta, meta_of, is_bytes, is_gone}
 use Rattle.nofs_history.specs.declared.machine.history.Entry1.{Entry1}
 use Rattle.nofs_history.specs.Machine.{generation_of}
-use Rattle.nofs_history.specs.History.{SameFile, FilesMatch, agreed_files, files_along, accepted_of, accepted_meta_of}
-use Rattle.nofs_history.specs.History.{last_in, is_generation, mark}
-use Rattle.nofs_history.specs.History.{before_mark, since_mark, files_at_mark, values_given, metas_given, since}
-use Rattle.nofs_history.specs.History.{since_meta, stands}
-use Rattle.nofs_history.specs.Since.{IsSure}
+use Rattle.nofs_history.specs.History.{SameFile, FilesMatch}
+use Rattle.nofs_history.specs.Since.{agreed_files, files_along, accepted_of, accepted_meta_of}
+use Rattle.nofs_history.specs.Since.{last_in, is_generation, mark}
+use Rattle.nofs_history.specs.Since.{before_mark, since_mark, files_at_mark, values_given, metas_given, since}
+use Rattle.nofs_history.specs.Since.{since_meta, stands, IsSure}
 use Rattle.nofs_history.specs.Allowed.{HasVersions}
-use Rattle.nofs_model.specs.Cells.{is_live}
-use Rattle.nofs_model.specs.Image.{Image, inode, value, FileState, Files}
+use Rattle.nofs_inode.specs.InodeRecords.{is_live}
+use Rattle.nofs_model.specs.Geometry.{Image, inode}
+use Rattle.nofs_model.specs.Slots.{value}
+use Rattle.nofs_model.specs.Files.{FileState, Files}
 use Rattle.nofs_model.specs.declared.image.value.Value.{Value}
 use Rattle.nofs_model.specs.declared.image.value.Value.TheVariants.{Lost}
 

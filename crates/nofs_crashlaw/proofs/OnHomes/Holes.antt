@@ -1,13 +1,17 @@
 -- A new entry in a hole: the directory's slots after it, and where the claimed blocks stand.
 use Rattle.std.proofs.Common.{◌≡◌, ◌≢◌, ℕ, ◌+◌, ◌-◌, ◌<◌, ◌≤◌, ◌⊎◌, inl, inr, false, true, eqb, ◌||◌, Some, refl, sym}
 use Rattle.std.proofs.Common.{ap, ◌∙◌, subst, arith, ne_eqb}
-use Rattle.nofs_model.specs.Cells.{Pointer, Record}
-use Rattle.nofs_model.specs.Image.{Image, is_data_block, inode, files_in, agreed, Path, InRecord, Under, leaf, path_of}
-use Rattle.nofs_model.specs.Image.{find, FileState, Files}
-use Rattle.nofs_model.specs.Image.{node_in, NodeState, Absent, Present, Damaged, home_at, IsAbove, IsSlot}
+use Rattle.nofs_disk.specs.declared.tag.Pointer.{Pointer}
+use Rattle.nofs_inode.specs.declared.inode.Record.{Record}
+use Rattle.nofs_model.specs.Geometry.{Image, is_data_block, inode}
+use Rattle.nofs_model.specs.Files.{files_in, agreed, FileState, Files, node_in, NodeState, Absent, Present, Damaged}
+use Rattle.nofs_ptrs.specs.Paths.{Path, InRecord, Under, leaf, path_of, IsSlot}
+use Rattle.nofs_model.specs.Slots.{find, IsAbove}
+use Rattle.nofs_model.specs.Owners.{home_at}
 use Rattle.nofs_model.specs.declared.image.path.PathAnswer.{PathAnswer}
 use Rattle.nofs_model.specs.declared.image.path.PathAnswer.TheVariants as answer
-use Rattle.nofs_model.proofs.OnSlots.Paths.{path-direct, path-leaf, above-refl}
+use Rattle.nofs_ptrs.specs.PathLaws.{path-direct, path-leaf}
+use Rattle.nofs_model.proofs.OnSlots.Paths.{above-refl}
 use Rattle.nofs_history.specs.History.{FilesMatch}
 use Rattle.nofs_history.specs.World.{absent_above, blocks_for}
 use Rattle.nofs_history.specs.Claims.{is_claimed, slot_above}

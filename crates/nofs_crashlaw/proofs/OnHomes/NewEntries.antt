@@ -1,8 +1,13 @@
 -- Link and Make: each block has its home, and so have the claimed ones.
 use Rattle.std.proofs.Common.{◌≡◌, ◌≢◌, ℕ, ◌-◌, ◌/◌, ◌<◌, ◌≤◌, true, List, Option, Some, option_map, refl, sym, ap, ◌∙◌}
 use Rattle.std.proofs.Common.{subst, arith, ne_eqb}
-use Rattle.nofs_model.specs.Cells.{FileKind, Pointer, spelled_entry, slot_limit}
-use Rattle.nofs_model.specs.Image.{Image, files_in, agreed, FileState, Home, home_at}
+use Rattle.nofs_inode.specs.declared.inode.FileKind.{FileKind}
+use Rattle.nofs_disk.specs.declared.tag.Pointer.{Pointer}
+use Rattle.nofs_dirent.specs.Entries.{spelled_entry}
+use Rattle.nofs_ptrs.specs.Paths.{slot_limit}
+use Rattle.nofs_model.specs.Geometry.{Image}
+use Rattle.nofs_model.specs.Files.{files_in, agreed, FileState}
+use Rattle.nofs_model.specs.Owners.{Home, home_at}
 use Rattle.nofs_history.specs.Machine.{place_for, set_link, link_to, link_given, make_given, files_after}
 use Rattle.nofs_history.specs.History.{FilesMatch}
 use Rattle.nofs_history.specs.World.{World, blocks_for}

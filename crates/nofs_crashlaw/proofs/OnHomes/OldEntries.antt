@@ -1,11 +1,13 @@
 -- Rename and Drop: each block has its home.
 use Rattle.std.proofs.Common.{◌≡◌, ◌≢◌, ℕ, ◌/◌, ◌<◌, List, Option, Some, None, refl, sym, ap, ◌∙◌, subst, arith}
-use Rattle.nofs_dirent.specs.Entries.{entry_limit}
-use Rattle.nofs_model.specs.Cells.{Entry, Pointer, Record, spelled_entry}
-use Rattle.nofs_model.specs.Image.{Image, FileState, Files, entry_at}
+use Rattle.nofs_dirent.specs.Entries.{entry_limit, spelled_entry}
+use Rattle.nofs_dirent.specs.declared.entry.Entry.{Entry}
+use Rattle.nofs_disk.specs.declared.tag.Pointer.{Pointer}
+use Rattle.nofs_inode.specs.declared.inode.Record.{Record}
+use Rattle.nofs_model.specs.Geometry.{Image}
+use Rattle.nofs_model.specs.Files.{FileState, Files, entry_at}
 use Rattle.nofs_history.specs.Machine.{Given, zero_bytes, files_after, entry_given, no_meta, meta_given, nothing}
-use Rattle.nofs_history.specs.Machine.{link_to, without_link, drop_meta}
-use Rattle.nofs_history.specs.Machine.{drop_given, rename_given}
+use Rattle.nofs_history.specs.Machine.{link_to, without_link, drop_meta, drop_given, rename_given}
 use Rattle.nofs_history.specs.History.{FilesMatch}
 use Rattle.nofs_history.specs.World.{World}
 use Rattle.nofs_history.specs.Claims.{IsClaim}

@@ -1,9 +1,13 @@
 -- What a step on names leaves in slots that get no block, and how many blocks it claims.
 use Rattle.std.proofs.Common.{◌≡◌, ◌≢◌, ℕ, ◌+◌, ◌/◌, ◌<◌, inl, false, true, cond, ltb, List, Option, Some, None}
 use Rattle.std.proofs.Common.{is_some, refl, sym, ap, ◌∙◌}
-use Rattle.nofs_model.specs.Cells.{BackLink, Pointer, is_live, slot_limit}
-use Rattle.nofs_model.specs.Image.{Image, inode, files_in, agreed, value_in, node_in, Path, path_of, find, FileState}
-use Rattle.nofs_model.specs.Image.{Files, IsSlot, is_pointer_slot}
+use Rattle.nofs_inode.specs.declared.inode.BackLink.{BackLink}
+use Rattle.nofs_disk.specs.declared.tag.Pointer.{Pointer}
+use Rattle.nofs_inode.specs.InodeRecords.{is_live}
+use Rattle.nofs_ptrs.specs.Paths.{slot_limit, Path, path_of, IsSlot, is_pointer_slot}
+use Rattle.nofs_model.specs.Geometry.{Image, inode}
+use Rattle.nofs_model.specs.Files.{files_in, agreed, node_in, FileState, Files}
+use Rattle.nofs_model.specs.Slots.{value_in, find}
 use Rattle.nofs_model.specs.declared.image.path.PathAnswer.{PathAnswer}
 use Rattle.nofs_model.specs.declared.image.path.PathAnswer.TheVariants as answer
 use Rattle.nofs_model.specs.declared.image.value.Value.{Value}

@@ -1,7 +1,7 @@
 -- After a step on names each block has its home.
 use Rattle.std.proofs.Common.{◌≡◌, ◌≢◌, ℕ, Bool, true, false, eqb, ◌||◌, Option, Some, None, is_some, refl, sym, ap}
 use Rattle.std.proofs.Common.{◌∙◌, subst, eqb-true, eq-eqb}
-use Rattle.nofs_model.specs.Image.{files_in, agreed, FileState, Files}
+use Rattle.nofs_model.specs.Files.{files_in, agreed, FileState, Files}
 use Rattle.nofs_history.specs.Machine.{Given, born_file, file_after, files_after}
 use Rattle.nofs_crashlaw.specs.Maps.Moves.{HeldMove}
 use Rattle.nofs_crashlaw.proofs.OnMaps.Homes.{uses-inode}

@@ -1,9 +1,13 @@
 -- Where each cell that a read gives is below a bound, each live record and each tag of the data area is.
 use Rattle.std.proofs.Common.{◌≡◌, ℕ, ◌+◌, ◌-◌, ◌/◌, ◌%◌, ◌<◌, ◌≤◌, Bool, true, false, cond, leb, ltb, leb-true}
-use Rattle.std.proofs.Common.{ltb-true, Option, Some, IfSome, refl, sym}
-use Rattle.std.proofs.Common.{subst, arith}
-use Rattle.nofs_model.specs.Cells.{Tag, Record, tag_of, record_at, free_record, is_live}
-use Rattle.nofs_model.specs.Image.{Image, cell_at, super_at, is_data_block, is_inode, inode, CellBelow}
+use Rattle.std.proofs.Common.{ltb-true, Option, Some, IfSome, refl, sym, subst, arith}
+use Rattle.nofs_disk.specs.declared.tag.Tag.{Tag}
+use Rattle.nofs_inode.specs.declared.inode.Record.{Record}
+use Rattle.nofs_disk.specs.Tag.{tag_of}
+use Rattle.nofs_inode.specs.InodeRecords.{record_at, free_record, is_live}
+use Rattle.nofs_model.specs.Geometry.{Image, super_at, is_data_block, is_inode, inode}
+use Rattle.nofs_disk.specs.Disk.{cell_at}
+use Rattle.nofs_model.specs.Sound.{CellBelow}
 use Rattle.nofs_model.proofs.OnSlots.Find.{and-both}
 
 -- a live record is one of the table

@@ -4,10 +4,9 @@ use Rattle.std.proofs.Common.{◌∙◌, subst, arith, Contains}
 use Rattle.std.proofs.lemmas.Bool.{cases_lt}
 use Rattle.std.proofs.lemmas.List.{get_or_past}
 use Rattle.std.proofs.lemmas.List.Elements.{Contains-append_left}
-use Rattle.nofs_disk.specs.Disk.{Picks, no_cell}
+use Rattle.nofs_disk.specs.Disk.{Picks, no_cell, cell_at}
 use Rattle.nofs_crashlaw.specs.Images.Reasons.{Holes, Explained, Emptied, Fresh, Kept, WrittenAs, RecordExplained}
-use Rattle.nofs_crashlaw.specs.Images.Reasons.{Fine, IsKept, RecordStands, Solid, IsMark}
-use Rattle.nofs_crashlaw.specs.Images.Reasons.{FineImage, SolidImage}
+use Rattle.nofs_crashlaw.specs.Images.Reasons.{Fine, IsKept, RecordStands, Solid, IsMark, FineImage, SolidImage}
 use Rattle.nofs_crashlaw.specs.Images.Moments.{is_removal, during, AllExplained, LawFlush, LawMoment, LawImages}
 use Rattle.nofs_model.proofs.OnSlots.Find.{and-both}
 use Rattle.nofs_crashlaw.proofs.OnImages.Trace.{reads, same-super}
@@ -16,9 +15,16 @@ use Rattle.nofs_crashlaw.proofs.OnImages.Writes.{writes-proper}
 use Rattle.nofs_history.specs.Meta.{Meta, meta_of, MayRead}
 use Rattle.nofs_history.specs.Marks.{Mark}
 use Rattle.nofs_history.specs.Machine.{Given}
-use Rattle.nofs_model.specs.Cells.{Cell, Kind, Nothing, Content, Directory, Leaf, Table, Super, Tag, Pointer, Record}
-use Rattle.nofs_model.specs.Cells.{pointer_at, record_at}
-use Rattle.nofs_model.specs.Image.{Image, cell_at, inode, is_inode, Path, InRecord, Under, path_of}
+use Rattle.nofs_disk.specs.declared.tag.Cell.{Cell}
+use Rattle.nofs_disk.specs.declared.tag.Kind.{Kind}
+use Rattle.nofs_disk.specs.declared.tag.Kind.TheVariants.{Nothing, Content, Directory, Leaf, Table, Super}
+use Rattle.nofs_disk.specs.declared.tag.Tag.{Tag}
+use Rattle.nofs_disk.specs.declared.tag.Pointer.{Pointer}
+use Rattle.nofs_inode.specs.declared.inode.Record.{Record}
+use Rattle.nofs_ptrs.specs.Cells.{pointer_at}
+use Rattle.nofs_inode.specs.InodeRecords.{record_at}
+use Rattle.nofs_model.specs.Geometry.{Image, inode, is_inode}
+use Rattle.nofs_ptrs.specs.Paths.{Path, InRecord, Under, path_of}
 use Rattle.nofs_model.specs.declared.image.value.Value.{Value}
 use Rattle.nofs_model.specs.declared.image.value.Value.TheVariants.{Hole, Bytes}
 

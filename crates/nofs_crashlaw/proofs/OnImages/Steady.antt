@@ -8,10 +8,16 @@ use Rattle.nofs_model.proofs.OnSlots.Paths.{above-refl, above-up}
 use Rattle.nofs_model.specs.declared.image.path.PathAnswer.TheVariants as answer
 use Rattle.nofs_history.specs.Meta.{is_bytes}
 use Rattle.nofs_history.specs.Marks.{Mark}
-use Rattle.nofs_model.specs.Cells.{Cell, Pointer, tag_of, pointer_at, is_live, record_at, free_record}
-use Rattle.nofs_model.specs.Image.{super_in, Image, cell_at, super_at, is_data_block, is_inode, inode, Path, InRecord}
-use Rattle.nofs_model.specs.Image.{Under, path_of, tag_for, find}
-use Rattle.nofs_model.specs.Image.{pointer, value, value_in, IsAbove, AboveHolds}
+use Rattle.nofs_disk.specs.declared.tag.Cell.{Cell}
+use Rattle.nofs_disk.specs.declared.tag.Pointer.{Pointer}
+use Rattle.nofs_disk.specs.Tag.{tag_of}
+use Rattle.nofs_ptrs.specs.Cells.{pointer_at}
+use Rattle.nofs_inode.specs.InodeRecords.{is_live, record_at, free_record}
+use Rattle.nofs_super.specs.Super.{super_in}
+use Rattle.nofs_model.specs.Geometry.{Image, super_at, is_data_block, is_inode, inode}
+use Rattle.nofs_disk.specs.Disk.{cell_at}
+use Rattle.nofs_ptrs.specs.Paths.{Path, InRecord, Under, path_of}
+use Rattle.nofs_model.specs.Slots.{tag_for, find, pointer, value, value_in, IsAbove, AboveHolds}
 use Rattle.nofs_model.specs.declared.image.value.Value.TheVariants.{Bytes}
 
 -- a slot that holds has those above it hold

@@ -1,27 +1,33 @@
 -- Whatever image a crash leaves, each slot that holds was held so at the mark, or its block was written since.
 use Rattle.std.proofs.Common.{◌≡◌, ℕ, ◌+◌, ◌-◌, ◌/◌, ◌%◌, ◌<◌, inl, inr, Bool, true, false, cond, eqb, List, Option}
-use Rattle.std.proofs.Common.{Some, None, refl, sym, ap, ◌∙◌, subst}
-use Rattle.std.proofs.Common.{subst₂, arith, Contains, eqb-true}
-use Rattle.nofs_model.specs.Kinds.{Directory as Folder}
+use Rattle.std.proofs.Common.{Some, None, refl, sym, ap, ◌∙◌, subst, subst₂, arith, Contains, eqb-true}
+use Rattle.nofs_inode.specs.declared.inode.FileKind.TheVariants.{Directory as Folder, File}
 use Rattle.nofs_model.specs.declared.image.path.PathAnswer.{PathAnswer}
 use Rattle.nofs_crashlaw.specs.Images.Reasons.{Holes, FromMark, Explained, Emptied, Fresh, Kept, WrittenAs}
-use Rattle.nofs_crashlaw.specs.Images.Reasons.{RecordExplained, Written, IsMark, ReadsSince}
-use Rattle.nofs_crashlaw.specs.Images.Reasons.{FineImage}
+use Rattle.nofs_crashlaw.specs.Images.Reasons.{RecordExplained, Written, IsMark, ReadsSince, FineImage}
 use Rattle.nofs_model.proofs.OnSlots.Find.{and-both, Agrees, HoldsAt, find-held, find-null, judged-null}
-use Rattle.nofs_model.proofs.OnSlots.Find.{judged-built-null, null-kept, find-built}
-use Rattle.nofs_model.proofs.OnSlots.Find.{agrees-built}
-use Rattle.nofs_model.proofs.OnSlots.Paths.{path_of-slot_of, slot_of-path_of, path_of-slot, path_of-content}
-use Rattle.nofs_model.proofs.OnSlots.Paths.{above-refl, above-up, below-null}
+use Rattle.nofs_model.proofs.OnSlots.Find.{judged-built-null, null-kept, find-built, agrees-built}
+use Rattle.nofs_ptrs.specs.PathLaws.{path_of-slot_of, slot_of-path_of, path_of-slot}
+use Rattle.nofs_model.proofs.OnSlots.Paths.{path_of-content, above-refl, above-up, below-null}
 use Rattle.nofs_model.specs.declared.image.path.PathAnswer.TheVariants as answer
 use Rattle.nofs_history.specs.Meta.{MayRead}
 use Rattle.nofs_history.specs.Marks.{Mark}
-use Rattle.nofs_model.specs.Cells.{Cell, Kind, Content, Directory, Leaf, Tag, Pointer, FileKind, File, Record, tag_of}
-use Rattle.nofs_model.specs.Cells.{is_null, pointer_at, is_live}
-use Rattle.nofs_model.specs.Cells.{slot_limit, record_at, free_record}
-use Rattle.nofs_model.specs.Image.{super_in, Image, cell_at, super_at, is_data_block, is_inode, inode, Path, InRecord}
-use Rattle.nofs_model.specs.Image.{Under, path_of, slot_of}
-use Rattle.nofs_model.specs.Image.{is_pointer_slot, kind_in, tag_for, record_pointer, find, pointer, value, value_in}
-use Rattle.nofs_model.specs.Image.{AboveHolds, IsSlot}
+use Rattle.nofs_disk.specs.declared.tag.Cell.{Cell}
+use Rattle.nofs_disk.specs.declared.tag.Kind.{Kind}
+use Rattle.nofs_disk.specs.declared.tag.Kind.TheVariants.{Content, Directory, Leaf}
+use Rattle.nofs_disk.specs.declared.tag.Tag.{Tag}
+use Rattle.nofs_disk.specs.declared.tag.Pointer.{Pointer}
+use Rattle.nofs_inode.specs.declared.inode.FileKind.{FileKind}
+use Rattle.nofs_inode.specs.declared.inode.Record.{Record}
+use Rattle.nofs_disk.specs.Tag.{tag_of}
+use Rattle.nofs_disk.specs.Pointer.{is_null}
+use Rattle.nofs_ptrs.specs.Cells.{pointer_at}
+use Rattle.nofs_inode.specs.InodeRecords.{is_live, record_at, free_record}
+use Rattle.nofs_ptrs.specs.Paths.{slot_limit, Path, InRecord, Under, path_of, slot_of, is_pointer_slot, IsSlot}
+use Rattle.nofs_super.specs.Super.{super_in}
+use Rattle.nofs_model.specs.Geometry.{Image, super_at, is_data_block, is_inode, inode}
+use Rattle.nofs_disk.specs.Disk.{cell_at}
+use Rattle.nofs_model.specs.Slots.{kind_in, tag_for, record_pointer, find, pointer, value, value_in, AboveHolds}
 use Rattle.nofs_model.specs.declared.image.value.Value.{Value}
 use Rattle.nofs_model.specs.declared.image.value.Value.TheVariants.{Hole, Bytes}
 

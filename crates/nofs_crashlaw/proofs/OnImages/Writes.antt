@@ -1,7 +1,6 @@
 -- A write of a step leaves every block explained, and disturbs nothing that is sure.
 use Rattle.std.proofs.Common.{◌≡◌, ℕ, ◌+◌, ◌-◌, ◌/◌, ◌%◌, ◌<◌, ◌≤◌, inl, inr, true, ltb, leb, Option, Some, is_some}
-use Rattle.std.proofs.Common.{sym, ap, ◌∙◌, subst, subst₂, arith}
-use Rattle.std.proofs.Common.{leb-true}
+use Rattle.std.proofs.Common.{sym, ap, ◌∙◌, subst, subst₂, arith, leb-true}
 use Rattle.nofs_crashlaw.specs.Images.Reasons.{Holes, Explained, Emptied, Fresh, WrittenAs, RecordExplained, Fine}
 use Rattle.nofs_crashlaw.specs.Images.Reasons.{FineImage, IsKept, RecordStands, Solid}
 use Rattle.nofs_crashlaw.specs.Images.Reasons.{SolidImage, IsMark, KeepsPointers}
@@ -10,16 +9,28 @@ use Rattle.nofs_crashlaw.specs.Images.Proper.{ContentProper, PointersProper, Rec
 use Rattle.nofs_crashlaw.specs.Images.Proper.{Unchanged, Changed, Freed, Made, TableProper, Proper, OfContent}
 use Rattle.nofs_crashlaw.specs.Images.Proper.{OfPointers, OfTable}
 use Rattle.nofs_model.proofs.OnSlots.Find.{and-both, find-held}
-use Rattle.nofs_model.proofs.OnSlots.Paths.{path_of-slot_of, path_of-slot, above-slot}
+use Rattle.nofs_ptrs.specs.PathLaws.{path_of-slot_of, path_of-slot}
+use Rattle.nofs_model.proofs.OnSlots.Paths.{above-slot}
 use Rattle.nofs_crashlaw.proofs.OnImages.Trace.{same-super, explained-record, explained}
 use Rattle.nofs_crashlaw.proofs.OnImages.Steady.{kept-holds, stands-record, steady}
 use Rattle.nofs_model.specs.declared.image.path.PathAnswer.TheVariants as answer
 use Rattle.nofs_history.specs.Meta.{is_bytes}
 use Rattle.nofs_history.specs.Marks.{Mark}
-use Rattle.nofs_model.specs.Cells.{Cell, Kind, Leaf, Pointer, FileKind, Record, tag_of, pointer_at, is_live, record_at}
-use Rattle.nofs_model.specs.Image.{Image, cell_at, super_at, is_data_block, is_inode, inode, Path, InRecord, Under}
-use Rattle.nofs_model.specs.Image.{path_of, slot_of, kind_in}
-use Rattle.nofs_model.specs.Image.{tag_for, record_pointer, find, pointer, files_in, agreed, IsSlot}
+use Rattle.nofs_disk.specs.declared.tag.Cell.{Cell}
+use Rattle.nofs_disk.specs.declared.tag.Kind.{Kind}
+use Rattle.nofs_disk.specs.declared.tag.Kind.TheVariants.{Leaf}
+use Rattle.nofs_disk.specs.declared.tag.Pointer.{Pointer}
+use Rattle.nofs_disk.specs.declared.tag.Tag.{Tag}
+use Rattle.nofs_inode.specs.declared.inode.FileKind.{FileKind}
+use Rattle.nofs_inode.specs.declared.inode.Record.{Record}
+use Rattle.nofs_disk.specs.Tag.{tag_of}
+use Rattle.nofs_ptrs.specs.Cells.{pointer_at}
+use Rattle.nofs_inode.specs.InodeRecords.{is_live, record_at}
+use Rattle.nofs_model.specs.Geometry.{Image, super_at, is_data_block, is_inode, inode}
+use Rattle.nofs_disk.specs.Disk.{cell_at}
+use Rattle.nofs_ptrs.specs.Paths.{Path, InRecord, Under, path_of, slot_of, IsSlot}
+use Rattle.nofs_model.specs.Slots.{kind_in, tag_for, record_pointer, find, pointer}
+use Rattle.nofs_model.specs.Files.{files_in, agreed}
 use Rattle.nofs_model.specs.declared.image.value.Value.TheVariants.{Hole}
 
 kept-slot : (m : Mark) (i g : ℕ) (path : Path) → IsKept m i g path → IsSlot path
@@ -40,6 +51,11 @@ module _ (m : Mark) (X : Image) (h : IsMark m) (fine : FineImage m X) (solid : S
 
   still : KeepsPointers m X
   still = steady m h X super solid
+
+  not-first : (b : ℕ) → is_data_block m.image b ≡ true → 0 < b
+  not-first b area = let first = leb-true (1 + (super_at m.image).inodes / 4) b
+      (and-both (leb (1 + (super_at m.image).inodes / 4) b) (ltb b (super_at m.image).blocks) area).0 in
+      omega (arith, first)
 
   not-table : (b i : ℕ) → is_data_block m.image b ≡ true → is_inode m.image i ≡ true → 1 + (i - 1) / 4 ≡ b → ⊥
   not-table b i area range e =
@@ -81,18 +97,21 @@ module _ (m : Mark) (X : Image) (h : IsMark m) (fine : FineImage m X) (solid : S
   place-tag i g path x b c (inr free) k e eb =
       absurd (free i path x (kept-slot m i g path k) (tracked i g k.stands) (still i g path k ∙ e) eb)
 
+  -- and what is written there has the tag of the kept slot
+  kept-tag : (i g : ℕ) (path : Path) (x : Pointer) (b : ℕ) (c : Cell) (t : Tag) → tag_of c.tag ≡ Some t
+      → InPlaceOrFree X b c → IsKept m i g path → find m.image i path ≡ answer.Holds x → x.block ≡ b
+      → Some t ≡ Some (tag_for m.image i path x.stamp)
+  kept-tag i g path x b c t spelled place k e eb = sym spelled ∙ place-tag i g path x b c place k e eb
+      ∙ subst (λ (q : ℕ). tag_of (cell_at m.image q).tag ≡ Some (tag_for m.image i path x.stamp)) eb
+      (find-held m.image i path x e).agrees.tag
+
   content-fine : (b : ℕ) (c : Cell) → ContentProper m X b c → Fine m b c
   content-fine b c w = inr (record {
-    not_super = positive;
+    not_super = not-first b w.area;
     block = λ area. (w.tag, w.spelled, given w.tag.kind w.kind);
     table = λ i range e live. absurd (not-table b i w.area range e);
   })
     where
-      positive : 0 < b
-      positive = let first = leb-true (1 + (super_at m.image).inodes / 4) b
-          (and-both (leb (1 + (super_at m.image).inodes / 4) b) (ltb b (super_at m.image).blocks) w.area).0 in
-          omega (arith, first)
-
       given : (q : Kind) → IsContentKind q → WrittenAs m q w.tag c.payload
       given q (inl e) = rw e w.given
       given q (inr e) = rw e w.given
@@ -111,18 +130,14 @@ module _ (m : Mark) (X : Image) (h : IsMark m) (fine : FineImage m X) (solid : S
           → IsKept m i g (Under path n) → ⊥
       no-pointers i g path x k e eb n kn =
           let s = kept-slot m i g (Under path n) kn in
-          let hm = find-held m.image i path x e in
-          let t0 : tag_of (cell_at m.image b).tag ≡ Some (tag_for m.image i path x.stamp) =
-          subst (λ (q : ℕ). tag_of (cell_at m.image q).tag ≡ Some (tag_for m.image i path x.stamp)) eb hm.agrees.tag in
-          let t1 : Some w.tag ≡ Some (tag_for m.image i path x.stamp) = sym w.spelled
-          ∙ place-tag i g path x b c w.place k e eb ∙ t0 in
+          let t1 = kept-tag i g path x b c w.tag w.spelled w.place k e eb in
           let k1 : w.tag.kind ≡ kind_in (inode m.image i) path = cc t1 in
           let k2 : kind_in (inode m.image i) path ≡ Leaf = rw s.0 in
           elim w.kind [ inl a ↦ cc (a, k1, k2) | inr a ↦ cc (a, k1, k2) ]
 
   pointers-fine : (b : ℕ) (c : Cell) → PointersProper m X b c → Fine m b c
   pointers-fine b c w = inr (record {
-    not_super = positive;
+    not_super = not-first b w.area;
     block = λ area. (
       w.tag,
       w.spelled,
@@ -133,11 +148,6 @@ module _ (m : Mark) (X : Image) (h : IsMark m) (fine : FineImage m X) (solid : S
     table = λ i range e live. absurd (not-table b i w.area range e);
   })
     where
-      positive : 0 < b
-      positive = let first = leb-true (1 + (super_at m.image).inodes / 4) b
-          (and-both (leb (1 + (super_at m.image).inodes / 4) b) (ltb b (super_at m.image).blocks) w.area).0 in
-          omega (arith, first)
-
       at-path : path_of w.tag.slot ≡ w.path
       at-path = ap path_of w.slot ∙ path_of-slot_of w.path w.is_slot
 
@@ -155,11 +165,7 @@ module _ (m : Mark) (X : Image) (h : IsMark m) (fine : FineImage m X) (solid : S
           → IsKept m i g (Under path n) → pointer_at c.payload n ≡ pointer_at (cell_at m.image b).payload n
       each i g path x k e eb n kn =
           let s = kept-slot m i g (Under path n) kn in
-          let hm = find-held m.image i path x e in
-          let t0 : tag_of (cell_at m.image b).tag ≡ Some (tag_for m.image i path x.stamp) =
-          subst (λ (q : ℕ). tag_of (cell_at m.image q).tag ≡ Some (tag_for m.image i path x.stamp)) eb hm.agrees.tag in
-          let t1 : Some w.tag ≡ Some (tag_for m.image i path x.stamp) = sym w.spelled
-          ∙ place-tag i g path x b c w.place k e eb ∙ t0 in
+          let t1 = kept-tag i g path x b c w.tag w.spelled w.place k e eb in
           let ei : w.tag.inode ≡ i = cc t1 in
           let eg0 : w.tag.generation ≡ (inode m.image i).generation = cc t1 in
           let eg : w.tag.generation ≡ g = eg0 ∙ h.stood_generation i g k.stands in

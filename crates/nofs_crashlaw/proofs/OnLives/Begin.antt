@@ -11,10 +11,19 @@ use Rattle.nofs_model.proofs.OnSound.Writes.{tag-below, record-below}
 use Rattle.nofs_crashlaw.proofs.OnMaps.Fresh.{sole-is}
 use Rattle.nofs_history.specs.declared.machine.history.Entry1.{Entry1}
 use Rattle.nofs_history.specs.Machine.{given_by, files_by}
-use Rattle.nofs_history.specs.History.{values_given}
+use Rattle.nofs_history.specs.Since.{values_given}
 use Rattle.nofs_history.specs.World.{world_of}
-use Rattle.nofs_model.specs.Cells.{Cell, Super, Directory, Leaf, Tag, tag_of, pointer_at, entry_in}
-use Rattle.nofs_model.specs.Image.{is_super, is_geometry, Image, cell_at, super_at, is_mountable, CellBelow, IsBelow}
+use Rattle.nofs_disk.specs.declared.tag.Cell.{Cell}
+use Rattle.nofs_disk.specs.declared.tag.Kind.TheVariants.{Super, Directory, Leaf}
+use Rattle.nofs_disk.specs.declared.tag.Tag.{Tag}
+use Rattle.nofs_disk.specs.Tag.{tag_of}
+use Rattle.nofs_ptrs.specs.Cells.{pointer_at}
+use Rattle.nofs_dirent.specs.Entries.{entry_in}
+use Rattle.nofs_super.specs.Super.{is_super}
+use Rattle.nofs_super.specs.Geometry.{is_geometry}
+use Rattle.nofs_model.specs.Geometry.{Image, super_at, is_mountable}
+use Rattle.nofs_disk.specs.Disk.{cell_at}
+use Rattle.nofs_model.specs.Sound.{CellBelow, IsBelow}
 use Rattle.nofs_model.specs.declared.image.value.Value.{Value}
 
 nothing-in : (v : Value) → Contains [] v → ⊥

@@ -3,8 +3,14 @@ use Rattle.std.proofs.Common.{if◌then◌else◌, ◌≡◌, ◌≢◌, ℕ, Bo
 use Rattle.std.proofs.Common.{Option, Some, None, unwrap_or}
 use Rattle.std.proofs.Common.{option_to_list, refl, sym, ap, ◌∙◌, subst, eqb-true, eq-eqb, append_assoc, append-nil}
 use Rattle.std.proofs.Common.{ne_eqb}
-use Rattle.nofs_model.specs.Cells.{FileKind, BackLink, Entry, is_live, spelled_entry}
-use Rattle.nofs_model.specs.Image.{Image, inode, file_from, files_in, agreed, value, FileState, Files, entry_at}
+use Rattle.nofs_inode.specs.declared.inode.FileKind.{FileKind}
+use Rattle.nofs_inode.specs.declared.inode.BackLink.{BackLink}
+use Rattle.nofs_dirent.specs.declared.entry.Entry.{Entry}
+use Rattle.nofs_inode.specs.InodeRecords.{is_live}
+use Rattle.nofs_dirent.specs.Entries.{spelled_entry}
+use Rattle.nofs_model.specs.Geometry.{Image, inode}
+use Rattle.nofs_model.specs.Files.{file_from, files_in, agreed, FileState, Files, entry_at}
+use Rattle.nofs_model.specs.Slots.{value}
 use Rattle.nofs_model.specs.declared.image.value.Value.{Value}
 use Rattle.nofs_model.specs.declared.image.value.Value.TheVariants.{Hole}
 use Rattle.nofs_history.specs.Meta.{Meta, Gone, Is, meta_of}
@@ -13,11 +19,10 @@ use Rattle.nofs_history.specs.Machine.{link_given, drop_given}
 use Rattle.nofs_history.specs.Machine.{rename_given, put_given, resize_given, entry_given, link_to, zero_bytes}
 use Rattle.nofs_history.specs.Machine.{meta_given, no_meta, drop_meta, filled}
 use Rattle.nofs_history.specs.Machine.{new_file, after_meta, born_file, file_after, files_after, given_by, files_by}
-use Rattle.nofs_history.specs.Machine.{is_refused, is_write_fault}
-use Rattle.nofs_history.specs.Machine.{may_give}
-use Rattle.nofs_history.specs.History.{accepted_of, files_along, values_given, metas_given, last_in, NoWriteFault}
-use Rattle.nofs_history.specs.History.{accepted_meta_of, agreed_files}
-use Rattle.nofs_history.specs.History.{is_generation}
+use Rattle.nofs_history.specs.Machine.{is_refused, is_write_fault, may_give}
+use Rattle.nofs_history.specs.Since.{accepted_of, files_along, values_given, metas_given, last_in}
+use Rattle.nofs_history.specs.History.{NoWriteFault}
+use Rattle.nofs_history.specs.Since.{accepted_meta_of, agreed_files, is_generation}
 use Rattle.nofs_history.specs.declared.machine.history.Claims.{Claims}
 use Rattle.nofs_history.specs.declared.machine.history.Entry1.{Entry1}
 use Rattle.nofs_history.specs.declared.machine.steps.Step.{Step}

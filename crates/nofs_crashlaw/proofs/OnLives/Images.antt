@@ -2,19 +2,20 @@
 use Rattle.std.proofs.Common.{◌≡◌, ℕ, zero, suc, ◌<◌, ◌≤◌, ◌⊎◌, inl, inr, Bool, true, false, cond, List, [], ◌∷◌, ◌++◌}
 use Rattle.std.proofs.Common.{length, take, drop, option_to_list}
 use Rattle.std.proofs.Common.{refl, sym, ap, ◌∙◌, subst, arith, Contains, append_assoc, take-append-drop, take-take}
-use Rattle.std.proofs.Common.{length-take, drop_of_length-le, get_or}
-use Rattle.std.proofs.Common.{ltb}
+use Rattle.std.proofs.Common.{length-take, drop_of_length-le, get_or, ltb}
 use Rattle.std.proofs.lemmas.Bool.{cases_lt}
 use Rattle.std.proofs.lemmas.List.Elements.{Contains-append_left, Contains-append_right, Contains-append_cases}
-use Rattle.nofs_model.specs.Cells.{is_live, slot_limit}
-use Rattle.nofs_model.specs.Image.{Image, inode, value, Files}
+use Rattle.nofs_inode.specs.InodeRecords.{is_live}
+use Rattle.nofs_ptrs.specs.Paths.{slot_limit}
+use Rattle.nofs_model.specs.Geometry.{Image, inode}
+use Rattle.nofs_model.specs.Slots.{value}
+use Rattle.nofs_model.specs.Files.{Files}
 use Rattle.nofs_model.specs.declared.image.value.Value.{Value}
 use Rattle.nofs_model.specs.declared.image.value.Value.TheVariants.{Bytes}
 use Rattle.nofs_history.specs.Meta.{Meta}
 use Rattle.nofs_history.specs.Machine.{given_by, files_by}
-use Rattle.nofs_history.specs.History.{accepted_of, agreed_files, files_along, values_given, metas_given, last_in}
-use Rattle.nofs_history.specs.History.{is_generation, begun, mark}
-use Rattle.nofs_history.specs.History.{before_mark, since_mark, files_at_mark, since}
+use Rattle.nofs_history.specs.Since.{accepted_of, agreed_files, files_along, values_given, metas_given, last_in}
+use Rattle.nofs_history.specs.Since.{is_generation, begun, mark, before_mark, since_mark, files_at_mark, since}
 use Rattle.nofs_history.specs.Allowed.{HasVersions}
 use Rattle.nofs_history.specs.declared.machine.history.Entry1.{Entry1}
 

@@ -22,8 +22,9 @@ use Rattle.nofs_history.specs.Claims.{no_claims, claimed_blocks, IsClaim, next_s
 use Rattle.nofs_history.specs.Next.{Keeps, Next, AfterFault, ByRow, Done, ByRead, ByWrite, Run}
 use Rattle.nofs_history.specs.declared.machine.steps.Step.TheVariants as step
 use Rattle.nofs_history.specs.declared.machine.replies.Refusal.TheVariants as refusal
-use Rattle.nofs_model.specs.Cells.{Pointer, SuperBlock}
-use Rattle.nofs_model.specs.Image.{Image, super_at}
+use Rattle.nofs_disk.specs.declared.tag.Pointer.{Pointer}
+use Rattle.nofs_super.specs.declared.superblock.SuperBlock.{SuperBlock}
+use Rattle.nofs_model.specs.Geometry.{Image, super_at}
 
 abbrev pub AllUnder : ℕ → List ℕ → Type 0
 AllUnder high [] = Unit {0}

@@ -1,19 +1,26 @@
 -- What block 0 alone does not change: records, values, files, owners.
 use Rattle.std.proofs.Common.{◌≡◌, ◌≢◌, ℕ, zero, suc, ◌+◌, ◌-◌, ◌/◌, ◌%◌, ◌<◌, Bool, true, false, cond, eqb, leb, ltb}
-use Rattle.std.proofs.Common.{◌&&◌, ◌||◌, Option, Some, None}
-use Rattle.std.proofs.Common.{is_some, refl, sym, ap, ◌∙◌, arith, leb-true, le-leb}
+use Rattle.std.proofs.Common.{◌&&◌, ◌||◌, Option, Some, None, is_some, refl, sym, ap, ◌∙◌, arith, leb-true, le-leb}
 use Rattle.nofs_model.specs.declared.image.path.PathAnswer.{PathAnswer}
 use Rattle.nofs_crashlaw.specs.Lives.{IsNew, OnlySuper, SaysTheSame, LawOnlySuper}
 use Rattle.nofs_model.proofs.OnSlots.Find.{and-both, find-held, judged-built-null}
-use Rattle.nofs_model.proofs.OnSlots.Paths.{path_of-slot}
+use Rattle.nofs_ptrs.specs.PathLaws.{path_of-slot}
 use Rattle.nofs_model.specs.declared.image.path.PathAnswer.TheVariants as answer
-use Rattle.nofs_model.specs.Cells.{FileKind, Cell, Tag, Pointer, Record, tag_of, is_null, pointer_at, record_at}
-use Rattle.nofs_model.specs.Cells.{free_record, is_live, slot_limit}
-use Rattle.nofs_model.specs.Image.{Image, cell_at, super_at, is_data_block, is_inode, inode, Path, InRecord, Under}
-use Rattle.nofs_model.specs.Image.{path_of, slot_of, is_slot}
-use Rattle.nofs_model.specs.Image.{kind_in, is_tag, agrees, record_pointer, judged, find, value, value_in, node_in}
-use Rattle.nofs_model.specs.Image.{file_from, files_in, agreed, Home}
-use Rattle.nofs_model.specs.Image.{home_at, owner, owner_by, owner_found, is_special, is_used_block, IsSlot}
+use Rattle.nofs_inode.specs.declared.inode.FileKind.{FileKind}
+use Rattle.nofs_disk.specs.declared.tag.Cell.{Cell}
+use Rattle.nofs_disk.specs.declared.tag.Tag.{Tag}
+use Rattle.nofs_disk.specs.declared.tag.Pointer.{Pointer}
+use Rattle.nofs_inode.specs.declared.inode.Record.{Record}
+use Rattle.nofs_disk.specs.Tag.{tag_of}
+use Rattle.nofs_disk.specs.Pointer.{is_null}
+use Rattle.nofs_ptrs.specs.Cells.{pointer_at}
+use Rattle.nofs_inode.specs.InodeRecords.{record_at, free_record, is_live}
+use Rattle.nofs_ptrs.specs.Paths.{slot_limit, Path, InRecord, Under, path_of, slot_of, is_slot, IsSlot}
+use Rattle.nofs_model.specs.Geometry.{Image, super_at, is_data_block, is_inode, inode}
+use Rattle.nofs_disk.specs.Disk.{cell_at}
+use Rattle.nofs_model.specs.Slots.{kind_in, is_tag, agrees, record_pointer, judged, find, value, value_in}
+use Rattle.nofs_model.specs.Files.{node_in, file_from, files_in, agreed, is_special}
+use Rattle.nofs_model.specs.Owners.{Home, home_at, owner, owner_by, owner_found, is_used_block}
 use Rattle.nofs_model.specs.declared.image.value.Value.TheVariants.{Hole, Bytes}
 
 area-positive : (X : Image) (b : ℕ) → is_data_block X b ≡ true → b ≢ 0

@@ -5,9 +5,12 @@ use Rattle.nofs_crashlaw.specs.Lives.{SameOrUpgraded, Life, NextLife, Lives, Giv
 use Rattle.nofs_model.proofs.OnSlots.Find.{and-both}
 use Rattle.nofs_crashlaw.proofs.OnLives.Images.{left-given}
 use Rattle.nofs_crashlaw.proofs.OnLives.OnlySuper.{same-inode, same-value, no-bytes}
-use Rattle.nofs_history.specs.History.{agreed_files, values_given, is_generation}
-use Rattle.nofs_model.specs.Cells.{Record, is_live, slot_limit}
-use Rattle.nofs_model.specs.Image.{Image, inode, value}
+use Rattle.nofs_history.specs.Since.{agreed_files, values_given, is_generation}
+use Rattle.nofs_inode.specs.declared.inode.Record.{Record}
+use Rattle.nofs_inode.specs.InodeRecords.{is_live}
+use Rattle.nofs_ptrs.specs.Paths.{slot_limit}
+use Rattle.nofs_model.specs.Geometry.{Image, inode}
+use Rattle.nofs_model.specs.Slots.{value}
 use Rattle.nofs_model.specs.declared.image.value.Value.TheVariants.{Bytes}
 
 lives-tail : (l : Life) (ls : List Life) → Lives (l ∷ ls) → Lives ls

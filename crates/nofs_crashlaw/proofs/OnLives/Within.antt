@@ -10,8 +10,9 @@ use Rattle.nofs_history.specs.Refusals.{rows}
 use Rattle.nofs_history.specs.Claims.{no_claims, IsClaim, next_stamp}
 use Rattle.nofs_history.specs.Next.{Next, AfterFault, ByRow, Done, ByRead, ByWrite}
 use Rattle.nofs_history.specs.Good.{IsFresh}
-use Rattle.nofs_model.specs.Cells.{Cell}
-use Rattle.nofs_model.specs.Image.{Image, cell_at, super_at}
+use Rattle.nofs_disk.specs.declared.tag.Cell.{Cell}
+use Rattle.nofs_model.specs.Geometry.{Image, super_at}
+use Rattle.nofs_disk.specs.Disk.{cell_at}
 
 weaken : (a b : ℕ) (W : World) (Y : Image) (after : ℕ → List Cell) → a ≤ b → AllBelow a W Y after → AllBelow b W Y after
 weaken a b W Y after le h p lt c has = move-cell a b Y Y p c le refl (h p lt c has)

@@ -1,16 +1,15 @@
 -- As many blocks as a step needs can be claimed, where no row refuses it.
 use Rattle.std.proofs.Common.{◌≡◌, ◌≢◌, ℕ, zero, suc, ◌+◌, ◌≤◌, Bool, true, false, eqb, ltb, List, [], ◌∷◌, length}
-use Rattle.std.proofs.Common.{Option, Some, None}
-use Rattle.std.proofs.Common.{refl, subst, arith, Contains, ne_eqb, ltb-false}
+use Rattle.std.proofs.Common.{Option, Some, None, refl, subst, arith, Contains, ne_eqb, ltb-false}
 use Rattle.std.proofs.lemmas.Bool.{eqb-false}
-use Rattle.nofs_model.specs.Cells.{Pointer, null}
+use Rattle.nofs_disk.specs.declared.tag.Pointer.{Pointer}
+use Rattle.nofs_disk.specs.Pointer.{null}
 use Rattle.nofs_history.specs.Search.{first_of}
 use Rattle.nofs_history.specs.World.{World, is_free_inode, is_free_block, free_inodes, free_blocks, inodes_needed}
 use Rattle.nofs_history.specs.World.{blocks_needed}
 use Rattle.nofs_history.specs.Refusals.{row, full, rows}
 use Rattle.nofs_history.specs.Claims.{claimed_blocks, Apart, Claimed, Unclaimed, IsBlockClaim, ClaimedInode, NoInode}
-use Rattle.nofs_history.specs.Claims.{IsInodeClaim}
-use Rattle.nofs_history.specs.Claims.{next_stamp}
+use Rattle.nofs_history.specs.Claims.{IsInodeClaim, next_stamp}
 use Rattle.nofs_history.specs.declared.machine.history.Claims.{Claims}
 use Rattle.nofs_history.specs.declared.machine.steps.Step.{Step}
 use Rattle.nofs_history.specs.declared.machine.steps.Step.TheVariants as step

@@ -7,8 +7,9 @@ use Rattle.std.proofs.lemmas.List.Elements.{All-nil, All-cons, All-append}
 use Rattle.nofs_disk.specs.Number.{number_at}
 use Rattle.nofs_dirent.specs.Entries.{entry_of, entry_fields, has_zeros_after, entry_limit}
 use Rattle.nofs_dirent.specs.Names.{is_name}
-use Rattle.nofs_model.specs.Cells.{BackLink, Entry}
-use Rattle.nofs_model.specs.Image.{Files, FileState, entry_at, entry_in_file, entry_held, is_folder}
+use Rattle.nofs_inode.specs.declared.inode.BackLink.{BackLink}
+use Rattle.nofs_dirent.specs.declared.entry.Entry.{Entry}
+use Rattle.nofs_model.specs.Files.{Files, FileState, entry_at, entry_in_file, entry_held, is_folder}
 use Rattle.nofs_model.specs.declared.image.value.Value.{Value}
 use Rattle.nofs_model.specs.declared.image.value.Value.TheVariants.{Hole, Bytes, Lost}
 use Rattle.nofs_history.specs.Search.{count_below, least_from, first_of}
@@ -17,8 +18,7 @@ use Rattle.nofs_history.specs.Steps.{InRange, Fits}
 use Rattle.nofs_history.specs.World.{World, next_inode}
 use Rattle.nofs_history.specs.Refusals.{row, rows}
 use Rattle.nofs_history.specs.Answers.{line_of, lines_from, lines_in_slot, listed_reply, got_reply, found_file}
-use Rattle.nofs_history.specs.Answers.{found_entry, found_reply}
-use Rattle.nofs_history.specs.Answers.{dropped_entry, dropped_reply, stat_file, reply_of}
+use Rattle.nofs_history.specs.Answers.{found_entry, found_reply, dropped_entry, dropped_reply, stat_file, reply_of}
 use Rattle.nofs_history.specs.Next.{Next, AfterFault, ByRow, Done, ByRead, ByWrite}
 use Rattle.nofs_history.specs.declared.machine.history.Entry1.{Entry1}
 use Rattle.nofs_history.specs.declared.machine.history.Claims.{Claims}

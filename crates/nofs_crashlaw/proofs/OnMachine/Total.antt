@@ -2,15 +2,13 @@
 -- changes, and what was seen.
 use Rattle.std.proofs.Common.{◌≡◌, ◌≢◌, ℕ, ◌+◌, ◌⊎◌, inl, inr, Bool, true, false, ◌||◌, List, Option, Some, None}
 use Rattle.std.proofs.Common.{refl, subst}
-use Rattle.nofs_model.specs.Image.{Files}
+use Rattle.nofs_model.specs.Files.{Files}
 use Rattle.nofs_history.specs.Search.{first_of}
 use Rattle.nofs_history.specs.Machine.{gives, files_after, is_fault}
-use Rattle.nofs_history.specs.World.{World, uses_inode, uses_block, inodes_needed}
-use Rattle.nofs_history.specs.World.{blocks_needed}
+use Rattle.nofs_history.specs.World.{World, uses_inode, uses_block, inodes_needed, blocks_needed}
 use Rattle.nofs_history.specs.Refusals.{rows}
 use Rattle.nofs_history.specs.Answers.{reply_of}
-use Rattle.nofs_history.specs.Claims.{no_claims}
-use Rattle.nofs_history.specs.Claims.{next_stamp, IsClaim, homes_after}
+use Rattle.nofs_history.specs.Claims.{no_claims, next_stamp, IsClaim, homes_after}
 use Rattle.nofs_history.specs.Next.{names_inode, sees_inode, sees_block, Learns, Next, AfterFault, ByRow, Done}
 use Rattle.nofs_history.specs.declared.machine.history.Claims.{Claims}
 use Rattle.nofs_history.specs.declared.machine.history.Entry1.{Entry1}

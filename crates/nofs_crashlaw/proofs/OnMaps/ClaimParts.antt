@@ -5,15 +5,16 @@ use Rattle.std.proofs.Common.{◌++◌, length, Option, Some, None, refl, sym, a
 use Rattle.std.proofs.Common.{get_or, eqb-true}
 use Rattle.std.proofs.lemmas.Bool.{le-leb}
 use Rattle.std.proofs.lemmas.List.Elements.{Contains-append_cases}
-use Rattle.nofs_model.specs.Cells.{Pointer, null, slot_limit}
-use Rattle.nofs_model.specs.Image.{Path, InRecord, Under, path_of, NodeState, Absent, Present, Damaged, Files}
+use Rattle.nofs_disk.specs.declared.tag.Pointer.{Pointer}
+use Rattle.nofs_disk.specs.Pointer.{null}
+use Rattle.nofs_ptrs.specs.Paths.{slot_limit, Path, InRecord, Under, path_of}
+use Rattle.nofs_model.specs.Files.{NodeState, Absent, Present, Damaged, Files}
 use Rattle.nofs_history.specs.Meta.{is_bytes}
 use Rattle.nofs_history.specs.Machine.{value_of, node_of, place_for}
 use Rattle.nofs_history.specs.World.{World, is_free_block, is_free_inode, absent_above, blocks_for, blocks_at}
 use Rattle.nofs_history.specs.World.{blocks_needed, inodes_needed}
 use Rattle.nofs_history.specs.Claims.{is_claimed, claimed_blocks, Claimed, Unclaimed, IsBlockClaim, ClaimedInode}
-use Rattle.nofs_history.specs.Claims.{NoInode, IsInodeClaim, next_stamp}
-use Rattle.nofs_history.specs.Claims.{IsClaim}
+use Rattle.nofs_history.specs.Claims.{NoInode, IsInodeClaim, next_stamp, IsClaim}
 use Rattle.nofs_history.specs.declared.machine.history.Claims.{Claims}
 use Rattle.nofs_history.specs.declared.machine.steps.Step.{Step}
 use Rattle.nofs_history.specs.declared.machine.steps.Step.TheVariants as step

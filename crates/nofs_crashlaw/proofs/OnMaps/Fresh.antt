@@ -1,5 +1,5 @@
 -- Each step keeps fresh what a crash may leave.
-use Rattle.nofs_super.specs.Geometry.{is_geometry-parts}
+use Rattle.nofs_super.specs.Geometry.{is_geometry-parts, is_geometry}
 use Rattle.nofs_crashlaw.proofs.OnMaps.ClaimParts.{claim-count, claim-stamps, claim-inode, CountsUp}
 use Rattle.std.proofs.Common.{◌≡◌, ◌≢◌, ℕ, zero, suc, ◌+◌, ◌-◌, ◌*◌, ◌/◌, ◌%◌, ◌^◌, ◌<◌, ◌≤◌, inl, inr, Bool, true}
 use Rattle.std.proofs.Common.{false, cond, leb, ltb, List, [], ◌∷◌}
@@ -21,12 +21,24 @@ use Rattle.nofs_history.specs.World.{World, inodes_needed}
 use Rattle.nofs_history.specs.Claims.{no_claims, claimed_blocks, IsClaim, next_stamp}
 use Rattle.nofs_history.specs.Next.{Keeps, AfterFault, ByRow, Done, ByRead, ByWrite}
 use Rattle.nofs_history.specs.Good.{IsFresh}
-use Rattle.nofs_model.specs.Cells.{Cell, Kind, Content, Directory, Leaf, Table, Tag, Pointer, Record, Entry, tag_of}
-use Rattle.nofs_model.specs.Cells.{null, pointer_at, record_at}
-use Rattle.nofs_model.specs.Cells.{free_record, is_live, entry_in}
-use Rattle.nofs_model.specs.Image.{is_super, is_geometry, Image, cell_at, super_at, is_mountable, is_inode, inode}
-use Rattle.nofs_model.specs.Image.{InRecord, Under, tag_for, find}
-use Rattle.nofs_model.specs.Image.{pointer, TagBelow, RecordBelow, CellBelow, IsBelow}
+use Rattle.nofs_disk.specs.declared.tag.Cell.{Cell}
+use Rattle.nofs_disk.specs.declared.tag.Kind.{Kind}
+use Rattle.nofs_disk.specs.declared.tag.Kind.TheVariants.{Content, Directory, Leaf, Table}
+use Rattle.nofs_disk.specs.declared.tag.Tag.{Tag}
+use Rattle.nofs_disk.specs.declared.tag.Pointer.{Pointer}
+use Rattle.nofs_inode.specs.declared.inode.Record.{Record}
+use Rattle.nofs_dirent.specs.declared.entry.Entry.{Entry}
+use Rattle.nofs_disk.specs.Tag.{tag_of}
+use Rattle.nofs_disk.specs.Pointer.{null}
+use Rattle.nofs_ptrs.specs.Cells.{pointer_at}
+use Rattle.nofs_inode.specs.InodeRecords.{record_at, free_record, is_live}
+use Rattle.nofs_dirent.specs.Entries.{entry_in}
+use Rattle.nofs_super.specs.Super.{is_super}
+use Rattle.nofs_model.specs.Geometry.{Image, super_at, is_mountable, is_inode, inode}
+use Rattle.nofs_disk.specs.Disk.{cell_at}
+use Rattle.nofs_ptrs.specs.Paths.{InRecord, Under}
+use Rattle.nofs_model.specs.Slots.{tag_for, find, pointer}
+use Rattle.nofs_model.specs.Sound.{TagBelow, RecordBelow, CellBelow, IsBelow}
 
 -- What is claimed is below the next number
 

@@ -1,8 +1,7 @@
 -- Maps stay good, and what is claimed was free.
 use Rattle.nofs_crashlaw.proofs.OnMaps.ClaimParts.{claim-free, claim-inode}
 use Rattle.std.proofs.Common.{◌≡◌, ◌≢◌, ℕ, ◌+◌, ◌/◌, ◌<◌, Bool, true, false, leb, ltb, ◌&&◌, ◌||◌, not, Option, Some}
-use Rattle.std.proofs.Common.{None, is_some, Contains, refl, sym, ap}
-use Rattle.std.proofs.Common.{◌∙◌, subst, arith, lt-ltb}
+use Rattle.std.proofs.Common.{None, is_some, Contains, refl, sym, ap, ◌∙◌, subst, arith, lt-ltb}
 use Rattle.std.proofs.lemmas.Bool.Decides.{nat_tests}
 use Rattle.nofs_crashlaw.specs.Maps.Homes.{SameNumbers, LawGoodDone, LawGoodKept, LawClaims}
 use Rattle.nofs_model.proofs.OnSlots.Find.{and-both}
@@ -14,8 +13,12 @@ use Rattle.nofs_history.specs.World.{World, uses_inode, uses_block}
 use Rattle.nofs_history.specs.Claims.{claimed_blocks}
 use Rattle.nofs_history.specs.Next.{Keeps}
 use Rattle.nofs_history.specs.Good.{MatchesSuper}
-use Rattle.nofs_model.specs.Cells.{Pointer, SuperBlock}
-use Rattle.nofs_model.specs.Image.{Image, cell_at, super_at, owner, Home, Files, is_special, is_used_block}
+use Rattle.nofs_disk.specs.declared.tag.Pointer.{Pointer}
+use Rattle.nofs_super.specs.declared.superblock.SuperBlock.{SuperBlock}
+use Rattle.nofs_model.specs.Geometry.{Image, super_at}
+use Rattle.nofs_disk.specs.Disk.{cell_at}
+use Rattle.nofs_model.specs.Owners.{owner, Home, is_used_block}
+use Rattle.nofs_model.specs.Files.{Files, is_special}
 
 -- the numbers of a world go on, and so does block 0
 pub numbers-on : (W V : World) (X Y : Image) → SameNumbers W V → cell_at Y 0 ≡ cell_at X 0 → MatchesSuper W X

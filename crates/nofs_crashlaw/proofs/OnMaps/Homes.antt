@@ -1,13 +1,13 @@
 -- The homes of the machine after a step are the owners of the image after it.
 use Rattle.std.proofs.Common.{◌≡◌, ℕ, ◌+◌, ◌-◌, ◌^◌, ◌/◌, ◌<◌, ◌≤◌, ◌⊎◌, inl, inr, Bool, true, false, cond, leb, ltb}
-use Rattle.std.proofs.Common.{◌||◌, not, Option, Some, None, is_some}
-use Rattle.std.proofs.Common.{refl, sym, ap, ◌∙◌, subst, arith, lt-ltb, le-ltb}
+use Rattle.std.proofs.Common.{◌||◌, not, Option, Some, None, is_some, refl, sym, ap, ◌∙◌, subst, arith, lt-ltb, le-ltb}
 use Rattle.std.proofs.lemmas.Bool.{cases_lt}
 use Rattle.std.proofs.lemmas.Bool.Decides.{nat_tests}
 use Rattle.nofs_model.specs.declared.image.path.PathAnswer.{PathAnswer}
 use Rattle.nofs_crashlaw.specs.Maps.Homes.{Houses, HomesMove, LawHomes, LawGood}
 use Rattle.nofs_model.proofs.OnSlots.Find.{find-held}
-use Rattle.nofs_model.proofs.OnSlots.Paths.{path_of-slot_of, path-record, path-child, path_of-number}
+use Rattle.nofs_ptrs.specs.PathLaws.{path_of-slot_of}
+use Rattle.nofs_model.proofs.OnSlots.Paths.{path-record, path-child, path_of-number}
 use Rattle.nofs_crashlaw.proofs.OnUntouched.Matches.{matched-file, matched-agreed}
 use Rattle.nofs_model.proofs.OnOwners.Slots.{owner-of, owner-holds, owner-slot}
 use Rattle.nofs_crashlaw.proofs.OnUntouched.Agreement.{same-of, live-some, agreed-some}
@@ -20,11 +20,15 @@ use Rattle.nofs_history.specs.declared.machine.history.Claims.{Claims}
 use Rattle.nofs_history.specs.History.{FilesMatch, SameFile}
 use Rattle.nofs_history.specs.World.{World}
 use Rattle.nofs_history.specs.Claims.{claimed_home, is_present, has_block, homes_after}
-use Rattle.nofs_model.specs.Cells.{FileKind, Pointer, slot_limit}
-use Rattle.nofs_model.specs.Image.{Image, cell_at, super_at, inode, file_from, files_in, agreed, value_in, Path}
-use Rattle.nofs_model.specs.Image.{path_of, slot_of, is_pointer_slot}
-use Rattle.nofs_model.specs.Image.{find, NodeState, Absent, Present, node_in, FileState, Files, Home, home_at, owner}
-use Rattle.nofs_model.specs.Image.{is_special, IsSlot}
+use Rattle.nofs_inode.specs.declared.inode.FileKind.{FileKind}
+use Rattle.nofs_disk.specs.declared.tag.Pointer.{Pointer}
+use Rattle.nofs_ptrs.specs.Paths.{slot_limit, Path, path_of, slot_of, is_pointer_slot, IsSlot}
+use Rattle.nofs_model.specs.Geometry.{Image, super_at, inode}
+use Rattle.nofs_disk.specs.Disk.{cell_at}
+use Rattle.nofs_model.specs.Files.{file_from, files_in, agreed, NodeState, Absent, Present, node_in, FileState, Files}
+use Rattle.nofs_model.specs.Slots.{value_in, find}
+use Rattle.nofs_model.specs.Owners.{Home, home_at, owner}
+use Rattle.nofs_model.specs.Files.{is_special}
 use Rattle.nofs_model.specs.declared.image.value.Value.{Value}
 use Rattle.nofs_model.specs.declared.image.value.Value.TheVariants.{Bytes, Hole}
 

@@ -6,7 +6,7 @@ use Rattle.std.proofs.Common.{refl, sym, ap, ◌∙◌, subst, arith, eqb-true, 
 use Rattle.nofs_crashlaw.specs.Maps.Homes.{Houses}
 use Rattle.nofs_crashlaw.specs.Maps.Moves.{IsClaimed, ClaimsStand, LawHomesMove, LawGrow, LawShrink, LawBare}
 use Rattle.nofs_model.proofs.OnSlots.Find.{and-both, find-held}
-use Rattle.nofs_model.proofs.OnSlots.Paths.{path_of-slot, slot_of-path_of}
+use Rattle.nofs_ptrs.specs.PathLaws.{path_of-slot, slot_of-path_of}
 use Rattle.nofs_crashlaw.proofs.OnFiles.Growth.{above-or-not}
 use Rattle.nofs_crashlaw.proofs.OnUntouched.Inodes.{same-find}
 use Rattle.nofs_model.specs.declared.image.path.PathAnswer.TheVariants as answer
@@ -17,9 +17,14 @@ use Rattle.nofs_history.specs.Machine.{place_for}
 use Rattle.nofs_history.specs.World.{blocks_needed, blocks_at}
 use Rattle.nofs_history.specs.Claims.{is_claimed, claimed_blocks, cell_slot, slot_above, claimed_home}
 use Rattle.nofs_history.specs.declared.machine.steps.Step.TheVariants as step
-use Rattle.nofs_model.specs.Cells.{Pointer, Record, is_live}
-use Rattle.nofs_model.specs.Image.{Image, inode, files_in, agreed, Path, InRecord, Under, path_of, slot_of, find, Files}
-use Rattle.nofs_model.specs.Image.{Home, home_at, IsSlot}
+use Rattle.nofs_disk.specs.declared.tag.Pointer.{Pointer}
+use Rattle.nofs_inode.specs.declared.inode.Record.{Record}
+use Rattle.nofs_inode.specs.InodeRecords.{is_live}
+use Rattle.nofs_model.specs.Geometry.{Image, inode}
+use Rattle.nofs_model.specs.Files.{files_in, agreed, Files}
+use Rattle.nofs_ptrs.specs.Paths.{Path, InRecord, Under, path_of, slot_of, IsSlot}
+use Rattle.nofs_model.specs.Slots.{find}
+use Rattle.nofs_model.specs.Owners.{Home, home_at}
 
 above-is-slot : (a : Path) → IsSlot a → IsSlot (slot_above a)
 above-is-slot (InRecord n) s = s

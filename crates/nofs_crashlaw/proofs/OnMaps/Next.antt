@@ -1,7 +1,7 @@
 -- Good goes on over each step that has no fault of writing.
 use Rattle.std.proofs.Common.{◌≡◌, ℕ, ◌<◌, Bool, true, false, Option, Some, None, refl, sym, ap, ◌∙◌, subst}
 use Rattle.nofs_crashlaw.specs.Maps.Homes.{HomesMove, HomesMatch, GoodMaps, SameNumbers, LawGoodNext}
-use Rattle.nofs_model.proofs.OnSlots.Paths.{path_of-slot_of}
+use Rattle.nofs_ptrs.specs.PathLaws.{path_of-slot_of}
 use Rattle.nofs_crashlaw.proofs.OnMaps.Homes.{owner-houses, holds-has, back, forth, law-good, law-homes}
 use Rattle.nofs_crashlaw.proofs.OnMaps.Good.{numbers-on, kept-numbers}
 use Rattle.nofs_crashlaw.proofs.OnMaps.Moves.{home-is, home_by}
@@ -15,7 +15,12 @@ use Rattle.nofs_history.specs.World.{World}
 use Rattle.nofs_history.specs.Claims.{no_claims, cell_slot, claimed_home, has_block}
 use Rattle.nofs_history.specs.Next.{Keeps, Next, AfterFault, ByRow, Done, ByRead, ByWrite}
 use Rattle.nofs_history.specs.Good.{IsGood}
-use Rattle.nofs_model.specs.Image.{Image, cell_at, Path, path_of, find, Home, owner, Files, IsSlot}
+use Rattle.nofs_model.specs.Geometry.{Image}
+use Rattle.nofs_disk.specs.Disk.{cell_at}
+use Rattle.nofs_ptrs.specs.Paths.{Path, path_of, IsSlot}
+use Rattle.nofs_model.specs.Slots.{find}
+use Rattle.nofs_model.specs.Owners.{Home, owner}
+use Rattle.nofs_model.specs.Files.{Files}
 
 -- no claims make no home
 no-home : (F : Files) (step : Step) (p : ℕ) → claimed_home F step no_claims p ≡ None

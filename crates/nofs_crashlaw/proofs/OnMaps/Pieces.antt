@@ -1,6 +1,7 @@
 -- Where the numbers in a written cell come from.
 use Rattle.nofs_crashlaw.proofs.OnNames.EntryCells.{entry-here, others}
-use Rattle.nofs_model.specs.Image.{entry_held, cell_at}
+use Rattle.nofs_model.specs.Files.{entry_held}
+use Rattle.nofs_disk.specs.Disk.{cell_at}
 use Rattle.nofs_model.specs.declared.image.value.Value.{Value}
 use Rattle.nofs_history.specs.Claims.{next_stamp}
 use Rattle.std.proofs.Common.{◌≡◌, ◌≢◌, ℕ, ◌%◌, ◌<◌, Bool, true, false, eqb, Option, IfSome, refl, sym, ◌∙◌, subst}
@@ -10,7 +11,9 @@ use Rattle.nofs_crashlaw.specs.Maps.Pieces.{Before, Empty, Claimed, LawPick, Law
 use Rattle.nofs_model.proofs.OnSlots.Find.{and-both}
 use Rattle.nofs_crashlaw.proofs.OnMaps.Fresh.{law-old}
 use Rattle.nofs_history.specs.Machine.{bytes_in}
-use Rattle.nofs_model.specs.Cells.{Entry, Pointer, entry_of, entry_in}
+use Rattle.nofs_dirent.specs.declared.entry.Entry.{Entry}
+use Rattle.nofs_disk.specs.declared.tag.Pointer.{Pointer}
+use Rattle.nofs_dirent.specs.Entries.{entry_of, entry_in}
 
 pub law-pick : LawPick
 law-pick W X may eb fresh pick b lt =

@@ -4,7 +4,7 @@ use Rattle.std.proofs.Common.{◌&&◌, ◌||◌, not, List, [], ◌∷◌, leng
 use Rattle.std.proofs.Common.{Option, Some, None, is_some, refl, sym, ap, ◌∙◌, subst, subst₂, arith, Contains, eqb-true}
 use Rattle.std.proofs.Common.{eq-eqb}
 use Rattle.std.specs.List.{list_any}
-use Rattle.nofs_model.specs.Kinds.{Directory as Folder}
+use Rattle.nofs_inode.specs.declared.inode.FileKind.TheVariants.{Directory as Folder, File}
 use Rattle.nofs_crashlaw.specs.Images.Proper.{Proper}
 use Rattle.nofs_crashlaw.specs.Images.Moments.{during}
 use Rattle.nofs_model.proofs.OnSlots.Find.{and-both}
@@ -21,14 +21,18 @@ use Rattle.nofs_crashlaw.proofs.OnNames.Links.{goes-match, pair-kept}
 use Rattle.nofs_history.specs.Meta.{Gone, Is}
 use Rattle.nofs_history.specs.Marks.{Mark}
 use Rattle.nofs_history.specs.Machine.{zero_bytes, files_after, entry_given, meta_given, drop_given, drop_meta}
-use Rattle.nofs_history.specs.Machine.{without_link, link_to, same_link}
-use Rattle.nofs_history.specs.Machine.{is_paired, generation_of, nothing}
+use Rattle.nofs_history.specs.Machine.{without_link, link_to, same_link, is_paired, generation_of, nothing}
 use Rattle.nofs_history.specs.History.{FilesMatch}
-use Rattle.nofs_model.specs.Cells.{FileKind, File, BackLink, Entry, Pointer, entry_of, entry_limit}
-use Rattle.nofs_model.specs.Image.{Image, cell_at, super_at, is_data_block, inode, files_in, agreed, Agreed, root}
-use Rattle.nofs_model.specs.Image.{linked, FileState, Files}
-use Rattle.nofs_model.specs.Image.{is_folder, entry_in_file, entry_at, pairs, names, is_a, is_pair, is_root, is_special}
-use Rattle.nofs_model.specs.Image.{links_of}
+use Rattle.nofs_inode.specs.declared.inode.FileKind.{FileKind}
+use Rattle.nofs_inode.specs.declared.inode.BackLink.{BackLink}
+use Rattle.nofs_dirent.specs.declared.entry.Entry.{Entry}
+use Rattle.nofs_disk.specs.declared.tag.Pointer.{Pointer}
+use Rattle.nofs_dirent.specs.Entries.{entry_of, entry_limit}
+use Rattle.nofs_model.specs.Geometry.{Image, super_at, is_data_block, inode}
+use Rattle.nofs_disk.specs.Disk.{cell_at}
+use Rattle.nofs_model.specs.Files.{files_in, agreed, Agreed, root, linked, FileState, Files}
+use Rattle.nofs_model.specs.Files.{is_folder, entry_in_file, entry_at, pairs, names, is_a, is_pair, is_root, is_special}
+use Rattle.nofs_model.specs.Files.{links_of}
 use Rattle.nofs_crashlaw.specs.Names.OldEntries.{DropLies, Relinked}
 
 -- the back link of a paired entry
@@ -121,7 +125,7 @@ module _ (F : Files) (X Y : Image) (d g e s : ℕ) (f h : FileState) (x : Pointe
   }
 
   parts : (is_folder f.kind ≡ true) × (e < entry_limit)
-      × (Rattle.nofs_model.specs.Image.entry_held (f.values (e / 16)) e ≡ Some entry)
+      × (Rattle.nofs_model.specs.Files.entry_held (f.values (e / 16)) e ≡ Some entry)
   parts = entry-parts (F d) f e entry is found
 
   back : (l : BackLink) × Contains (links_of F entry.inode) l × (is_pair F entry.inode l ≡ true)

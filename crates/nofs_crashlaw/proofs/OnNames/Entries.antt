@@ -1,8 +1,7 @@
 -- A step that changes one entry of one directory, and the links of one inode: what is agreed after it is what the
 -- machine has.
 use Rattle.std.proofs.Common.{◌≡◌, ◌≢◌, ℕ, ◌⊎◌, inl, inr, Bool, true, false, eqb, ltb, ◌&&◌, ◌||◌, not, List, Option}
-use Rattle.std.proofs.Common.{Some, None, is_some, refl, sym, ap, ◌∙◌}
-use Rattle.std.proofs.Common.{subst, subst₂, arith, Contains, eqb-true}
+use Rattle.std.proofs.Common.{Some, None, is_some, refl, sym, ap, ◌∙◌, subst, subst₂, arith, Contains, eqb-true}
 use Rattle.std.proofs.lemmas.Bool.{cases_eq}
 use Rattle.nofs_model.proofs.OnFiles.Chains.{pair-of, agreed-holds, holds-agreed}
 use Rattle.nofs_crashlaw.proofs.OnUntouched.Matches.{matched-file, matched-agreed}
@@ -11,11 +10,12 @@ use Rattle.nofs_crashlaw.proofs.OnUntouched.Agreement.{Alike, same-alike, Kin, K
 use Rattle.nofs_crashlaw.proofs.OnUntouched.Agreement.{agreed-machine, agreed-some, live-some}
 use Rattle.nofs_crashlaw.proofs.OnUntouched.Agreement.{links-kin, a-kin, entry-alike, a-alike}
 use Rattle.nofs_history.specs.History.{FilesMatch, SameFile}
-use Rattle.nofs_model.specs.Cells.{File, BackLink, Entry}
-use Rattle.nofs_model.specs.Kinds.{Directory as Folder}
-use Rattle.nofs_model.specs.Image.{Image, files_in, agreed, Agreed, root, linked, FileState, Files, is_folder}
-use Rattle.nofs_model.specs.Image.{entry_in_file, pairs, names, is_a}
-use Rattle.nofs_model.specs.Image.{is_pair, links_of, is_root, is_special}
+use Rattle.nofs_inode.specs.declared.inode.FileKind.TheVariants.{File, Directory as Folder}
+use Rattle.nofs_inode.specs.declared.inode.BackLink.{BackLink}
+use Rattle.nofs_dirent.specs.declared.entry.Entry.{Entry}
+use Rattle.nofs_model.specs.Geometry.{Image}
+use Rattle.nofs_model.specs.Files.{files_in, agreed, Agreed, root, linked, FileState, Files, is_folder}
+use Rattle.nofs_model.specs.Files.{entry_in_file, pairs, names, is_a, is_pair, links_of, is_root, is_special}
 
 -- entry e of the two directories is the same, and so are their kinds and generations
 pub record SameDirectory (o p : Option FileState) (e : ℕ) : Type 0 where

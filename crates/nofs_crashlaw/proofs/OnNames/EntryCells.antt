@@ -7,10 +7,11 @@ use Rattle.std.proofs.lemmas.List.{length-drop, length-replicate, replicate-appe
 use Rattle.std.proofs.lemmas.Bool.{cases_lt}
 use Rattle.std.proofs.lemmas.Slice.{drop-append-drop}
 use Rattle.nofs_history.specs.Machine.{bytes_in, zero_bytes, with_entry}
-use Rattle.nofs_model.specs.Cells.{number_at, entry_fields, entry_of, entry_in}
+use Rattle.nofs_disk.specs.Number.{number_at}
+use Rattle.nofs_dirent.specs.Entries.{entry_fields, entry_of, entry_in}
 use Rattle.nofs_model.specs.declared.image.value.Value.{Value}
 use Rattle.nofs_model.specs.declared.image.value.Value.TheVariants.{Hole, Bytes, Lost}
-use Rattle.nofs_model.specs.Image.{entry_held}
+use Rattle.nofs_model.specs.Files.{entry_held}
 
 window-here : (xs ys : List ℕ) (a : ℕ) → a ≤ length xs
     → length ys ≡ 64 → take 64 (drop a (take a xs ++ ys ++ drop (a + 64) xs)) ≡ ys

@@ -1,11 +1,10 @@
 -- The files after a step on names: one cell of a directory changes, and the record of one inode.
 use Rattle.std.proofs.Common.{◌≡◌, ◌≢◌, ℕ, ◌<◌, inl, inr, Bool, true, false, cond, eqb, ◌||◌, List, Option, Some, None}
-use Rattle.std.proofs.Common.{unwrap_or, refl, sym, ap, ◌∙◌, subst₂}
-use Rattle.std.proofs.Common.{eqb-true, eq-eqb}
+use Rattle.std.proofs.Common.{unwrap_or, refl, sym, ap, ◌∙◌, subst₂, eqb-true, eq-eqb}
 use Rattle.nofs_model.specs.declared.image.path.PathAnswer.{PathAnswer}
-use Rattle.nofs_crashlaw.specs.Untouched.Frames.{SameIdentity, SamePointers, OldPointers, Touches}
+use Rattle.nofs_crashlaw.specs.Untouched.Frames.{SameIdentity, SamePointers, OldPointers, Touches, SameMeta}
 use Rattle.nofs_model.proofs.OnSlots.Find.{find-held}
-use Rattle.nofs_model.proofs.OnSlots.Paths.{path_of-slot}
+use Rattle.nofs_ptrs.specs.PathLaws.{path_of-slot}
 use Rattle.nofs_crashlaw.proofs.OnUntouched.Frames.{frame}
 use Rattle.nofs_crashlaw.proofs.OnUntouched.Inodes.{one-owner, rewrites}
 use Rattle.nofs_crashlaw.proofs.OnUntouched.Agreement.{file-in}
@@ -13,14 +12,19 @@ use Rattle.nofs_model.specs.declared.image.path.PathAnswer.TheVariants as answer
 use Rattle.nofs_history.specs.Meta.{Meta, Gone, Is}
 use Rattle.nofs_history.specs.Machine.{Given, filled, after_meta, born_file, file_after, files_after, lies_above}
 use Rattle.nofs_history.specs.History.{FilesMatch, SameFile}
-use Rattle.nofs_model.specs.Cells.{Cell, FileKind, BackLink, Pointer, pointer_at, slot_limit}
-use Rattle.nofs_model.specs.Image.{Image, cell_at, inode, file_from, files_in, agreed, value, value_in, node_in, Path}
-use Rattle.nofs_model.specs.Image.{InRecord, Under, path_of}
-use Rattle.nofs_model.specs.Image.{is_pointer_slot, find, NodeState, Present, FileState, Files, record_pointer, IsSlot}
+use Rattle.nofs_disk.specs.declared.tag.Cell.{Cell}
+use Rattle.nofs_inode.specs.declared.inode.FileKind.{FileKind}
+use Rattle.nofs_inode.specs.declared.inode.BackLink.{BackLink}
+use Rattle.nofs_disk.specs.declared.tag.Pointer.{Pointer}
+use Rattle.nofs_ptrs.specs.Cells.{pointer_at}
+use Rattle.nofs_ptrs.specs.Paths.{slot_limit, Path, InRecord, Under, path_of, is_pointer_slot, IsSlot}
+use Rattle.nofs_model.specs.Geometry.{Image, inode}
+use Rattle.nofs_disk.specs.Disk.{cell_at}
+use Rattle.nofs_model.specs.Files.{file_from, files_in, agreed, node_in, NodeState, Present, FileState, Files}
+use Rattle.nofs_model.specs.Slots.{value, value_in, find, record_pointer}
 use Rattle.nofs_model.specs.declared.image.value.Value.{Value}
 use Rattle.nofs_model.specs.declared.image.value.Value.TheVariants.{Bytes}
 use Rattle.nofs_history.specs.Gives.{GivesCell, GivesMeta}
-use Rattle.nofs_crashlaw.specs.Untouched.Frames.{SameMeta}
 use Rattle.nofs_crashlaw.specs.Names.OldEntries.{NameWrites}
 
 pub touches-of : (s d i : ℕ) (X Y : Image) → NameWrites s d i X Y → Touches s (λ j. eqb j d || eqb j i) X Y

@@ -18,13 +18,18 @@ use Rattle.nofs_history.specs.Meta.{Meta, Gone, Is}
 use Rattle.nofs_history.specs.Marks.{Mark}
 use Rattle.nofs_history.specs.declared.machine.history.Claims.{Claims}
 use Rattle.nofs_history.specs.Machine.{Given, files_after, value_of, bytes_in, with_entry, entry_given, link_given}
-use Rattle.nofs_history.specs.Machine.{make_given, meta_given, set_link}
-use Rattle.nofs_history.specs.Machine.{link_to, is_paired}
+use Rattle.nofs_history.specs.Machine.{make_given, meta_given, set_link, link_to, is_paired}
 use Rattle.nofs_history.specs.History.{FilesMatch, SameFile}
-use Rattle.nofs_model.specs.Cells.{FileKind, BackLink, Pointer, spelled_entry, entry_limit, Spells}
-use Rattle.nofs_model.specs.Image.{Image, cell_at, super_at, is_data_block, inode, files_in, path_of, find, FileState}
-use Rattle.nofs_model.specs.Image.{Files, is_folder, entry_held}
-use Rattle.nofs_model.specs.Image.{is_special}
+use Rattle.nofs_inode.specs.declared.inode.FileKind.{FileKind}
+use Rattle.nofs_inode.specs.declared.inode.BackLink.{BackLink}
+use Rattle.nofs_disk.specs.declared.tag.Pointer.{Pointer}
+use Rattle.nofs_dirent.specs.Entries.{spelled_entry, entry_limit}
+use Rattle.nofs_dirent.specs.EntryLaws.{Spells}
+use Rattle.nofs_model.specs.Geometry.{Image, super_at, is_data_block, inode}
+use Rattle.nofs_disk.specs.Disk.{cell_at}
+use Rattle.nofs_model.specs.Files.{files_in, FileState, Files, is_folder, entry_held, is_special}
+use Rattle.nofs_ptrs.specs.Paths.{path_of}
+use Rattle.nofs_model.specs.Slots.{find}
 use Rattle.nofs_model.specs.declared.image.value.Value.{Value}
 use Rattle.nofs_model.specs.declared.image.value.Value.TheVariants.{Bytes, Lost}
 use Rattle.nofs_history.specs.Gives.{GivesNothing, GivesCell, GivesMeta, GivesBirth}

@@ -1,10 +1,10 @@
 -- The directory's cell in a hole: a block is claimed for it, and a leaf where there is none.
 use Rattle.std.proofs.Common.{◌≡◌, ◌≢◌, ℕ, ◌<◌, ◌≤◌, ◌⊎◌, inl, inr, Bool, true, false, eqb, leb, ◌||◌, Some, refl, sym}
-use Rattle.std.proofs.Common.{ap, ap₂, ◌∙◌, subst, arith, eqb-true}
-use Rattle.std.proofs.Common.{eq-eqb, leb-true}
-use Rattle.nofs_crashlaw.specs.Untouched.Frames.{SameIdentity, OldPointers}
+use Rattle.std.proofs.Common.{ap, ap₂, ◌∙◌, subst, arith, eqb-true, eq-eqb, leb-true}
+use Rattle.nofs_crashlaw.specs.Untouched.Frames.{SameIdentity, OldPointers, SameMeta}
 use Rattle.nofs_model.proofs.OnSlots.Find.{find-held}
-use Rattle.nofs_model.proofs.OnSlots.Paths.{path_of-content, path_of-slot_of}
+use Rattle.nofs_model.proofs.OnSlots.Paths.{path_of-content}
+use Rattle.nofs_ptrs.specs.PathLaws.{path_of-slot_of}
 use Rattle.nofs_crashlaw.proofs.OnUntouched.Matches.{matched-file}
 use Rattle.nofs_crashlaw.proofs.OnUntouched.Frames.{some-is}
 use Rattle.nofs_crashlaw.proofs.OnUntouched.Inodes.{one-owner, rewrites}
@@ -13,15 +13,21 @@ use Rattle.nofs_crashlaw.proofs.OnNames.Files.{touches-of, directory-file}
 use Rattle.nofs_model.specs.declared.image.path.PathAnswer.TheVariants as answer
 use Rattle.nofs_history.specs.Machine.{Given, files_after}
 use Rattle.nofs_history.specs.History.{FilesMatch, SameFile}
-use Rattle.nofs_model.specs.Cells.{Tag, Pointer, Record, tag_of, pointer_at, is_null, slot_limit}
-use Rattle.nofs_model.specs.Image.{Image, cell_at, super_at, is_data_block, inode, files_in, agreed, value, node_in}
-use Rattle.nofs_model.specs.Image.{tag_for, Path, InRecord, Under}
-use Rattle.nofs_model.specs.Image.{leaf, path_of, slot_of, is_pointer_slot, find, FileState, Files, record_pointer}
-use Rattle.nofs_model.specs.Image.{IsFree}
+use Rattle.nofs_disk.specs.declared.tag.Tag.{Tag}
+use Rattle.nofs_disk.specs.declared.tag.Pointer.{Pointer}
+use Rattle.nofs_inode.specs.declared.inode.Record.{Record}
+use Rattle.nofs_disk.specs.Tag.{tag_of}
+use Rattle.nofs_ptrs.specs.Cells.{pointer_at}
+use Rattle.nofs_disk.specs.Pointer.{is_null}
+use Rattle.nofs_ptrs.specs.Paths.{slot_limit, Path, InRecord, Under, leaf, path_of, slot_of, is_pointer_slot}
+use Rattle.nofs_model.specs.Geometry.{Image, super_at, is_data_block, inode}
+use Rattle.nofs_disk.specs.Disk.{cell_at}
+use Rattle.nofs_model.specs.Files.{files_in, agreed, node_in, FileState, Files}
+use Rattle.nofs_model.specs.Slots.{value, tag_for, find, record_pointer}
+use Rattle.nofs_model.specs.Owners.{IsFree}
 use Rattle.nofs_model.specs.declared.image.value.Value.{Value}
 use Rattle.nofs_model.specs.declared.image.value.Value.TheVariants.{Bytes}
 use Rattle.nofs_history.specs.Gives.{GivesCell}
-use Rattle.nofs_crashlaw.specs.Untouched.Frames.{SameMeta}
 use Rattle.nofs_crashlaw.specs.Files.Growth.{IsPlaced, Grows}
 use Rattle.nofs_crashlaw.proofs.OnFiles.Claims.{test-above, above-test, not-null, fresh-tag, super-same}
 use Rattle.nofs_crashlaw.specs.Names.OldEntries.{NameWrites}
@@ -106,7 +112,7 @@ leaf-hole-grows s X Y d i n x y apart owned h = record {
   tag = on-leaf (λ a. tag_of (cell_at Y (leaf_places y x a).block).tag ≡ Some (tag_for Y d a (leaf_places y x a).stamp))
       n h.cell.tag
       (h.tag ∙ hx.agrees.tag ∙ ap (λ (r : Record). Some (record {
-        kind = Rattle.nofs_model.specs.Image.kind_in r leaf;
+        kind = Rattle.nofs_model.specs.Slots.kind_in r leaf;
         inode = d;
         generation =
             r.generation;

@@ -13,11 +13,20 @@ use Rattle.nofs_model.specs.declared.image.path.PathAnswer.TheVariants as answer
 use Rattle.nofs_history.specs.Meta.{Meta, Gone, Is, meta_of}
 use Rattle.nofs_history.specs.Marks.{Mark}
 use Rattle.nofs_history.specs.Machine.{Given}
-use Rattle.nofs_model.specs.Cells.{Cell, FileKind, BackLink, Tag, Pointer, Record, tag_of, pointer_at, record_at}
-use Rattle.nofs_model.specs.Cells.{is_live}
-use Rattle.nofs_model.specs.Image.{Image, cell_at, is_data_block, is_inode, inode, tag_for, Path, InRecord, Under, leaf}
-use Rattle.nofs_model.specs.Image.{find, pointer}
-use Rattle.nofs_model.specs.Image.{record_pointer, IsFree}
+use Rattle.nofs_disk.specs.declared.tag.Cell.{Cell}
+use Rattle.nofs_inode.specs.declared.inode.FileKind.{FileKind}
+use Rattle.nofs_inode.specs.declared.inode.BackLink.{BackLink}
+use Rattle.nofs_disk.specs.declared.tag.Tag.{Tag}
+use Rattle.nofs_disk.specs.declared.tag.Pointer.{Pointer}
+use Rattle.nofs_inode.specs.declared.inode.Record.{Record}
+use Rattle.nofs_disk.specs.Tag.{tag_of}
+use Rattle.nofs_ptrs.specs.Cells.{pointer_at}
+use Rattle.nofs_inode.specs.InodeRecords.{record_at, is_live}
+use Rattle.nofs_model.specs.Geometry.{Image, is_data_block, is_inode, inode}
+use Rattle.nofs_disk.specs.Disk.{cell_at}
+use Rattle.nofs_model.specs.Slots.{tag_for, find, pointer, record_pointer}
+use Rattle.nofs_ptrs.specs.Paths.{Path, InRecord, Under, leaf}
+use Rattle.nofs_model.specs.Owners.{IsFree}
 use Rattle.nofs_model.specs.declared.image.value.Value.TheVariants.{Hole}
 use Rattle.nofs_crashlaw.specs.Untouched.Frames.{SameMeta}
 use Rattle.nofs_crashlaw.specs.Files.Growth.{ClaimedCell}

@@ -1,14 +1,13 @@
 -- Link and Make in a hole, whole.
-use Rattle.nofs_crashlaw.proofs.OnFiles.Claims.{holes-under}
+use Rattle.nofs_crashlaw.proofs.OnFiles.Claims.{holes-under, claimed-cell-proper}
 use Rattle.std.proofs.Common.{◌≡◌, ◌≢◌, ℕ, ◌+◌, ◌-◌, ◌/◌, ◌%◌, ◌<◌, ◌≤◌, ◌⊎◌, inl, inr, true, false, List, length, Some}
-use Rattle.std.proofs.Common.{None, is_some, refl, sym, ap, ◌∙◌}
-use Rattle.std.proofs.Common.{subst, arith, Contains, eq-eqb}
+use Rattle.std.proofs.Common.{None, is_some, refl, sym, ap, ◌∙◌, subst, arith, Contains, eq-eqb}
 use Rattle.nofs_model.specs.declared.image.path.PathAnswer.{PathAnswer}
 use Rattle.nofs_crashlaw.specs.Images.Reasons.{Holes, ReadsSince}
 use Rattle.nofs_crashlaw.specs.Images.Proper.{Proper, RecordProper, Unchanged}
 use Rattle.nofs_crashlaw.specs.Images.Moments.{during}
 use Rattle.nofs_crashlaw.specs.Untouched.Frames.{OldPointers}
-use Rattle.nofs_model.proofs.OnSlots.Paths.{path-direct, path-leaf}
+use Rattle.nofs_ptrs.specs.PathLaws.{path-direct, path-leaf}
 use Rattle.nofs_crashlaw.proofs.OnUntouched.Matches.{matched-file}
 use Rattle.nofs_crashlaw.proofs.OnUntouched.Frames.{some-is}
 use Rattle.nofs_crashlaw.proofs.OnFiles.Given.{file-apart, none-apart, meta-stays, value-of}
@@ -28,16 +27,21 @@ use Rattle.nofs_history.specs.declared.machine.history.Claims.{Claims}
 use Rattle.nofs_history.specs.Machine.{Given, files_after, value_of, bytes_in, with_entry, link_given, make_given}
 use Rattle.nofs_history.specs.Machine.{set_link, link_to, is_paired}
 use Rattle.nofs_history.specs.History.{FilesMatch, SameFile}
-use Rattle.nofs_model.specs.Cells.{Cell, FileKind, Pointer, is_live, record_at, spelled_entry, entry_limit, slot_limit}
-use Rattle.nofs_model.specs.Cells.{Spells}
-use Rattle.nofs_model.specs.Image.{Image, cell_at, is_inode, is_data_block, inode, files_in, value_in, Path, InRecord}
-use Rattle.nofs_model.specs.Image.{Under, leaf, path_of, find}
-use Rattle.nofs_model.specs.Image.{FileState, Files, is_folder, is_special}
+use Rattle.nofs_disk.specs.declared.tag.Cell.{Cell}
+use Rattle.nofs_inode.specs.declared.inode.FileKind.{FileKind}
+use Rattle.nofs_disk.specs.declared.tag.Pointer.{Pointer}
+use Rattle.nofs_inode.specs.InodeRecords.{is_live, record_at}
+use Rattle.nofs_dirent.specs.Entries.{spelled_entry, entry_limit}
+use Rattle.nofs_ptrs.specs.Paths.{slot_limit, Path, InRecord, Under, leaf, path_of}
+use Rattle.nofs_dirent.specs.EntryLaws.{Spells}
+use Rattle.nofs_model.specs.Geometry.{Image, is_inode, is_data_block, inode}
+use Rattle.nofs_disk.specs.Disk.{cell_at}
+use Rattle.nofs_model.specs.Files.{files_in, FileState, Files, is_folder, is_special}
+use Rattle.nofs_model.specs.Slots.{value_in, find}
 use Rattle.nofs_model.specs.declared.image.value.Value.{Value}
 use Rattle.nofs_model.specs.declared.image.value.Value.TheVariants.{Hole, Bytes, Lost}
 use Rattle.nofs_history.specs.Gives.{GivesCell}
 use Rattle.nofs_crashlaw.specs.Files.Growth.{ClaimedCell, Grows}
-use Rattle.nofs_crashlaw.proofs.OnFiles.Claims.{claimed-cell-proper}
 use Rattle.nofs_crashlaw.specs.Names.OldEntries.{Relinked, NameWrites}
 use Rattle.nofs_crashlaw.specs.Names.NewEntries.{IsNewRecord, first_links, HoleClaimed, Direct, UnderLeaf, WithLeaf}
 

@@ -8,7 +8,8 @@ use Rattle.nofs_crashlaw.specs.Images.Proper.{Proper, OfContent}
 use Rattle.nofs_crashlaw.specs.Images.Moments.{during}
 use Rattle.nofs_crashlaw.specs.Untouched.Frames.{SamePointers, OldPointers}
 use Rattle.nofs_model.proofs.OnSlots.Find.{find-held}
-use Rattle.nofs_model.proofs.OnSlots.Paths.{path_of-slot, path_of-slot_of, path_of-content, slot_of-path_of}
+use Rattle.nofs_ptrs.specs.PathLaws.{path_of-slot, path_of-slot_of, slot_of-path_of}
+use Rattle.nofs_model.proofs.OnSlots.Paths.{path_of-content}
 use Rattle.nofs_crashlaw.proofs.OnUntouched.Matches.{matched-file, agreed-files-is}
 use Rattle.nofs_crashlaw.proofs.OnUntouched.Frames.{frame, some-is}
 use Rattle.nofs_crashlaw.proofs.OnUntouched.Inodes.{one-owner, rewrites}
@@ -20,11 +21,18 @@ use Rattle.nofs_history.specs.Meta.{Meta}
 use Rattle.nofs_history.specs.Marks.{Mark}
 use Rattle.nofs_history.specs.Machine.{Given, files_after, lies_above, cell_given}
 use Rattle.nofs_history.specs.History.{FilesMatch, SameFile}
-use Rattle.nofs_model.specs.Cells.{Cell, Tag, Pointer, Record, tag_of, pointer_at, is_live, free_record, slot_limit}
-use Rattle.nofs_model.specs.Image.{Image, cell_at, is_data_block, inode, file_from, files_in, agreed, value, value_in}
-use Rattle.nofs_model.specs.Image.{node_in, tag_for, Path}
-use Rattle.nofs_model.specs.Image.{InRecord, Under, path_of, slot_of, is_pointer_slot, find, Present, FileState, Files}
-use Rattle.nofs_model.specs.Image.{record_pointer, IsSlot}
+use Rattle.nofs_disk.specs.declared.tag.Cell.{Cell}
+use Rattle.nofs_disk.specs.declared.tag.Tag.{Tag}
+use Rattle.nofs_disk.specs.declared.tag.Pointer.{Pointer}
+use Rattle.nofs_inode.specs.declared.inode.Record.{Record}
+use Rattle.nofs_disk.specs.Tag.{tag_of}
+use Rattle.nofs_ptrs.specs.Cells.{pointer_at}
+use Rattle.nofs_inode.specs.InodeRecords.{is_live, free_record}
+use Rattle.nofs_ptrs.specs.Paths.{slot_limit, Path, InRecord, Under, path_of, slot_of, is_pointer_slot, IsSlot}
+use Rattle.nofs_model.specs.Geometry.{Image, is_data_block, inode}
+use Rattle.nofs_disk.specs.Disk.{cell_at}
+use Rattle.nofs_model.specs.Files.{file_from, files_in, agreed, node_in, Present, FileState, Files}
+use Rattle.nofs_model.specs.Slots.{value, value_in, tag_for, find, record_pointer}
 use Rattle.nofs_model.specs.declared.image.value.Value.{Value}
 use Rattle.nofs_model.specs.declared.image.value.Value.TheVariants.{Bytes}
 use Rattle.nofs_history.specs.Gives.{GivesNothing, GivesCell}
@@ -64,7 +72,7 @@ in-place-writes s d i k X Y x held p = record {
 }
   where
     go : (b : ℕ) → is_data_block X b ≡ true → (t : Bool) → eqb b x.block ≡ t → (cell_at Y b ≡ cell_at X b)
-        ⊎ ((Rattle.nofs_model.specs.Image.IsFree X b × ((t : Tag) → tag_of (cell_at Y b).tag ≡ Some t → s ≤ t.stamp))
+        ⊎ ((Rattle.nofs_model.specs.Owners.IsFree X b × ((t : Tag) → tag_of (cell_at Y b).tag ≡ Some t → s ≤ t.stamp))
         ⊎ ((tag_of (cell_at Y b).tag ≡ tag_of (cell_at X b).tag)
         × ((path : Path) × (y : Pointer) × (find X d path ≡ answer.Holds y) × (y.block ≡ b))))
     go b area true e =

@@ -3,10 +3,9 @@
 use Rattle.std.proofs.Common.{◌≡◌, ◌≢◌, ℕ, ◌+◌, ◌-◌, ◌/◌, ◌%◌, ◌<◌, ◌⊎◌, inl, inr, Bool, true, false, cond, eqb, ltb}
 use Rattle.std.proofs.Common.{◌&&◌, not, List, ◌++◌, length}
 use Rattle.std.proofs.Common.{option_to_list, Option, Some, None, is_some, unwrap_or, refl, sym, ap, ◌∙◌, subst, subst₂}
-use Rattle.std.proofs.Common.{arith, Contains, eqb-true, eq-eqb}
-use Rattle.std.proofs.Common.{ne_eqb}
+use Rattle.std.proofs.Common.{arith, Contains, eqb-true, eq-eqb, ne_eqb}
 use Rattle.std.proofs.lemmas.List.Elements.{Contains-push}
-use Rattle.nofs_model.specs.Kinds.{Directory as Folder}
+use Rattle.nofs_inode.specs.declared.inode.FileKind.TheVariants.{Directory as Folder}
 use Rattle.nofs_crashlaw.specs.Images.Proper.{Proper, OfTable, RecordProper, Unchanged, Changed, Freed, Same}
 use Rattle.nofs_crashlaw.specs.Images.Moments.{during, is_removal}
 use Rattle.nofs_crashlaw.specs.Untouched.Frames.{OldPointers}
@@ -27,12 +26,20 @@ use Rattle.nofs_history.specs.Meta.{Meta, Gone, Is, meta_of}
 use Rattle.nofs_history.specs.Marks.{Mark}
 use Rattle.nofs_history.specs.Machine.{Given, files_after, bytes_in, with_entry, cell_given, entry_given, meta_given}
 use Rattle.nofs_history.specs.History.{FilesMatch, SameFile}
-use Rattle.nofs_model.specs.Cells.{FileKind, BackLink, Entry, Pointer, Record, is_live, entry_of, record_at}
-use Rattle.nofs_model.specs.Cells.{entry_limit, slot_limit}
-use Rattle.nofs_model.specs.Image.{Image, cell_at, super_at, is_inode, is_data_block, inode, file_from, files_in}
-use Rattle.nofs_model.specs.Image.{agreed, value, path_of, find}
-use Rattle.nofs_model.specs.Image.{FileState, Files, is_folder, entry_held, entry_in_file, pairs, names, is_a, is_pair}
-use Rattle.nofs_model.specs.Image.{is_root, is_special, links_of}
+use Rattle.nofs_inode.specs.declared.inode.FileKind.{FileKind}
+use Rattle.nofs_inode.specs.declared.inode.BackLink.{BackLink}
+use Rattle.nofs_dirent.specs.declared.entry.Entry.{Entry}
+use Rattle.nofs_disk.specs.declared.tag.Pointer.{Pointer}
+use Rattle.nofs_inode.specs.declared.inode.Record.{Record}
+use Rattle.nofs_inode.specs.InodeRecords.{is_live, record_at}
+use Rattle.nofs_dirent.specs.Entries.{entry_of, entry_limit}
+use Rattle.nofs_ptrs.specs.Paths.{slot_limit, path_of}
+use Rattle.nofs_model.specs.Geometry.{Image, super_at, is_inode, is_data_block, inode}
+use Rattle.nofs_disk.specs.Disk.{cell_at}
+use Rattle.nofs_model.specs.Files.{file_from, files_in, agreed}
+use Rattle.nofs_model.specs.Slots.{value, find}
+use Rattle.nofs_model.specs.Files.{FileState, Files, is_folder, entry_held, entry_in_file, pairs, names, is_a, is_pair}
+use Rattle.nofs_model.specs.Files.{is_root, is_special, links_of}
 use Rattle.nofs_model.specs.declared.image.value.Value.{Value}
 use Rattle.nofs_model.specs.declared.image.value.Value.TheVariants.{Bytes}
 use Rattle.nofs_history.specs.Gives.{GivesNothing, GivesCell, GivesMeta}
@@ -258,7 +265,7 @@ module _ (F : Files) (X Y : Image) (d g e i s : ℕ) (f h : FileState) (x : Poin
             l.0,
             l.1,
             subst (λ (ls : List BackLink). Contains ls l.0)
-                (sym (ap Rattle.nofs_model.specs.Image.links_in_file file-now)) l.2,
+                (sym (ap Rattle.nofs_model.specs.Files.links_in_file file-now)) l.2,
             l.3,
             l.4,
             l.5,

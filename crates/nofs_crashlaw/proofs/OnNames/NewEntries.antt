@@ -4,13 +4,13 @@ use Rattle.std.proofs.Common.{List, ◌++◌, option_to_list, Option}
 use Rattle.std.proofs.Common.{Some, None, is_some, unwrap_or, refl, sym, ap, ◌∙◌, subst, subst₂, Contains, eqb-true}
 use Rattle.std.proofs.Common.{eq-eqb, lt-ltb}
 use Rattle.std.proofs.lemmas.List.Elements.{Contains-push}
-use Rattle.nofs_model.specs.Kinds.{Directory as Folder}
+use Rattle.nofs_inode.specs.declared.inode.FileKind.TheVariants.{Directory as Folder}
 use Rattle.nofs_model.specs.declared.image.path.PathAnswer.{PathAnswer}
 use Rattle.nofs_crashlaw.specs.Images.Proper.{RecordProper, Made}
 use Rattle.nofs_crashlaw.specs.Images.Moments.{during, is_removal}
 use Rattle.nofs_crashlaw.specs.Untouched.Frames.{OldPointers}
 use Rattle.nofs_model.proofs.OnSlots.Find.{judged-built-null}
-use Rattle.nofs_model.proofs.OnSlots.Paths.{path_of-slot}
+use Rattle.nofs_ptrs.specs.PathLaws.{path_of-slot}
 use Rattle.nofs_crashlaw.proofs.OnUntouched.Matches.{matched-file}
 use Rattle.nofs_crashlaw.proofs.OnUntouched.Frames.{some-is}
 use Rattle.nofs_crashlaw.proofs.OnNames.Files.{linked_state, linked-now, linked-file, find-stays, value-stays}
@@ -21,12 +21,18 @@ use Rattle.nofs_history.specs.Marks.{Mark}
 use Rattle.nofs_history.specs.Machine.{Given, filled, files_after, file_after, after_meta, born_file, new_file, link_to}
 use Rattle.nofs_history.specs.Machine.{is_paired}
 use Rattle.nofs_history.specs.History.{FilesMatch, SameFile}
-use Rattle.nofs_model.specs.Cells.{FileKind, BackLink, Entry, Record, is_null, entry_limit}
-use Rattle.nofs_model.specs.Image.{Image, inode, file_from, files_in, value_in, node_in, Path, InRecord, Under, path_of}
-use Rattle.nofs_model.specs.Image.{find, FileState, Files}
-use Rattle.nofs_model.specs.Image.{NodeState, Absent, is_folder, entry_held, entry_in_file, pairs, names, is_a, is_pair}
-use Rattle.nofs_model.specs.Image.{is_special, links_in_file}
-use Rattle.nofs_model.specs.Image.{record_pointer, IsSlot}
+use Rattle.nofs_inode.specs.declared.inode.FileKind.{FileKind}
+use Rattle.nofs_inode.specs.declared.inode.BackLink.{BackLink}
+use Rattle.nofs_dirent.specs.declared.entry.Entry.{Entry}
+use Rattle.nofs_inode.specs.declared.inode.Record.{Record}
+use Rattle.nofs_disk.specs.Pointer.{is_null}
+use Rattle.nofs_dirent.specs.Entries.{entry_limit}
+use Rattle.nofs_model.specs.Geometry.{Image, inode}
+use Rattle.nofs_model.specs.Files.{file_from, files_in, node_in, FileState, Files}
+use Rattle.nofs_model.specs.Slots.{value_in, find, record_pointer}
+use Rattle.nofs_ptrs.specs.Paths.{Path, InRecord, Under, path_of, IsSlot}
+use Rattle.nofs_model.specs.Files.{NodeState, Absent, is_folder, entry_held, entry_in_file, pairs, names, is_a, is_pair}
+use Rattle.nofs_model.specs.Files.{is_special, links_in_file}
 use Rattle.nofs_model.specs.declared.image.value.Value.{Value}
 use Rattle.nofs_model.specs.declared.image.value.Value.TheVariants.{Hole}
 use Rattle.nofs_history.specs.Gives.{GivesNothing, GivesCell, GivesMeta, GivesBirth}

@@ -1,7 +1,12 @@
 -- The laws of Link and Make.
 use Rattle.std.proofs.Common.{◌≡◌, ◌≢◌, ℕ, ◌/◌, ◌<◌, length, Some, ap, ◌∙◌, arith}
-use Rattle.nofs_model.specs.Cells.{Pointer, entry_limit}
-use Rattle.nofs_model.specs.Image.{Image, cell_at, path_of, find, FileState, Files}
+use Rattle.nofs_disk.specs.declared.tag.Pointer.{Pointer}
+use Rattle.nofs_dirent.specs.Entries.{entry_limit}
+use Rattle.nofs_model.specs.Geometry.{Image}
+use Rattle.nofs_disk.specs.Disk.{cell_at}
+use Rattle.nofs_ptrs.specs.Paths.{path_of}
+use Rattle.nofs_model.specs.Slots.{find}
+use Rattle.nofs_model.specs.Files.{FileState, Files}
 use Rattle.nofs_model.specs.declared.image.path.PathAnswer.TheVariants as answer
 use Rattle.nofs_model.specs.declared.image.value.Value.{Value}
 use Rattle.nofs_model.specs.declared.image.value.Value.TheVariants.{Bytes, Lost}
@@ -13,8 +18,7 @@ use Rattle.nofs_crashlaw.specs.Names.NewEntries.{LawLinkInPlace, LawLinkInHole, 
 use Rattle.nofs_crashlaw.proofs.OnNames.Gives.{link-entry-proper, link-record-proper, link-in-place}
 use Rattle.nofs_crashlaw.proofs.OnNames.Gives.{make-entry-proper, make-record-proper, make-in-place}
 use Rattle.nofs_crashlaw.proofs.OnNames.Holes.{link-hole-entry-proper, link-hole-table-proper, link-in-hole}
-use Rattle.nofs_crashlaw.proofs.OnNames.Holes.{make-hole-entry-proper}
-use Rattle.nofs_crashlaw.proofs.OnNames.Holes.{make-hole-table-proper, make-in-hole}
+use Rattle.nofs_crashlaw.proofs.OnNames.Holes.{make-hole-entry-proper, make-hole-table-proper, make-in-hole}
 
 -- the machine's value of the slot that holds
 value-here : (F : Files) (X : Image) (d e : ℕ) (f : FileState) (x : Pointer) → FilesMatch F X → F d ≡ Some f

@@ -1,6 +1,7 @@
 -- The laws of Rename and Drop.
 use Rattle.std.proofs.Common.{◌≡◌, ℕ, Bool, true, false, cond, List, refl, sym, ◌∙◌}
-use Rattle.nofs_model.specs.Cells.{FileKind, BackLink}
+use Rattle.nofs_inode.specs.declared.inode.FileKind.{FileKind}
+use Rattle.nofs_inode.specs.declared.inode.BackLink.{BackLink}
 use Rattle.nofs_history.specs.Meta.{Gone, Is}
 use Rattle.nofs_history.specs.Machine.{link_to, without_link}
 use Rattle.nofs_crashlaw.specs.Names.OldEntries.{LawRename, LawDropEntry, LawDropName, LawDropFile}

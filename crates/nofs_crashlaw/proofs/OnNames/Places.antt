@@ -1,22 +1,24 @@
 -- Where a new entry goes: its slot holds, or is a hole.
 use Rattle.std.proofs.Common.{◌≡◌, ◌≢◌, ℕ, ◌*◌, ◌/◌, ◌<◌, ◌⊎◌, inl, inr, true, false, ◌&&◌, not, List, [], ◌∷◌, Option}
-use Rattle.std.proofs.Common.{Some, None, is_some, option_map, refl}
-use Rattle.std.proofs.Common.{sym, ap, ◌∙◌, subst, arith}
+use Rattle.std.proofs.Common.{Some, None, is_some, refl, sym, ap, ◌∙◌, subst, arith}
 use Rattle.nofs_dirent.specs.Entries.{entry_limit}
-use Rattle.nofs_model.specs.Cells.{Entry, Pointer, slot_limit}
-use Rattle.nofs_model.specs.Image.{value_in, path_of, find, FileState, Files, entry_held, entry_at}
+use Rattle.nofs_dirent.specs.declared.entry.Entry.{Entry}
+use Rattle.nofs_disk.specs.declared.tag.Pointer.{Pointer}
+use Rattle.nofs_ptrs.specs.Paths.{slot_limit, path_of}
+use Rattle.nofs_model.specs.Slots.{value_in, find}
+use Rattle.nofs_model.specs.Files.{FileState, Files, entry_held, entry_at}
 use Rattle.nofs_model.specs.declared.image.path.PathAnswer.{PathAnswer}
 use Rattle.nofs_model.specs.declared.image.path.PathAnswer.TheVariants as answer
 use Rattle.nofs_model.specs.declared.image.value.Value.{Value}
 use Rattle.nofs_model.specs.declared.image.value.Value.TheVariants.{Hole, Bytes, Lost}
 use Rattle.nofs_model.proofs.OnSlots.Find.{and-both}
 use Rattle.nofs_history.specs.Meta.{is_bytes}
-use Rattle.nofs_history.specs.Search.{least_from, first_of}
+use Rattle.nofs_history.specs.Search.{least_from}
 use Rattle.nofs_history.specs.Machine.{value_of, entry_has_name, is_paired, is_hole, first_dead, place_for}
 use Rattle.nofs_crashlaw.proofs.OnFiles.Given.{value-of}
 use Rattle.nofs_crashlaw.proofs.OnNames.Files.{file-of}
 use Rattle.nofs_crashlaw.proofs.OnNames.Renames.{entry-parts}
-use Rattle.nofs_crashlaw.proofs.OnNames.Premises.{least-passes, place-unpaired}
+use Rattle.nofs_crashlaw.proofs.OnNames.Premises.{least-passes, place-unpaired, by-place}
 use Rattle.nofs_crashlaw.specs.Names.Places.{LawEntryPlace}
 
 -- a value that has an entry has bytes
@@ -73,20 +75,7 @@ module _ (F : Files) (d : ℕ) (name : List ℕ) (f : FileState) (is : F d ≡ S
       (omega (arith, lt, s), subst (λ (l : ℕ). value_of F d l ≢ Lost) slot (not-lost-hole (value_of F d k) p.0))
 
   fit : (e : ℕ) → place_for F d name ≡ Some e → Fit e
-  unfolding place_for
-  fit e h = go (first_dead F d name) refl
-      (least_from (λ k. is_bytes (value_of F d (k / 16)) && not (is_some (entry_at F d k))) 0 entry_limit) refl
-      (least_from (λ k. is_hole (value_of F d k)) 0 72) refl h
-    where
-      go : (a : Option ℕ) → first_dead F d name ≡ a → (b : Option ℕ)
-          → least_from (λ k. is_bytes (value_of F d (k / 16)) && not (is_some (entry_at F d k))) 0 entry_limit ≡ b
-          → (c : Option ℕ)
-          → least_from (λ k. is_hole (value_of F d k)) 0 72 ≡ c
-          → first_of (a ∷ b ∷ option_map (λ k. 16 * k) c ∷ []) ≡ Some e → Fit e
-      go (Some n) ea b eb c ec q = let s : n ≡ e = cc q in fit-dead e (ea ∙ ap Some s)
-      go None ea (Some n) eb c ec q = let s : n ≡ e = cc q in fit-new e (eb ∙ ap Some s)
-      go None ea None eb (Some k) ec q = let s : 16 * k ≡ e = cc q in fit-hole k e s ec
-      go None ea None eb None ec q = cc
+  fit e = by-place F d name e (Fit e) (fit-dead e) (fit-new e) (λ k. fit-hole k e)
 
 pub law-entry-place : LawEntryPlace
 law-entry-place F X d e name f match is place =

@@ -4,7 +4,7 @@ use Rattle.std.proofs.Common.{eqb, ltb, leb, ◌&&◌, ◌||◌, not, List}
 use Rattle.std.proofs.Common.{[], ◌∷◌, length, Option, Some, None, is_some, refl, sym, ap, ◌∙◌, subst, arith, eqb-true}
 use Rattle.std.proofs.Common.{eq-eqb, leb-true}
 use Rattle.std.specs.Prelude.{option_map}
-use Rattle.nofs_model.specs.Kinds.{Directory as Folder}
+use Rattle.nofs_inode.specs.declared.inode.FileKind.TheVariants.{Directory as Folder}
 use Rattle.nofs_crashlaw.specs.Images.Proper.{Proper, RecordProper}
 use Rattle.nofs_model.proofs.OnSlots.Find.{and-both}
 use Rattle.nofs_model.proofs.OnFiles.Chains.{agreed-holds}
@@ -21,10 +21,16 @@ use Rattle.nofs_history.specs.Machine.{drop_given, link_given, make_given, place
 use Rattle.nofs_history.specs.Search.{first_of, least_from}
 use Rattle.nofs_history.specs.History.{FilesMatch}
 use Rattle.nofs_history.specs.declared.machine.steps.Step.TheVariants as step
-use Rattle.nofs_model.specs.Cells.{Cell, Entry, FileKind, BackLink, record_at, free_record, is_empty_link, entry_limit}
-use Rattle.nofs_model.specs.Image.{Image, cell_at, super_at, is_inode, is_data_block, inode, FileState, Files}
-use Rattle.nofs_model.specs.Image.{entry_held, entry_in_file, entry_at}
-use Rattle.nofs_model.specs.Image.{is_folder, files_in, Agreed, root, linked, is_a, is_pair, is_special, links_of}
+use Rattle.nofs_disk.specs.declared.tag.Cell.{Cell}
+use Rattle.nofs_dirent.specs.declared.entry.Entry.{Entry}
+use Rattle.nofs_inode.specs.declared.inode.FileKind.{FileKind}
+use Rattle.nofs_inode.specs.declared.inode.BackLink.{BackLink}
+use Rattle.nofs_inode.specs.InodeRecords.{record_at, free_record, is_empty_link}
+use Rattle.nofs_dirent.specs.Entries.{entry_limit}
+use Rattle.nofs_model.specs.Geometry.{Image, super_at, is_inode, is_data_block, inode}
+use Rattle.nofs_disk.specs.Disk.{cell_at}
+use Rattle.nofs_model.specs.Files.{FileState, Files, entry_held, entry_in_file, entry_at}
+use Rattle.nofs_model.specs.Files.{is_folder, files_in, Agreed, root, linked, is_a, is_pair, is_special, links_of}
 use Rattle.nofs_model.specs.declared.image.value.Value.{Value}
 use Rattle.nofs_model.specs.declared.image.value.Value.TheVariants.{Hole}
 use Rattle.nofs_crashlaw.proofs.OnFiles.Claims.{super-same}
@@ -176,9 +182,13 @@ some-false : (o : Option Entry) → is_some o ≡ false → o ≡ None
 some-false None e = refl
 some-false (Some q) e = cc
 
-pub place-unpaired : (F : Files) (d : ℕ) (name : List ℕ) (e : ℕ) → place_for F d name ≡ Some e → is_paired F d e ≡ false
+-- the place is that of a dead entry of this name, of a free entry in a slot that holds, or the first of a hole
+pub by-place : (F : Files) (d : ℕ) (name : List ℕ) (e : ℕ) (P : Type 0) → (first_dead F d name ≡ Some e → P)
+    → (least_from (λ k. is_bytes (value_of F d (k / 16)) && not (is_some (entry_at F d k))) 0 entry_limit ≡ Some e → P)
+    → ((k : ℕ) → 16 * k ≡ e → least_from (λ l. is_hole (value_of F d l)) 0 72 ≡ Some k → P)
+    → place_for F d name ≡ Some e → P
 unfolding place_for
-place-unpaired F d name e h = go (first_dead F d name) refl
+by-place F d name e P dead new hole h = go (first_dead F d name) refl
     (least_from (λ k. is_bytes (value_of F d (k / 16)) && not (is_some (entry_at F d k))) 0 entry_limit) refl
     (least_from (λ k. is_hole (value_of F d k)) 0 72) refl h
   where
@@ -186,19 +196,28 @@ place-unpaired F d name e h = go (first_dead F d name) refl
         → least_from (λ k. is_bytes (value_of F d (k / 16)) && not (is_some (entry_at F d k))) 0 entry_limit ≡ b
         → (c : Option ℕ)
         → least_from (λ k. is_hole (value_of F d k)) 0 72 ≡ c
-        → first_of (a ∷ b ∷ option_map (λ k. 16 * k) c ∷ []) ≡ Some e → is_paired F d e ≡ false
-    go (Some n) ea b eb c ec q = let s : n ≡ e = cc q in dead-unpaired F d name e (ea ∙ ap Some s)
-    go None ea (Some n) eb c ec q =
-        let s : n ≡ e = cc q in
+        → first_of (a ∷ b ∷ option_map (λ k. 16 * k) c ∷ []) ≡ Some e → P
+    go (Some n) ea b eb c ec q = let s : n ≡ e = cc q in dead (ea ∙ ap Some s)
+    go None ea (Some n) eb c ec q = let s : n ≡ e = cc q in new (eb ∙ ap Some s)
+    go None ea None eb (Some k) ec q = let s : 16 * k ≡ e = cc q in hole k s ec
+    go None ea None eb None ec q = absurd (cc q)
+
+pub place-unpaired : (F : Files) (d : ℕ) (name : List ℕ) (e : ℕ) → place_for F d name ≡ Some e → is_paired F d e ≡ false
+place-unpaired F d name e =
+    by-place F d name e (is_paired F d e ≡ false) (λ dead. dead-unpaired F d name e dead) new hole
+  where
+    new : least_from (λ k. is_bytes (value_of F d (k / 16)) && not (is_some (entry_at F d k))) 0 entry_limit ≡ Some e
+        → is_paired F d e ≡ false
+    new first =
         let p = least-passes (λ k. is_bytes (value_of F d (k / 16)) && not (is_some (entry_at F d k))) 0 entry_limit e
-        (eb ∙ ap Some s) in
+        first in
         let a = and-both (is_bytes (value_of F d (e / 16))) (not (is_some (entry_at F d e))) p.0 in
         no-entry-unpaired F d e (some-false (entry_at F d e) (not-true (is_some (entry_at F d e)) a.1))
-    go None ea None eb (Some k) ec q =
-        let s : 16 * k ≡ e = cc q in
-        let p = least-passes (λ l. is_hole (value_of F d l)) 0 72 k ec in
+
+    hole : (k : ℕ) → 16 * k ≡ e → least_from (λ l. is_hole (value_of F d l)) 0 72 ≡ Some k → is_paired F d e ≡ false
+    hole k s first =
+        let p = least-passes (λ l. is_hole (value_of F d l)) 0 72 k first in
         no-entry-unpaired F d e (place-hole F d k (is-hole-true (value_of F d k) p.0) e (sym s))
-    go None ea None eb None ec q = cc
 
 -- no number passes
 pub least-none : (test : ℕ → Bool) (at n : ℕ) → is_some (least_from test at n) ≡ false → (k : ℕ)

@@ -1,7 +1,6 @@
 -- Rename: the found entry's name is written in place.
 use Rattle.std.proofs.Common.{◌≡◌, ◌≢◌, ℕ, ◌/◌, ◌%◌, ◌<◌, Bool, true, false, cond, eqb, ltb, ◌&&◌, List, length, Option}
-use Rattle.std.proofs.Common.{Some, None, is_some, refl, sym, ap}
-use Rattle.std.proofs.Common.{◌∙◌, subst, subst₂, arith, eqb-true, eq-eqb, ltb-true}
+use Rattle.std.proofs.Common.{Some, None, is_some, refl, sym, ap, ◌∙◌, subst, subst₂, arith, eqb-true, eq-eqb, ltb-true}
 use Rattle.nofs_model.specs.declared.image.path.PathAnswer.{PathAnswer}
 use Rattle.nofs_crashlaw.specs.Images.Proper.{Proper}
 use Rattle.nofs_crashlaw.specs.Images.Moments.{during}
@@ -13,20 +12,25 @@ use Rattle.nofs_crashlaw.proofs.OnFiles.Given.{value-of}
 use Rattle.nofs_crashlaw.proofs.OnNames.EntryCells.{entry-here, entry-there}
 use Rattle.nofs_crashlaw.proofs.OnNames.Files.{file-of}
 use Rattle.nofs_crashlaw.proofs.OnNames.Steps.{pair-named, entry-range, file-lone, entry-new, directory-after}
-use Rattle.nofs_crashlaw.proofs.OnNames.Steps.{kin-after, same-after, rest-after}
-use Rattle.nofs_crashlaw.proofs.OnNames.Steps.{folder-after}
+use Rattle.nofs_crashlaw.proofs.OnNames.Steps.{kin-after, same-after, rest-after, folder-after}
 use Rattle.nofs_crashlaw.proofs.OnNames.InPlace.{in-place-writes, cell-proper, directory-in-place, cell-gives}
 use Rattle.nofs_crashlaw.proofs.OnNames.InPlace.{cell-elsewhere, no-zero, no-file-zero}
 use Rattle.nofs_model.specs.declared.image.path.PathAnswer.TheVariants as answer
 use Rattle.nofs_history.specs.Marks.{Mark}
 use Rattle.nofs_history.specs.Machine.{Given, files_after, file_after, born_file, value_of, bytes_in, with_entry}
-use Rattle.nofs_history.specs.Machine.{cell_given, entry_given}
-use Rattle.nofs_history.specs.Machine.{rename_given, nothing, no_meta}
+use Rattle.nofs_history.specs.Machine.{cell_given, entry_given, rename_given, nothing, no_meta}
 use Rattle.nofs_history.specs.History.{FilesMatch, SameFile}
-use Rattle.nofs_model.specs.Cells.{Entry, Pointer, Record, spelled_entry, entry_limit, slot_limit, Spells}
-use Rattle.nofs_model.specs.Image.{Image, cell_at, is_data_block, file_from, files_in, value_in, path_of, find}
-use Rattle.nofs_model.specs.Image.{FileState, Files, is_folder}
-use Rattle.nofs_model.specs.Image.{entry_held, entry_in_file, entry_at, names}
+use Rattle.nofs_dirent.specs.declared.entry.Entry.{Entry}
+use Rattle.nofs_disk.specs.declared.tag.Pointer.{Pointer}
+use Rattle.nofs_inode.specs.declared.inode.Record.{Record}
+use Rattle.nofs_dirent.specs.Entries.{spelled_entry, entry_limit}
+use Rattle.nofs_ptrs.specs.Paths.{slot_limit, path_of}
+use Rattle.nofs_dirent.specs.EntryLaws.{Spells}
+use Rattle.nofs_model.specs.Geometry.{Image, is_data_block}
+use Rattle.nofs_disk.specs.Disk.{cell_at}
+use Rattle.nofs_model.specs.Files.{file_from, files_in, FileState, Files, is_folder}
+use Rattle.nofs_model.specs.Slots.{value_in, find}
+use Rattle.nofs_model.specs.Files.{entry_held, entry_in_file, entry_at, names}
 use Rattle.nofs_model.specs.declared.image.value.Value.{Value}
 use Rattle.nofs_model.specs.declared.image.value.Value.TheVariants.{Bytes}
 use Rattle.nofs_history.specs.Gives.{GivesNothing, GivesCell}

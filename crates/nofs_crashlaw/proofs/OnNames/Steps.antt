@@ -5,7 +5,7 @@ use Rattle.std.proofs.Common.{unwrap_or, refl, sym, ap, ◌∙◌, subst, subst�
 use Rattle.std.proofs.Common.{ltb-true, lt-ltb}
 use Rattle.std.proofs.lemmas.Bool.{cases_eq}
 use Rattle.std.specs.List.{list_any}
-use Rattle.nofs_model.specs.Kinds.{Directory as Folder}
+use Rattle.nofs_inode.specs.declared.inode.FileKind.TheVariants.{Directory as Folder}
 use Rattle.nofs_crashlaw.specs.Untouched.Frames.{OldPointers}
 use Rattle.nofs_model.proofs.OnSlots.Find.{and-both}
 use Rattle.nofs_model.proofs.OnFiles.Chains.{pair-of, true-any}
@@ -19,10 +19,14 @@ use Rattle.nofs_crashlaw.proofs.OnNames.Files.{touches-of}
 use Rattle.nofs_history.specs.Machine.{Given, filled, files_after, file_after, born_file, link_to, same_link, is_paired}
 use Rattle.nofs_history.specs.Machine.{generation_of}
 use Rattle.nofs_history.specs.History.{FilesMatch, SameFile}
-use Rattle.nofs_model.specs.Cells.{FileKind, BackLink, Entry, Record, entry_limit}
-use Rattle.nofs_model.specs.Image.{Image, inode, file_from, files_in, FileState, Files, is_folder, entry_held}
-use Rattle.nofs_model.specs.Image.{entry_in_file, pairs, names, is_a}
-use Rattle.nofs_model.specs.Image.{is_pair, is_root, is_special, links_of}
+use Rattle.nofs_inode.specs.declared.inode.FileKind.{FileKind}
+use Rattle.nofs_inode.specs.declared.inode.BackLink.{BackLink}
+use Rattle.nofs_dirent.specs.declared.entry.Entry.{Entry}
+use Rattle.nofs_inode.specs.declared.inode.Record.{Record}
+use Rattle.nofs_dirent.specs.Entries.{entry_limit}
+use Rattle.nofs_model.specs.Geometry.{Image, inode}
+use Rattle.nofs_model.specs.Files.{file_from, files_in, FileState, Files, is_folder, entry_held}
+use Rattle.nofs_model.specs.Files.{entry_in_file, pairs, names, is_a, is_pair, is_root, is_special, links_of}
 use Rattle.nofs_model.specs.declared.image.value.Value.{Value}
 use Rattle.nofs_history.specs.Gives.{GivesNothing, GivesCell}
 use Rattle.nofs_crashlaw.specs.Names.OldEntries.{NameWrites}

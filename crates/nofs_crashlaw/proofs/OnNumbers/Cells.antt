@@ -1,8 +1,18 @@
 -- The numbers of a cell in the data area: content, pointers, entries.
 use Rattle.std.proofs.Common.{◌≡◌, ◌≢◌, ℕ, suc, ◌+◌, ◌/◌, ◌%◌, ◌<◌, true, leb, ltb, length, Option, None, IfSome, refl}
 use Rattle.std.proofs.Common.{sym, ap, ◌∙◌, subst, arith, ltb-true}
-use Rattle.nofs_model.specs.Cells.{Cell, is_live, Directory, Leaf, Tag, Pointer, Entry, pointer_at, entry_in}
-use Rattle.nofs_model.specs.Image.{Image, cell_at, super_at, inode, Path, Under, kind_in, tag_for, find}
+use Rattle.nofs_disk.specs.declared.tag.Cell.{Cell}
+use Rattle.nofs_inode.specs.InodeRecords.{is_live}
+use Rattle.nofs_disk.specs.declared.tag.Kind.TheVariants.{Directory, Leaf}
+use Rattle.nofs_disk.specs.declared.tag.Tag.{Tag}
+use Rattle.nofs_disk.specs.declared.tag.Pointer.{Pointer}
+use Rattle.nofs_dirent.specs.declared.entry.Entry.{Entry}
+use Rattle.nofs_ptrs.specs.Cells.{pointer_at}
+use Rattle.nofs_dirent.specs.Entries.{entry_in}
+use Rattle.nofs_model.specs.Geometry.{Image, super_at, inode}
+use Rattle.nofs_disk.specs.Disk.{cell_at}
+use Rattle.nofs_ptrs.specs.Paths.{Path, Under}
+use Rattle.nofs_model.specs.Slots.{kind_in, tag_for, find}
 use Rattle.nofs_model.specs.declared.image.path.PathAnswer.TheVariants as answer
 use Rattle.nofs_model.specs.declared.image.value.Value.{Value}
 use Rattle.nofs_model.specs.declared.image.value.Value.TheVariants.{Hole}

@@ -1,17 +1,26 @@
 -- The numbers in what a Put and a Resize write.
 use Rattle.std.proofs.Common.{◌≡◌, ℕ, ◌<◌, inl, inr, Bool, true, false, cond, eqb, List, [], ◌∷◌, ◌++◌, Some, refl, sym}
-use Rattle.std.proofs.Common.{ap, ◌∙◌, subst, arith, Contains}
-use Rattle.std.proofs.Common.{eqb-true}
+use Rattle.std.proofs.Common.{ap, ◌∙◌, subst, arith, Contains, eqb-true}
 use Rattle.std.proofs.lemmas.List.Elements.{Contains-append_left, Contains-append_right}
-use Rattle.nofs_model.specs.Kinds.{Directory as Folder}
-use Rattle.nofs_model.specs.Cells.{Cell, FileKind, File, Content, Directory, Pointer, BackLink, Record, tag_of}
-use Rattle.nofs_model.specs.Cells.{pointer_at, is_live, slot_limit}
-use Rattle.nofs_model.specs.Image.{Image, cell_at, inode, Path, InRecord, Under, path_of, slot_of, is_pointer_slot}
-use Rattle.nofs_model.specs.Image.{content_kind, kind_in, tag_for}
-use Rattle.nofs_model.specs.Image.{find, pointer, record_pointer, FileState, is_folder, IsAbove, IsSlot}
+use Rattle.nofs_inode.specs.declared.inode.FileKind.TheVariants.{Directory as Folder, File}
+use Rattle.nofs_disk.specs.declared.tag.Cell.{Cell}
+use Rattle.nofs_inode.specs.declared.inode.FileKind.{FileKind}
+use Rattle.nofs_disk.specs.declared.tag.Kind.TheVariants.{Content, Directory}
+use Rattle.nofs_disk.specs.declared.tag.Pointer.{Pointer}
+use Rattle.nofs_inode.specs.declared.inode.BackLink.{BackLink}
+use Rattle.nofs_inode.specs.declared.inode.Record.{Record}
+use Rattle.nofs_disk.specs.Tag.{tag_of}
+use Rattle.nofs_ptrs.specs.Cells.{pointer_at}
+use Rattle.nofs_inode.specs.InodeRecords.{is_live}
+use Rattle.nofs_ptrs.specs.Paths.{slot_limit, Path, InRecord, Under, path_of, slot_of, is_pointer_slot, IsSlot}
+use Rattle.nofs_model.specs.Geometry.{Image, inode}
+use Rattle.nofs_disk.specs.Disk.{cell_at}
+use Rattle.nofs_model.specs.Slots.{content_kind, kind_in, tag_for, find, pointer, record_pointer, IsAbove}
+use Rattle.nofs_model.specs.Files.{FileState, is_folder}
 use Rattle.nofs_model.specs.declared.image.path.PathAnswer.TheVariants as answer
 use Rattle.nofs_model.proofs.OnSlots.Find.{find-held}
-use Rattle.nofs_model.proofs.OnSlots.Paths.{path_of-slot, path_of-content, above-refl, above-slot}
+use Rattle.nofs_ptrs.specs.PathLaws.{path_of-slot}
+use Rattle.nofs_model.proofs.OnSlots.Paths.{path_of-content, above-refl, above-slot}
 use Rattle.nofs_history.specs.World.{World}
 use Rattle.nofs_history.specs.Claims.{is_claimed, claimed_blocks}
 use Rattle.nofs_history.specs.declared.machine.history.Claims.{Claims}
@@ -25,7 +34,7 @@ use Rattle.nofs_crashlaw.specs.Maps.Moves.{IsClaimed}
 use Rattle.nofs_crashlaw.specs.Maps.Pieces.{PointerFrom, Before, Empty, Claimed}
 use Rattle.nofs_crashlaw.specs.Files.Puts.{PutLies, ClaimsPlaced}
 use Rattle.nofs_crashlaw.specs.Files.Resizes.{is_cut, cut_at, ResizeLies}
-use Rattle.nofs_crashlaw.proofs.OnFiles.PutFile.{file-in}
+use Rattle.nofs_crashlaw.proofs.OnUntouched.Agreement.{file-in}
 use Rattle.nofs_crashlaw.specs.Numbers.Cells.{OldNumbers, CellFor, RecordWritten, AsBefore, Changed}
 use Rattle.nofs_crashlaw.specs.Numbers.Files.{FileRecord, LawPutCells, LawPutRecord, LawResizeCells, LawResizeRecord}
 use Rattle.nofs_crashlaw.proofs.OnNumbers.Cells.{law-content-numbers, law-pointer-numbers}

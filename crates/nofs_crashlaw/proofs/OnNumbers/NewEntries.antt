@@ -4,12 +4,20 @@ use Rattle.std.proofs.Common.{[], ◌∷◌, length, replicate, Some}
 use Rattle.std.proofs.Common.{IfSome, refl, sym, ap, ◌∙◌, subst, arith, Contains, eqb-true, eq-eqb}
 use Rattle.std.proofs.lemmas.List.Elements.{All-contains, All-replicate, Contains-append_left, Contains-append_right}
 use Rattle.std.proofs.lemmas.List.Elements.{Contains-append_cases}
-use Rattle.nofs_model.specs.Cells.{FileKind, Pointer, BackLink, Entry, entry_of, pointer_at, spelled_entry}
-use Rattle.nofs_model.specs.Image.{Image, cell_at, inode, InRecord, Under, leaf, path_of, pointer, record_pointer}
-use Rattle.nofs_model.specs.Image.{FileState, is_folder}
+use Rattle.nofs_inode.specs.declared.inode.FileKind.{FileKind}
+use Rattle.nofs_disk.specs.declared.tag.Pointer.{Pointer}
+use Rattle.nofs_inode.specs.declared.inode.BackLink.{BackLink}
+use Rattle.nofs_dirent.specs.declared.entry.Entry.{Entry}
+use Rattle.nofs_dirent.specs.Entries.{entry_of, spelled_entry}
+use Rattle.nofs_ptrs.specs.Cells.{pointer_at}
+use Rattle.nofs_model.specs.Geometry.{Image, inode}
+use Rattle.nofs_disk.specs.Disk.{cell_at}
+use Rattle.nofs_ptrs.specs.Paths.{InRecord, Under, leaf, path_of}
+use Rattle.nofs_model.specs.Slots.{pointer, record_pointer}
+use Rattle.nofs_model.specs.Files.{FileState, is_folder}
 use Rattle.nofs_model.specs.declared.image.value.Value.TheVariants.{Hole, Bytes}
 use Rattle.nofs_model.proofs.OnSlots.Find.{find-held}
-use Rattle.nofs_model.proofs.OnSlots.Paths.{path_of-slot}
+use Rattle.nofs_ptrs.specs.PathLaws.{path_of-slot}
 use Rattle.nofs_history.specs.Machine.{with_entry, link_to, set_link}
 use Rattle.nofs_history.specs.History.{FilesMatch}
 use Rattle.nofs_history.specs.World.{World}
@@ -69,6 +77,19 @@ module _ (W : World) (c : Claims) (X Y : Image) (s d i k : ℕ) (f : FileState) 
       (entries-here X d k f (file-of W.files X d f match is).0 folder (omega (arith, range)))
       (record { before = Zeros refl; whole = whole; content = content; number = number })
 
+  -- the leaf's pointers: the new one, and what is known of each beside it
+  leaf-pointers : pointer_at (cell_at Y y.block).payload (k - 8) ≡ x
+      → ((n : ℕ) → n ≢ k - 8 → PointerFrom c X d (Under leaf n) (pointer_at (cell_at Y y.block).payload n))
+      → (n : ℕ) → PointerFrom c X d (Under leaf n) (pointer_at (cell_at Y y.block).payload n)
+  leaf-pointers new beside n = go (eqb n (k - 8)) refl
+    where
+      go : (t : Bool) → eqb n (k - 8) ≡ t
+          → PointerFrom c X d (Under leaf n) (pointer_at (cell_at Y y.block).payload n)
+      go true e = subst (λ (m : ℕ). PointerFrom c X d (Under leaf m) (pointer_at (cell_at Y y.block).payload m))
+          (sym (eqb-true n (k - 8) e))
+          (subst (PointerFrom c X d (Under leaf (k - 8))) (sym new) (Claimed (listed c x cell)))
+      go false e = beside n (λ r. let t = eq-eqb n (k - 8) r in cc (e, t))
+
   -- the leaf in place
   under-leaf : HoleUnderLeaf s X Y d i (k - 8) x y → CellNumbers (Numbered W c) X y.block (cell_at Y y.block)
   under-leaf h =
@@ -81,17 +102,13 @@ module _ (W : World) (c : Claims) (X Y : Image) (s d i k : ℕ) (f : FileState) 
         tag = h.tag ∙ q.agrees.tag;
         from = Before q.same;
       })
-      refl (λ n lt. go n (eqb n (k - 8)) refl)
+      refl (λ n lt. leaf-pointers h.pointer beside n)
     where
-      go : (n : ℕ) (t : Bool)
-          → eqb n (k - 8) ≡ t → PointerFrom c X d (Under leaf n) (pointer_at (cell_at Y y.block).payload n)
-      go n true e = subst (λ (m : ℕ). PointerFrom c X d (Under leaf m) (pointer_at (cell_at Y y.block).payload m))
-          (sym (eqb-true n (k - 8) e))
-          (subst (PointerFrom c X d (Under leaf (k - 8))) (sym h.pointer) (Claimed (listed c x cell)))
-      go n false e =
+      beside : (n : ℕ) → n ≢ k - 8 → PointerFrom c X d (Under leaf n) (pointer_at (cell_at Y y.block).payload n)
+      beside n ne =
           let was : pointer X d (Under leaf n) ≡ pointer_at (cell_at X y.block).payload n = let z = h.held in
           rw (z, pointer) refl in
-          Before (was ∙ sym (h.pointers n (λ r. let t = eq-eqb n (k - 8) r in cc (e, t))))
+          Before (was ∙ sym (h.pointers n ne))
 
   -- the leaf that is claimed: nulls beside the new pointer
   with-leaf : 8 ≤ k → HoleWithLeaf s X Y d i (k - 8) x y → CellNumbers (Numbered W c) X y.block (cell_at Y y.block)
@@ -103,14 +120,7 @@ module _ (W : World) (c : Claims) (X Y : Image) (s d i k : ℕ) (f : FileState) 
         tag = h.above.tag ∙ ap Some (tag-same X Y d leaf y.stamp h.meta.kind h.meta.generation);
         from = Claimed (listed c y (above le h));
       })
-      refl (λ n lt. go n (eqb n (k - 8)) refl)
-    where
-      go : (n : ℕ) (t : Bool)
-          → eqb n (k - 8) ≡ t → PointerFrom c X d (Under leaf n) (pointer_at (cell_at Y y.block).payload n)
-      go n true e = subst (λ (m : ℕ). PointerFrom c X d (Under leaf m) (pointer_at (cell_at Y y.block).payload m))
-          (sym (eqb-true n (k - 8) e))
-          (subst (PointerFrom c X d (Under leaf (k - 8))) (sym h.pointer) (Claimed (listed c x cell)))
-      go n false e = Empty (h.pointers n (λ r. let t = eq-eqb n (k - 8) r in cc (e, t)))
+      refl (λ n lt. leaf-pointers h.pointer (λ m ne. Empty (h.pointers m ne)) n)
 
   hole-leaf : HoleClaimed s X Y d i k x y → 8 ≤ k → CellNumbers (Numbered W c) X y.block (cell_at Y y.block)
   hole-leaf (Direct lt h) le = absurd (omega (arith, lt, le))

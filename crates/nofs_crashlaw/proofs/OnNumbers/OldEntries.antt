@@ -3,14 +3,21 @@ use Rattle.std.proofs.Common.{◌≡◌, ◌≢◌, ℕ, ◌/◌, ◌%◌, ◌<�
 use Rattle.std.proofs.Common.{length, Option, Some, IfSome, refl, sym}
 use Rattle.std.proofs.Common.{ap, ◌∙◌, subst, arith, Contains, eqb-true, eq-eqb}
 use Rattle.std.proofs.lemmas.List.Elements.{Contains-append_left, Contains-append_right, Contains-append_cases}
-use Rattle.nofs_model.specs.Cells.{Pointer, BackLink, Entry, tag_of, entry_of, entry_in, spelled_entry, entry_limit}
-use Rattle.nofs_model.specs.Cells.{slot_limit}
-use Rattle.nofs_model.specs.Image.{Image, cell_at, inode, path_of, find, FileState, is_folder, entry_held}
+use Rattle.nofs_disk.specs.declared.tag.Pointer.{Pointer}
+use Rattle.nofs_inode.specs.declared.inode.BackLink.{BackLink}
+use Rattle.nofs_dirent.specs.declared.entry.Entry.{Entry}
+use Rattle.nofs_disk.specs.Tag.{tag_of}
+use Rattle.nofs_dirent.specs.Entries.{entry_of, entry_in, spelled_entry, entry_limit}
+use Rattle.nofs_ptrs.specs.Paths.{slot_limit, path_of}
+use Rattle.nofs_model.specs.Geometry.{Image, inode}
+use Rattle.nofs_disk.specs.Disk.{cell_at}
+use Rattle.nofs_model.specs.Slots.{find}
+use Rattle.nofs_model.specs.Files.{FileState, is_folder, entry_held}
 use Rattle.nofs_model.specs.declared.image.path.PathAnswer.TheVariants as answer
 use Rattle.nofs_model.specs.declared.image.value.Value.{Value}
 use Rattle.nofs_model.specs.declared.image.value.Value.TheVariants.{Bytes}
 use Rattle.nofs_model.proofs.OnSlots.Find.{find-held}
-use Rattle.nofs_model.proofs.OnSlots.Paths.{path_of-slot}
+use Rattle.nofs_ptrs.specs.PathLaws.{path_of-slot}
 use Rattle.nofs_history.specs.Machine.{zero_bytes, with_entry, link_to, same_link, without_link}
 use Rattle.nofs_history.specs.History.{FilesMatch}
 use Rattle.nofs_history.specs.World.{World}

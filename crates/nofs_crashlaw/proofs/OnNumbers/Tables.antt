@@ -1,8 +1,14 @@
 -- The numbers of a table cell.
 use Rattle.std.proofs.Common.{◌≡◌, ℕ, ◌-◌, ◌%◌, ◌<◌, inl, inr, true, refl, sym, subst, Contains, eqb, eqb-true, arith}
 use Rattle.std.proofs.lemmas.List.Elements.{All-contains, Contains-get_or}
-use Rattle.nofs_model.specs.Cells.{Pointer, Record, BackLink, is_null, is_live, record_at}
-use Rattle.nofs_model.specs.Image.{Image, inode, InRecord, record_pointer}
+use Rattle.nofs_disk.specs.declared.tag.Pointer.{Pointer}
+use Rattle.nofs_inode.specs.declared.inode.Record.{Record}
+use Rattle.nofs_inode.specs.declared.inode.BackLink.{BackLink}
+use Rattle.nofs_disk.specs.Pointer.{is_null}
+use Rattle.nofs_inode.specs.InodeRecords.{is_live, record_at}
+use Rattle.nofs_model.specs.Geometry.{Image, inode}
+use Rattle.nofs_ptrs.specs.Paths.{InRecord}
+use Rattle.nofs_model.specs.Slots.{record_pointer}
 use Rattle.nofs_model.proofs.OnSlots.Find.{and-both}
 use Rattle.nofs_history.specs.World.{World}
 use Rattle.nofs_history.specs.Claims.{next_stamp}
@@ -11,8 +17,7 @@ use Rattle.nofs_crashlaw.specs.Maps.Fresh.{Numbered, Old, Generation, RecordNumb
 use Rattle.nofs_crashlaw.proofs.OnMaps.Fresh.{old-record}
 use Rattle.nofs_crashlaw.proofs.OnMaps.Pieces.{law-pointers}
 use Rattle.nofs_crashlaw.specs.Numbers.Cells.{OldNumbers, RecordFrom, RecordBorn, RecordWritten, AsBefore, Changed}
-use Rattle.nofs_crashlaw.specs.Numbers.Cells.{Made, Freed, table_tag}
-use Rattle.nofs_crashlaw.specs.Numbers.Cells.{LawTableNumbers, LawTableMoment}
+use Rattle.nofs_crashlaw.specs.Numbers.Cells.{Made, Freed, table_tag, LawTableNumbers, LawTableMoment}
 use Rattle.nofs_crashlaw.proofs.OnNumbers.Cells.{old-generation}
 
 null-below : (s : ℕ) (x : Pointer) → is_null x ≡ true → 0 < s → x.stamp < s

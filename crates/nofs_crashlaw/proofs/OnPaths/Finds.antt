@@ -4,30 +4,20 @@ use Rattle.std.proofs.Common.{length, get_or, Option, Some, None}
 use Rattle.std.proofs.Common.{is_some, refl, sym, ap, ◌∙◌, subst, arith, Contains, eq-eqb}
 use Rattle.std.proofs.lemmas.Bool.{cases_lt}
 use Rattle.std.proofs.lemmas.List.{get_or_past}
-use Rattle.nofs_model.specs.Kinds.{Directory as Folder}
-use Rattle.nofs_model.specs.Cells.{FileKind, File, BackLink, Record, entry_in, entry_limit, slot_limit}
-use Rattle.nofs_model.specs.Image.{Image, inode, files_in, Agreed, root, linked, value, entry_in_file, entry_at, names}
-use Rattle.nofs_model.specs.Image.{is_pair, links_of}
-use Rattle.nofs_model.specs.declared.image.value.Value.{Value}
-use Rattle.nofs_model.specs.declared.image.value.Value.TheVariants.{Bytes}
+use Rattle.nofs_inode.specs.declared.inode.FileKind.{FileKind}
+use Rattle.nofs_inode.specs.declared.inode.BackLink.{BackLink}
+use Rattle.nofs_dirent.specs.Entries.{entry_in, entry_limit}
+use Rattle.nofs_ptrs.specs.Paths.{slot_limit}
+use Rattle.nofs_model.specs.Geometry.{Image, inode}
+use Rattle.nofs_model.specs.Files.{files_in, Agreed, root, linked, entry_in_file, entry_at, is_pair, links_of}
+use Rattle.nofs_model.specs.Slots.{value}
 use Rattle.nofs_model.proofs.OnFiles.Chains.{holds-agreed}
-use Rattle.nofs_history.specs.Meta.{Meta, Gone, Is, meta_of, is_bytes, MayRead}
-use Rattle.nofs_history.specs.History.{since, since_meta, stands}
+use Rattle.nofs_history.specs.Meta.{Meta, Gone, Is, meta_of, MayRead}
+use Rattle.nofs_history.specs.Since.{since, since_meta, stands}
 use Rattle.nofs_history.specs.Allowed.{IsAllowed, IsFolderMeta, SureLink, meta_link}
 use Rattle.nofs_history.specs.declared.machine.history.Entry1.{Entry1}
+use Rattle.nofs_history.proofs.Names.{folder-kind, is-bytes-of}
 use Rattle.nofs_crashlaw.specs.Paths.Names.{SureName, SureChain, SureRoot, SureEntry, LawSureChain, LawSureName}
-
-folder-kind : (r : Record) → IsFolderMeta (meta_of r) → r.kind ≡ Some Folder
-folder-kind r h = go r.kind refl h
-  where
-    go : (o : Option FileKind) → r.kind ≡ o → IsFolderMeta (elim o [ None ↦ Gone | Some kind ↦ Is kind r.size r.links ])
-        → r.kind ≡ Some Folder
-    go None e f = absurd f
-    go (Some File) e f = cc f
-    go (Some Folder) e f = e
-
-bytes-are : (v : Value) (P : List ℕ → Type 0) → (content : List ℕ) × (v ≡ Bytes content) × P content → is_bytes v ≡ true
-bytes-are v P (c, e, p) = rw e refl
 
 -- what stands in a place whatever stands for none is there
 in-list : (ls : List BackLink) (b : ℕ) (link : BackLink) → ((none : BackLink) → get_or ls b none ≡ link)
@@ -83,7 +73,7 @@ module _ (B : Image) (H : List Entry1) (m : ℕ) (X : Image) (a : IsAllowed B H 
         (meta-now link.directory link.generation p.directory_stands)) in
         let slot : link.entry / 16 < slot_limit = let lt = p.range in omega (arith, lt) in
         let sure = a.versions.sure link.directory link.generation (link.entry / 16) p.directory_stands slot
-        (λ v c. bytes-are v (λ (content : List ℕ). entry_in content (link.entry % 16)
+        (λ v c. is-bytes-of v (λ (content : List ℕ). entry_in content (link.entry % 16)
         ≡ Some (record { inode = i; generation = g; name = name }))
         (p.entry v c)) in
         let may : MayRead (since B H m link.directory link.generation (link.entry / 16))

@@ -1,9 +1,9 @@
 -- The names of a moved file: what Link asks, and that the new name leads to its file.
 use Rattle.std.proofs.Common.{◌≡◌, ℕ, ◌/◌, ◌<◌, true, false, cond, eqb, not, List, [], length, Option, Some, None}
-use Rattle.std.proofs.Common.{is_some, unwrap_or, refl, sym}
-use Rattle.std.proofs.Common.{ap, ◌∙◌, subst, eq-eqb, lt-ltb}
-use Rattle.nofs_model.specs.Cells.{BackLink, spelled_entry, entry_limit}
-use Rattle.nofs_model.specs.Image.{Files, FileState, is_folder, entry_in_file, entry_held, links_of}
+use Rattle.std.proofs.Common.{is_some, unwrap_or, refl, sym, ap, ◌∙◌, subst, eq-eqb, lt-ltb}
+use Rattle.nofs_inode.specs.declared.inode.BackLink.{BackLink}
+use Rattle.nofs_dirent.specs.Entries.{spelled_entry, entry_limit}
+use Rattle.nofs_model.specs.Files.{Files, FileState, is_folder, entry_in_file, entry_held, links_of}
 use Rattle.nofs_model.specs.declared.image.value.Value.{Value}
 use Rattle.nofs_history.specs.Meta.{Meta, Gone, Is}
 use Rattle.nofs_history.specs.Search.{first_of}
@@ -21,8 +21,7 @@ use Rattle.nofs_history.specs.declared.machine.steps.Step.TheVariants as step
 use Rattle.nofs_history.specs.declared.machine.replies.Reply.TheVariants as reply
 use Rattle.nofs_history.specs.declared.machine.replies.Refusal.TheVariants as refusal
 use Rattle.nofs_crashlaw.proofs.OnFiles.Given.{value-of, at-itself}
-use Rattle.nofs_crashlaw.proofs.OnNames.Premises.{link-gives}
-use Rattle.nofs_crashlaw.proofs.OnNames.Premises.{link-place-parts}
+use Rattle.nofs_crashlaw.proofs.OnNames.Premises.{link-gives, link-place-parts}
 use Rattle.nofs_crashlaw.specs.Runs.Pairs.{HasAt, IsDirectory}
 use Rattle.nofs_crashlaw.proofs.OnRuns.Places.{set-here}
 use Rattle.nofs_crashlaw.proofs.OnRuns.Acts.{acts, accepted-acts, files-next}

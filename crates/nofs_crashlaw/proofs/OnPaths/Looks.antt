@@ -1,19 +1,20 @@
 -- The names of a moved file: what leaves them, and what Look found.
 use Rattle.std.proofs.Common.{◌≡◌, ℕ, ◌/◌, ◌<◌, Bool, true, false, eqb, ◌&&◌, not, List, [], length, Option, Some, None}
-use Rattle.std.proofs.Common.{is_some, refl, sym}
-use Rattle.std.proofs.Common.{ap, ◌∙◌, subst, arith, Contains, eqb-true, eq-eqb}
+use Rattle.std.proofs.Common.{is_some, refl, sym, ap, ◌∙◌, subst, arith, Contains, eqb-true, eq-eqb}
 use Rattle.std.specs.Prelude.{bytes_eq}
 use Rattle.std.proofs.lemmas.Slice.Eq.{bytes_eq-Decides}
 use Rattle.std.proofs.lemmas.List.{length-replicate}
-use Rattle.nofs_model.specs.Cells.{FileKind, BackLink, Entry, entry_limit}
-use Rattle.nofs_model.specs.Image.{Files, FileState, entry_at, entry_held, is_pair, links_of}
+use Rattle.nofs_inode.specs.declared.inode.FileKind.{FileKind}
+use Rattle.nofs_inode.specs.declared.inode.BackLink.{BackLink}
+use Rattle.nofs_dirent.specs.declared.entry.Entry.{Entry}
+use Rattle.nofs_dirent.specs.Entries.{entry_limit}
+use Rattle.nofs_model.specs.Files.{Files, FileState, entry_at, entry_held, is_pair, links_of}
 use Rattle.nofs_model.specs.declared.image.value.Value.{Value}
 use Rattle.nofs_model.proofs.OnSlots.Find.{and-both}
 use Rattle.nofs_model.proofs.OnFiles.Chains.{pair-of}
 use Rattle.nofs_history.specs.Search.{first_of, least_from}
 use Rattle.nofs_history.specs.Machine.{Given, gives, found, entry_has_name, is_paired, generation_of, value_of}
-use Rattle.nofs_history.specs.Machine.{bytes_in, zero_bytes, with_entry, link_to, given_by, drop_given}
-use Rattle.nofs_history.specs.Machine.{is_refused}
+use Rattle.nofs_history.specs.Machine.{bytes_in, zero_bytes, with_entry, link_to, given_by, drop_given, is_refused}
 use Rattle.nofs_history.specs.World.{World}
 use Rattle.nofs_history.specs.Refusals.{row, rows, stale, not_directory}
 use Rattle.nofs_history.specs.Answers.{found_file, found_entry, found_reply, reply_of}

@@ -1,13 +1,14 @@
 -- The durable move: one of the file's two names finds it.
 use Rattle.std.proofs.Common.{◌≡◌, ◌≢◌, ℕ, zero, suc, ◌<◌, ◌≤◌, ◌⊎◌, inl, inr, Bool, true, false, cond, eqb, ltb, List}
-use Rattle.std.proofs.Common.{[], ◌∷◌, length, take, Some, is_some}
-use Rattle.std.proofs.Common.{refl, sym, ap, ◌∙◌, subst, arith, eqb-true, eq-eqb}
+use Rattle.std.proofs.Common.{[], ◌∷◌, length, take, Some, is_some, refl, sym, ap, ◌∙◌, subst, arith, eqb-true, eq-eqb}
 use Rattle.std.specs.Prelude.{slice_get}
 use Rattle.std.proofs.lemmas.Bool.{cases_lt}
-use Rattle.nofs_model.specs.Cells.{Entry}
-use Rattle.nofs_model.specs.Image.{Image, Files, Agreed, entry_at}
+use Rattle.nofs_dirent.specs.declared.entry.Entry.{Entry}
+use Rattle.nofs_model.specs.Geometry.{Image}
+use Rattle.nofs_model.specs.Files.{Files, Agreed, entry_at}
 use Rattle.nofs_history.specs.Machine.{found, link_to, given_by}
-use Rattle.nofs_history.specs.History.{agreed_files, NoWriteFault, begun, mark, is_flushed}
+use Rattle.nofs_history.specs.Since.{agreed_files, begun, mark, is_flushed}
+use Rattle.nofs_history.specs.History.{NoWriteFault}
 use Rattle.nofs_history.specs.Allowed.{IsAllowed}
 use Rattle.nofs_history.specs.World.{World}
 use Rattle.nofs_history.specs.Next.{Next}
@@ -18,8 +19,7 @@ use Rattle.nofs_history.specs.declared.machine.replies.Reply.TheVariants as repl
 use Rattle.nofs_crashlaw.proofs.OnRuns.StepLinks.{directory-of, name-of}
 use Rattle.nofs_crashlaw.specs.Runs.Laws.{files_before}
 use Rattle.nofs_crashlaw.proofs.OnRuns.Entries.{Moment, files-after, run-order, run-time, begun-before, begun-reaches}
-use Rattle.nofs_crashlaw.proofs.OnRuns.Entries.{mark-behind, MarkAt, Unmoved, Behind}
-use Rattle.nofs_crashlaw.proofs.OnRuns.Entries.{mark-is, run-faultless}
+use Rattle.nofs_crashlaw.proofs.OnRuns.Entries.{mark-behind, MarkAt, Unmoved, Behind, mark-is, run-faultless}
 use Rattle.nofs_crashlaw.proofs.OnRuns.Links.{IsSane, Linked, linked-range, linked-paired, linked-filled}
 use Rattle.nofs_crashlaw.proofs.OnRuns.Chains.{Guard, SaneRun, moment-at, linked-along, stays-along}
 use Rattle.nofs_crashlaw.proofs.OnRuns.Base.{sane-run}

@@ -1,17 +1,19 @@
 -- Since the mark: a back link that no entry changes is in every version, and so is a chain of directories.
 use Rattle.std.proofs.Common.{◌≡◌, ℕ, suc, ◌/◌, ◌%◌, ◌<◌, ◌≤◌, true, false, ◌&&◌, not, List, [], ◌∷◌, length, take}
-use Rattle.std.proofs.Common.{Option, Some, None, is_some, refl, sym}
-use Rattle.std.proofs.Common.{ap, ◌∙◌, subst, arith, Contains, eq-eqb}
+use Rattle.std.proofs.Common.{Option, Some, None, is_some, refl, sym, ap, ◌∙◌, subst, arith, Contains, eq-eqb}
 use Rattle.std.specs.Prelude.{slice_get}
 use Rattle.std.specs.List.{list_any}
-use Rattle.nofs_model.specs.Cells.{BackLink, Entry, entry_in, entry_limit}
-use Rattle.nofs_model.specs.Image.{Image, Files, FileState, Agreed, root, linked, entry_held, names, links_of}
+use Rattle.nofs_inode.specs.declared.inode.BackLink.{BackLink}
+use Rattle.nofs_dirent.specs.declared.entry.Entry.{Entry}
+use Rattle.nofs_dirent.specs.Entries.{entry_in, entry_limit}
+use Rattle.nofs_model.specs.Geometry.{Image}
+use Rattle.nofs_model.specs.Files.{Files, FileState, Agreed, root, linked, entry_held, names, links_of}
 use Rattle.nofs_model.specs.declared.image.value.Value.{Value}
 use Rattle.nofs_model.specs.declared.image.value.Value.TheVariants.{Hole, Bytes, Lost}
 use Rattle.nofs_history.specs.Meta.{Meta, Gone, Is, is_gone}
 use Rattle.nofs_history.specs.Machine.{Given, gives, generation_of, given_by}
-use Rattle.nofs_history.specs.History.{NoWriteFault, begun, mark, metas_given, since, since_mark, since_meta}
-use Rattle.nofs_history.specs.History.{files_at_mark, stands}
+use Rattle.nofs_history.specs.History.{NoWriteFault}
+use Rattle.nofs_history.specs.Since.{begun, mark, metas_given, since, since_mark, since_meta, files_at_mark, stands}
 use Rattle.nofs_history.specs.Allowed.{IsFolderMeta, SureLink, meta_link}
 use Rattle.nofs_history.specs.World.{World}
 use Rattle.nofs_history.specs.Next.{Next}

@@ -1,12 +1,11 @@
 -- What an entry of a run does: nothing, or what its step gives where no row refuses it.
 use Rattle.std.proofs.Common.{◌≡◌, ℕ, Bool, true, false, cond, not, ◌||◌, Option, Some, None, ◌⊎◌, inl, inr, refl, sym}
 use Rattle.std.proofs.Common.{ap, ◌∙◌, subst}
-use Rattle.nofs_model.specs.Cells.{Entry}
-use Rattle.nofs_model.specs.Image.{Files, entry_at}
+use Rattle.nofs_dirent.specs.declared.entry.Entry.{Entry}
+use Rattle.nofs_model.specs.Files.{Files, entry_at}
 use Rattle.nofs_history.specs.Search.{first_of}
 use Rattle.nofs_history.specs.Machine.{Given, nothing, gives, at_place, found, drop_given, link_to, generation_of}
-use Rattle.nofs_history.specs.Machine.{files_after, is_refused, is_fault}
-use Rattle.nofs_history.specs.Machine.{is_write_fault, may_give, given_by, files_by}
+use Rattle.nofs_history.specs.Machine.{files_after, is_refused, is_fault, is_write_fault, may_give, given_by, files_by}
 use Rattle.nofs_history.specs.World.{World}
 use Rattle.nofs_history.specs.Refusals.{rows}
 use Rattle.nofs_history.specs.Answers.{reply_of, dropped_entry, dropped_reply}

@@ -2,7 +2,8 @@
 use Rattle.std.proofs.Common.{◌≡◌, ℕ, ◌+◌, ◌*◌, ◌^◌, ◌<◌, ◌≤◌, true, length, Option, Some, None, unwrap_or, refl, sym}
 use Rattle.std.proofs.Common.{ap, ◌∙◌, subst, subst₂, arith}
 use Rattle.std.proofs.lemmas.List.{length-replicate}
-use Rattle.nofs_model.specs.Image.{Image, Files, FileState, is_folder}
+use Rattle.nofs_model.specs.Geometry.{Image}
+use Rattle.nofs_model.specs.Files.{Files, FileState, is_folder}
 use Rattle.nofs_model.specs.declared.image.value.Value.{Value}
 use Rattle.nofs_history.specs.Machine.{gives, bytes_in, files_after}
 use Rattle.nofs_history.specs.HistoryState.{HistoryState}
@@ -35,7 +36,7 @@ keeps-sane W V k s = record {
   young = λ i f is. subst (λ (n : ℕ). f.generation < n) (sym stamp)
       (s.young i f (sym (ap (λ (F : Files). F i) k.files) ∙ is));
   whole = λ i f is. s.whole i f (sym (ap (λ (F : Files). F i) k.files) ∙ is);
-  rooted = λ i f is dir. subst (λ (F : Files). Rattle.nofs_model.specs.Image.Agreed F i) (sym k.files)
+  rooted = λ i f is dir. subst (λ (F : Files). Rattle.nofs_model.specs.Files.Agreed F i) (sym k.files)
       (s.rooted i f (sym (ap (λ (F : Files). F i) k.files) ∙ is) dir);
 }
   where

@@ -1,16 +1,17 @@
 -- Back links along a run: each that no entry changes stays, and so does a chain of directories.
 use Rattle.std.proofs.Common.{◌≡◌, ℕ, zero, suc, ◌+◌, ◌-◌, ◌/◌, ◌<◌, ◌≤◌, Bool, true, false, eqb, ◌||◌, not, List}
-use Rattle.std.proofs.Common.{Option, Some, None, refl, sym, ap, ◌∙◌}
-use Rattle.std.proofs.Common.{subst, arith, eqb-true, eq-eqb}
+use Rattle.std.proofs.Common.{Option, Some, None, refl, sym, ap, ◌∙◌, subst, arith, eqb-true, eq-eqb}
 use Rattle.std.specs.Prelude.{slice_get}
-use Rattle.nofs_model.specs.Cells.{File, BackLink, Entry}
-use Rattle.nofs_inode.specs.declared.inode.FileKind.TheVariants.{Directory as Folder}
-use Rattle.nofs_model.specs.Image.{Image, Files, FileState, is_folder, entry_at, entry_held, is_a, is_root}
+use Rattle.nofs_inode.specs.declared.inode.FileKind.TheVariants.{File, Directory as Folder}
+use Rattle.nofs_inode.specs.declared.inode.BackLink.{BackLink}
+use Rattle.nofs_dirent.specs.declared.entry.Entry.{Entry}
+use Rattle.nofs_model.specs.Geometry.{Image}
+use Rattle.nofs_model.specs.Files.{Files, FileState, is_folder, entry_at, entry_held, is_a, is_root}
 use Rattle.nofs_model.specs.declared.image.value.Value.{Value}
 use Rattle.nofs_model.proofs.OnSlots.Find.{and-both}
 use Rattle.nofs_history.specs.Search.{first_of}
 use Rattle.nofs_history.specs.Machine.{Given, gives, found, drop_given, given_by}
-use Rattle.nofs_history.specs.History.{agreed_files}
+use Rattle.nofs_history.specs.Since.{agreed_files}
 use Rattle.nofs_history.specs.World.{World}
 use Rattle.nofs_history.specs.Refusals.{rows}
 use Rattle.nofs_history.specs.Claims.{IsClaim}
@@ -25,8 +26,7 @@ use Rattle.nofs_crashlaw.specs.Runs.Laws.{files_before}
 use Rattle.nofs_crashlaw.proofs.OnRuns.Acts.{Acts, Idle, Acting, acts}
 use Rattle.nofs_crashlaw.proofs.OnRuns.Gives.{folder-metas}
 use Rattle.nofs_crashlaw.proofs.OnRuns.PairEntries.{Spelled, Kept, Same, Renamed, Dropped, slot-kept}
-use Rattle.nofs_crashlaw.proofs.OnRuns.Links.{IsSane, Linked, linked-paired, Stays, NamesOnly, step-stays}
-use Rattle.nofs_crashlaw.proofs.OnRuns.Links.{step-linked}
+use Rattle.nofs_crashlaw.proofs.OnRuns.Links.{IsSane, Linked, linked-paired, Stays, NamesOnly, step-stays, step-linked}
 use Rattle.nofs_crashlaw.proofs.OnRuns.Entries.{Moment, run-moment, files-after}
 
 -- what an entry needs so that the link stays over it: no Drop of its entry is done, and a cell for its slot has an

@@ -1,10 +1,9 @@
 -- The directory of a step that no row refuses, and the places of its entries.
 use Rattle.std.proofs.Common.{◌≡◌, ℕ, ◌*◌, ◌/◌, ◌<◌, Bool, true, false, eqb, ◌&&◌, not, List, [], ◌∷◌, Option, Some}
-use Rattle.std.proofs.Common.{None, is_some, refl, sym, ◌∙◌, arith}
-use Rattle.std.proofs.Common.{eqb-true}
+use Rattle.std.proofs.Common.{None, is_some, refl, sym, ◌∙◌, arith, eqb-true}
 use Rattle.std.specs.Prelude.{option_map}
-use Rattle.nofs_model.specs.Cells.{entry_limit}
-use Rattle.nofs_model.specs.Image.{Files, FileState, entry_at}
+use Rattle.nofs_dirent.specs.Entries.{entry_limit}
+use Rattle.nofs_model.specs.Files.{Files, FileState, entry_at}
 use Rattle.nofs_history.specs.Meta.{is_bytes}
 use Rattle.nofs_history.specs.Search.{first_of, least_from}
 use Rattle.nofs_history.specs.Machine.{first_dead, place_for, entry_has_name, is_paired, is_folder_at, is_hole}

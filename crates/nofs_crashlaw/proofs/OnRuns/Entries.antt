@@ -6,14 +6,16 @@ use Rattle.std.proofs.Common.{[], ◌∷◌, length, take, drop, Option, Some, N
 use Rattle.std.proofs.Common.{subst, arith, Contains}
 use Rattle.std.specs.Prelude.{slice_get}
 use Rattle.std.proofs.lemmas.List.Elements.{Contains-append_cases}
-use Rattle.nofs_model.specs.Image.{Image, Files, FileState}
+use Rattle.nofs_model.specs.Geometry.{Image}
+use Rattle.nofs_model.specs.Files.{Files, FileState}
 use Rattle.nofs_model.specs.declared.image.value.Value.{Value}
 use Rattle.nofs_history.specs.Meta.{Meta, Is}
 use Rattle.nofs_history.specs.Machine.{given_by, files_by, is_write_fault}
-use Rattle.nofs_history.specs.History.{agreed_files, files_along, NoWriteFault, values_given, metas_given, last_in}
-use Rattle.nofs_history.specs.History.{is_flushed, begun, mark_from}
-use Rattle.nofs_history.specs.History.{mark, before_mark, since_mark, files_at_mark, accepted_of, accepted_meta_of}
-use Rattle.nofs_history.specs.History.{since, since_meta}
+use Rattle.nofs_history.specs.Since.{agreed_files, files_along, values_given, metas_given, last_in}
+use Rattle.nofs_history.specs.History.{NoWriteFault}
+use Rattle.nofs_history.specs.Since.{is_flushed, begun, mark_from}
+use Rattle.nofs_history.specs.Since.{mark, before_mark, since_mark, files_at_mark, accepted_of, accepted_meta_of}
+use Rattle.nofs_history.specs.Since.{since, since_meta}
 use Rattle.nofs_history.specs.World.{World}
 use Rattle.nofs_history.specs.Answers.{reply_of}
 use Rattle.nofs_history.specs.Next.{Next, AfterFault, ByRow, Done, ByRead, ByWrite, takes_time, Run}

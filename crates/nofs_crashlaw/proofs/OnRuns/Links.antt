@@ -3,18 +3,19 @@ use Rattle.std.proofs.Common.{◌≡◌, ℕ, ◌/◌, ◌^◌, ◌<◌, Bool, t
 use Rattle.std.proofs.Common.{length, Option, Some, None, unwrap_or}
 use Rattle.std.proofs.Common.{refl, sym, ap, ◌∙◌, subst, eqb-true, eq-eqb, lt-ltb, Contains}
 use Rattle.nofs_dirent.specs.Entries.{entry_limit}
-use Rattle.nofs_model.specs.Cells.{FileKind, File, BackLink, Entry}
-use Rattle.nofs_model.specs.Kinds.{Directory as Folder}
-use Rattle.nofs_model.specs.Image.{Files, FileState, Agreed, is_folder, entry_in_file, entry_at, entry_held, names}
-use Rattle.nofs_model.specs.Image.{is_a, is_pair, links_of}
+use Rattle.nofs_inode.specs.declared.inode.FileKind.{FileKind}
+use Rattle.nofs_inode.specs.declared.inode.FileKind.TheVariants.{File, Directory as Folder}
+use Rattle.nofs_inode.specs.declared.inode.BackLink.{BackLink}
+use Rattle.nofs_dirent.specs.declared.entry.Entry.{Entry}
+use Rattle.nofs_model.specs.Files.{Files, FileState, Agreed, is_folder, entry_in_file, entry_at, entry_held, names}
+use Rattle.nofs_model.specs.Files.{is_a, is_pair, links_of}
 use Rattle.nofs_model.specs.declared.image.value.Value.{Value}
 use Rattle.nofs_model.proofs.OnSlots.Find.{and-both}
 use Rattle.nofs_model.proofs.OnFiles.Chains.{PairOf, pair-of}
 use Rattle.nofs_history.specs.Meta.{Meta, Gone, Is}
 use Rattle.nofs_history.specs.Search.{first_of}
 use Rattle.nofs_history.specs.Machine.{Given, nothing, gives, found, bytes_in, is_paired, filled, after_meta, born_file}
-use Rattle.nofs_history.specs.Machine.{file_after, files_after}
-use Rattle.nofs_history.specs.Machine.{is_refused, is_write_fault, given_by}
+use Rattle.nofs_history.specs.Machine.{file_after, files_after, is_refused, is_write_fault, given_by}
 use Rattle.nofs_history.specs.World.{World}
 use Rattle.nofs_history.specs.Refusals.{rows}
 use Rattle.nofs_history.specs.Claims.{IsClaim, next_stamp}

@@ -1,6 +1,6 @@
 -- What a mount leaves is a base of which the law of the move speaks.
 use Rattle.std.proofs.Common.{refl, arith}
-use Rattle.nofs_model.specs.Image.{cell_at}
+use Rattle.nofs_disk.specs.Disk.{cell_at}
 use Rattle.nofs_history.specs.World.{world_of}
 use Rattle.nofs_crashlaw.proofs.OnLives.Begin.{law-begin}
 use Rattle.nofs_crashlaw.specs.Runs.Bases.{LawMounted}

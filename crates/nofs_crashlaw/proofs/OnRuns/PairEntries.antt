@@ -1,21 +1,19 @@
 -- The entry of a pair, in what a step that no row refuses gives.
 use Rattle.std.proofs.Common.{◌≡◌, ◌≢◌, ℕ, ◌/◌, ◌%◌, ◌^◌, ◌<◌, ◌≤◌, Bool, true, false, cond, eqb, ◌&&◌, not, List}
-use Rattle.std.proofs.Common.{length, Option, Some, None, refl}
-use Rattle.std.proofs.Common.{sym, ap, ◌∙◌, subst, arith, eqb-true, eq-eqb, ne_eqb}
+use Rattle.std.proofs.Common.{length, Option, Some, None, refl, sym, ap, ◌∙◌, subst, arith, eqb-true, eq-eqb, ne_eqb}
 use Rattle.std.proofs.lemmas.List.{length-replicate}
 use Rattle.nofs_dirent.specs.Names.{NameOk, is_name}
 use Rattle.nofs_dirent.specs.NameLaws.{is_name-Decides}
 use Rattle.nofs_dirent.specs.Entries.{spelled_entry}
 use Rattle.nofs_dirent.specs.EntryLaws.{spelled_entry-spells, length-spelled_entry}
-use Rattle.nofs_model.specs.Cells.{Entry}
-use Rattle.nofs_model.specs.Image.{Files, FileState, is_folder, entry_at, entry_held}
+use Rattle.nofs_dirent.specs.declared.entry.Entry.{Entry}
+use Rattle.nofs_model.specs.Files.{Files, FileState, is_folder, entry_at, entry_held}
 use Rattle.nofs_model.specs.declared.image.value.Value.{Value}
 use Rattle.nofs_model.specs.declared.image.value.Value.TheVariants.{Lost}
 use Rattle.nofs_history.specs.Meta.{Meta}
 use Rattle.nofs_history.specs.Search.{first_of}
 use Rattle.nofs_history.specs.Machine.{gives, at_place, found, place_for, link_place, make_given, link_given}
-use Rattle.nofs_history.specs.Machine.{drop_given}
-use Rattle.nofs_history.specs.Machine.{rename_given, entry_given, no_meta}
+use Rattle.nofs_history.specs.Machine.{drop_given, rename_given, entry_given, no_meta}
 use Rattle.nofs_history.specs.Machine.{zero_bytes, bytes_in, value_of, with_entry, is_paired}
 use Rattle.nofs_history.specs.World.{World}
 use Rattle.nofs_history.specs.Refusals.{bad_name, rows}

@@ -1,10 +1,11 @@
 -- The back link of a pair, in what a step that no row refuses gives.
 use Rattle.std.proofs.Common.{◌≡◌, ◌≢◌, ℕ, Bool, true, false, cond, eqb, ◌&&◌, not, List, [], ◌∷◌, Option, Some, None}
-use Rattle.std.proofs.Common.{refl}
-use Rattle.std.proofs.Common.{sym, ap, ◌∙◌, subst, arith, eqb-true, ne_eqb}
+use Rattle.std.proofs.Common.{refl, sym, ap, ◌∙◌, subst, arith, eqb-true, ne_eqb}
 use Rattle.std.specs.List.{list_any}
-use Rattle.nofs_model.specs.Cells.{BackLink, Entry, is_empty_link}
-use Rattle.nofs_model.specs.Image.{Files, FileState, entry_at, is_pair, is_special, links_of}
+use Rattle.nofs_inode.specs.declared.inode.BackLink.{BackLink}
+use Rattle.nofs_dirent.specs.declared.entry.Entry.{Entry}
+use Rattle.nofs_inode.specs.InodeRecords.{is_empty_link}
+use Rattle.nofs_model.specs.Files.{Files, FileState, entry_at, is_pair, is_special, links_of}
 use Rattle.nofs_model.proofs.OnFiles.Chains.{pair-of, true-any}
 use Rattle.nofs_history.specs.Meta.{Meta, Gone, Is}
 use Rattle.nofs_history.specs.Search.{first_of}

@@ -1,9 +1,8 @@
 -- Places of back links in a record, and entries of a history by their place.
 use Rattle.std.proofs.Common.{◌≡◌, ◌≢◌, ℕ, zero, suc, ◌+◌, ◌<◌, Bool, true, false, cond, List, [], ◌∷◌, ◌++◌, length}
-use Rattle.std.proofs.Common.{take, drop, get_or, Some, refl, ap, ◌∙◌}
-use Rattle.std.proofs.Common.{subst, arith, Contains}
+use Rattle.std.proofs.Common.{take, drop, get_or, Some, refl, ap, ◌∙◌, subst, arith, Contains}
 use Rattle.std.specs.Prelude.{slice_get}
-use Rattle.nofs_model.specs.Cells.{BackLink}
+use Rattle.nofs_inode.specs.declared.inode.BackLink.{BackLink}
 use Rattle.nofs_history.specs.Machine.{same_link, set_link, without_link, place_for_link}
 use Rattle.nofs_crashlaw.specs.Runs.Pairs.{HasAt}
 

@@ -2,10 +2,11 @@
 use Rattle.std.proofs.Common.{◌≡◌, ℕ, ◌/◌, Bool, true, false, eqb, ◌&&◌, ◌||◌, not, List, [], ◌∷◌, length, Option, Some}
 use Rattle.std.proofs.Common.{None, is_some, unwrap_or}
 use Rattle.std.proofs.Common.{refl, sym, ap, ◌∙◌, subst, arith, Contains, eq-eqb, lt-ltb, ne_eqb}
-use Rattle.nofs_model.specs.Cells.{FileKind, BackLink, spelled_entry, entry_limit}
-use Rattle.nofs_model.specs.Image.{Files, FileState, Agreed, root, linked, is_folder, entry_in_file, entry_held}
-use Rattle.nofs_model.specs.Image.{is_pair}
-use Rattle.nofs_model.specs.Image.{is_special}
+use Rattle.nofs_inode.specs.declared.inode.FileKind.{FileKind}
+use Rattle.nofs_inode.specs.declared.inode.BackLink.{BackLink}
+use Rattle.nofs_dirent.specs.Entries.{spelled_entry, entry_limit}
+use Rattle.nofs_model.specs.Files.{Files, FileState, Agreed, root, linked, is_folder, entry_in_file, entry_held}
+use Rattle.nofs_model.specs.Files.{is_pair, is_special}
 use Rattle.nofs_model.specs.declared.image.value.Value.{Value}
 use Rattle.nofs_history.specs.Meta.{Meta, Gone, Is}
 use Rattle.nofs_history.specs.Search.{first_of}
@@ -26,13 +27,11 @@ use Rattle.nofs_crashlaw.proofs.OnRuns.Places.{contains-at}
 use Rattle.nofs_crashlaw.proofs.OnRuns.Acts.{accepted-acts, acts}
 use Rattle.nofs_crashlaw.proofs.OnRuns.Gives.{none-at, other-inode, folder-metas, not-born, given-kind}
 use Rattle.nofs_crashlaw.proofs.OnRuns.PairEntries.{read-back}
-use Rattle.nofs_crashlaw.proofs.OnRuns.Links.{IsSane, Linked, pair-linked}
-use Rattle.nofs_crashlaw.proofs.OnRuns.Links.{directory-after}
+use Rattle.nofs_crashlaw.proofs.OnRuns.Links.{IsSane, Linked, pair-linked, directory-after}
 use Rattle.nofs_crashlaw.proofs.OnRuns.Chains.{Names, root-folder}
 use Rattle.nofs_crashlaw.proofs.OnRuns.Directories.{directory-row, place-range}
 use Rattle.nofs_crashlaw.proofs.OnRuns.Sane.{After, Old, New, after, made, IsNew, make-new, new-spelled}
-use Rattle.nofs_crashlaw.proofs.OnRuns.StepLinks.{root-is, links-are, done, refused, from-link, agreed-next}
-use Rattle.nofs_crashlaw.proofs.OnRuns.StepLinks.{kept-link}
+use Rattle.nofs_crashlaw.proofs.OnRuns.StepLinks.{root-is, links-are, done, refused, from-link, agreed-next, kept-link}
 use Rattle.nofs_crashlaw.proofs.OnRuns.StepLinks.{directory-of, name-of, Drops, Yes, No, drops, other-link}
 
 module _ (W V : World) (e : Entry1) (sane : IsSane W) (next : Next W e V) where

@@ -7,8 +7,9 @@ use Rattle.std.proofs.lemmas.Bool.{cases_lt}
 use Rattle.std.proofs.lemmas.List.{length-replicate}
 use Rattle.nofs_disk.specs.Parts.{length-put_bytes}
 use Rattle.nofs_dirent.specs.Entries.{spelled_entry}
-use Rattle.nofs_model.specs.Cells.{FileKind, Entry}
-use Rattle.nofs_model.specs.Image.{Files, FileState, is_folder, entry_at}
+use Rattle.nofs_inode.specs.declared.inode.FileKind.{FileKind}
+use Rattle.nofs_dirent.specs.declared.entry.Entry.{Entry}
+use Rattle.nofs_model.specs.Files.{Files, FileState, is_folder, entry_at}
 use Rattle.nofs_model.specs.declared.image.value.Value.{Value}
 use Rattle.nofs_model.specs.declared.image.value.Value.TheVariants.{Hole}
 use Rattle.nofs_history.specs.Meta.{Meta, Gone, Is}
@@ -16,8 +17,7 @@ use Rattle.nofs_history.specs.Search.{first_of}
 use Rattle.nofs_history.specs.Machine.{Given, gives, at_place, found, place_for, link_place, make_given, link_given}
 use Rattle.nofs_history.specs.Machine.{drop_given, rename_given}
 use Rattle.nofs_history.specs.Machine.{entry_given, no_meta, zero_bytes, bytes_in, value_of, with_entry, filled}
-use Rattle.nofs_history.specs.Machine.{new_file, after_meta, born_file}
-use Rattle.nofs_history.specs.Machine.{file_after, files_after}
+use Rattle.nofs_history.specs.Machine.{new_file, after_meta, born_file, file_after, files_after}
 use Rattle.nofs_history.specs.World.{World, is_free_inode, inodes_needed, blocks_needed}
 use Rattle.nofs_history.specs.Refusals.{bad_name, rows, serials_spent}
 use Rattle.nofs_history.specs.Claims.{IsClaim, IsInodeClaim, ClaimedInode, next_stamp}

@@ -5,18 +5,23 @@ use Rattle.std.proofs.Common.{Option, Some, None, is_some, refl, sym, ap, ◌∙
 use Rattle.std.specs.List.{list_all}
 use Rattle.std.proofs.lemmas.List.{length-replicate}
 use Rattle.nofs_inode.specs.InodeRecords.{has_rest, allows_record, allows_kind, is_tidy_link, fields_in}
-use Rattle.nofs_model.specs.Geometry.{IsGeometry}
-use Rattle.nofs_model.specs.Cells.{FileKind, Record, is_live, record_at, record_of}
+use Rattle.nofs_super.specs.Geometry.{IsGeometry}
+use Rattle.nofs_inode.specs.declared.inode.FileKind.{FileKind}
+use Rattle.nofs_inode.specs.declared.inode.Record.{Record}
+use Rattle.nofs_inode.specs.InodeRecords.{is_live, record_at, record_of}
 use Rattle.nofs_model.specs.declared.image.path.PathAnswer.{PathAnswer}
 use Rattle.nofs_model.specs.declared.image.path.PathAnswer.TheVariants as answer
 use Rattle.nofs_model.specs.declared.image.value.Value.{Value}
-use Rattle.nofs_model.specs.Image.{Image, super_at, cell_at, inode, Agreed, FileState, files_in, agreed, file_from}
-use Rattle.nofs_model.specs.Image.{path_of, find, value, value_in}
+use Rattle.nofs_model.specs.Geometry.{Image, super_at, inode}
+use Rattle.nofs_disk.specs.Disk.{cell_at}
+use Rattle.nofs_model.specs.Files.{Agreed, FileState, files_in, agreed, file_from}
+use Rattle.nofs_ptrs.specs.Paths.{path_of}
+use Rattle.nofs_model.specs.Slots.{find, value, value_in}
 use Rattle.nofs_model.proofs.OnSlots.Find.{and-both, find-held}
 use Rattle.nofs_model.proofs.OnFiles.Chains.{agreed-holds}
 use Rattle.nofs_model.proofs.OnSound.Writes.{mountable-law}
 use Rattle.nofs_history.specs.Machine.{bytes_in}
-use Rattle.nofs_history.specs.History.{agreed_files}
+use Rattle.nofs_history.specs.Since.{agreed_files}
 use Rattle.nofs_history.specs.World.{world_of}
 use Rattle.nofs_crashlaw.proofs.OnUntouched.Agreement.{agreed-machine}
 use Rattle.nofs_crashlaw.proofs.OnUntouched.Frames.{some-is}

@@ -1,12 +1,12 @@
 -- What a step leaves of the links of directories: each that no Drop clears stays.
 use Rattle.std.proofs.Common.{◌≡◌, ℕ, suc, ◌/◌, Bool, true, false, cond, eqb, ◌&&◌, ◌||◌, not, List, [], ◌∷◌, Option}
-use Rattle.std.proofs.Common.{Some, None}
-use Rattle.std.proofs.Common.{refl, sym, ap, ◌∙◌, subst, Contains, eqb-true, eq-eqb}
+use Rattle.std.proofs.Common.{Some, None, refl, sym, ap, ◌∙◌, subst, Contains, eqb-true, eq-eqb}
 use Rattle.std.specs.List.{list_any}
-use Rattle.nofs_model.specs.Cells.{BackLink, Entry}
+use Rattle.nofs_inode.specs.declared.inode.BackLink.{BackLink}
+use Rattle.nofs_dirent.specs.declared.entry.Entry.{Entry}
 use Rattle.nofs_inode.specs.declared.inode.FileKind.TheVariants.{Directory as Folder}
-use Rattle.nofs_model.specs.Image.{Files, FileState, Agreed, root, linked, entry_at, entry_held, is_a, is_pair, is_root}
-use Rattle.nofs_model.specs.Image.{is_special, links_of}
+use Rattle.nofs_model.specs.Files.{Files, FileState, Agreed, root, linked, entry_at, entry_held, is_a, is_pair, is_root}
+use Rattle.nofs_model.specs.Files.{is_special, links_of}
 use Rattle.nofs_model.specs.declared.image.value.Value.{Value}
 use Rattle.nofs_history.specs.Meta.{Gone, Is}
 use Rattle.nofs_history.specs.Machine.{Given, gives, found, drop_given, drop_meta, same_link, link_to, without_link}

@@ -1,16 +1,20 @@
 -- Agreement depends on kinds, generations, links and the cells of directories alone.
 use Rattle.std.proofs.Common.{◌≡◌, ℕ, ◌/◌, ◌<◌, Bool, true, false, cond, eqb, ltb, ◌&&◌, ◌||◌, List, Option, Some, None}
-use Rattle.std.proofs.Common.{is_some, refl, sym, ap, ◌∙◌, subst}
-use Rattle.std.proofs.Common.{arith, Contains, ltb-true, eqb-true}
-use Rattle.nofs_model.specs.Kinds.{Directory as Folder}
+use Rattle.std.proofs.Common.{is_some, refl, sym, ap, ◌∙◌, subst, arith, Contains, ltb-true, eqb-true}
+use Rattle.nofs_inode.specs.declared.inode.FileKind.TheVariants.{Directory as Folder, File}
 use Rattle.nofs_model.proofs.OnFiles.Chains.{pair-of, agreed-holds, holds-agreed}
 use Rattle.nofs_crashlaw.proofs.OnUntouched.Matches.{matched-file, matched-agreed, agreed-files-is}
 use Rattle.nofs_crashlaw.proofs.OnUntouched.Frames.{some-is, files-match}
-use Rattle.nofs_history.specs.History.{agreed_files, FilesMatch, SameFile}
-use Rattle.nofs_model.specs.Cells.{FileKind, File, BackLink, is_live, entry_limit}
-use Rattle.nofs_model.specs.Image.{Image, inode, file_from, files_in, agreed, Agreed, root, linked, FileState, Files}
-use Rattle.nofs_model.specs.Image.{is_folder, entry_held}
-use Rattle.nofs_model.specs.Image.{entry_in_file, pairs, is_a, is_pair, links_in_file, links_of, is_root, is_special}
+use Rattle.nofs_history.specs.Since.{agreed_files}
+use Rattle.nofs_history.specs.History.{FilesMatch, SameFile}
+use Rattle.nofs_inode.specs.declared.inode.FileKind.{FileKind}
+use Rattle.nofs_inode.specs.declared.inode.BackLink.{BackLink}
+use Rattle.nofs_inode.specs.InodeRecords.{is_live}
+use Rattle.nofs_dirent.specs.Entries.{entry_limit}
+use Rattle.nofs_model.specs.Geometry.{Image, inode}
+use Rattle.nofs_model.specs.Files.{file_from, files_in, agreed, Agreed, root, linked, FileState, Files}
+use Rattle.nofs_model.specs.Files.{is_folder, entry_held}
+use Rattle.nofs_model.specs.Files.{entry_in_file, pairs, is_a, is_pair, links_in_file, links_of, is_root, is_special}
 use Rattle.nofs_model.specs.declared.image.value.Value.{Value}
 
 -- none of two is there, or both are and are related

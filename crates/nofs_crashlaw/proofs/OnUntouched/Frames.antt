@@ -1,22 +1,31 @@
 -- What a step leaves as it was.
 use Rattle.std.proofs.Common.{◌≡◌, ℕ, ◌/◌, ◌<◌, ◌≤◌, inl, inr, Bool, true, false, cond, eqb, ltb, ◌&&◌, ◌||◌, List}
-use Rattle.std.proofs.Common.{Option, Some, None, is_some, refl, sym}
-use Rattle.std.proofs.Common.{ap, ◌∙◌, subst, arith, Contains, ltb-true}
-use Rattle.nofs_model.specs.Kinds.{Directory as Folder}
+use Rattle.std.proofs.Common.{Option, Some, None, is_some, refl, sym, ap, ◌∙◌, subst, arith, Contains, ltb-true}
+use Rattle.nofs_inode.specs.declared.inode.FileKind.TheVariants.{Directory as Folder, File}
 use Rattle.nofs_model.specs.declared.image.path.PathAnswer.{PathAnswer}
 use Rattle.nofs_crashlaw.specs.Untouched.Frames.{Rewrites, SameIdentity, SamePointers, OldPointers}
 use Rattle.nofs_model.proofs.OnSlots.Find.{is_tag-true}
 use Rattle.nofs_model.proofs.OnFiles.Chains.{pair-of, agreed-holds, holds-agreed}
 use Rattle.nofs_model.specs.declared.image.path.PathAnswer.TheVariants as answer
-use Rattle.nofs_history.specs.History.{agreed_files, FilesMatch, SameFile}
-use Rattle.nofs_model.specs.Cells.{Cell, File, BackLink, Tag, Pointer, tag_of, is_null, pointer_at, is_live}
-use Rattle.nofs_model.specs.Cells.{entry_limit, slot_limit}
-use Rattle.nofs_model.specs.Image.{super_in, Image, cell_at, super_at, is_data_block, inode, files_in, agreed, Agreed}
-use Rattle.nofs_model.specs.Image.{root, linked, Path, InRecord}
-use Rattle.nofs_model.specs.Image.{Under, tag_for, is_tag, agrees, record_pointer, judged, find, pointer, FileState}
-use Rattle.nofs_model.specs.Image.{Files, is_folder, entry_held}
-use Rattle.nofs_model.specs.Image.{entry_in_file, pairs, is_a, is_pair, links_in_file, links_of, is_root, is_special}
-use Rattle.nofs_model.specs.Image.{IsSlot, IsFree}
+use Rattle.nofs_history.specs.Since.{agreed_files}
+use Rattle.nofs_history.specs.History.{FilesMatch, SameFile}
+use Rattle.nofs_disk.specs.declared.tag.Cell.{Cell}
+use Rattle.nofs_inode.specs.declared.inode.BackLink.{BackLink}
+use Rattle.nofs_disk.specs.declared.tag.Tag.{Tag}
+use Rattle.nofs_disk.specs.declared.tag.Pointer.{Pointer}
+use Rattle.nofs_disk.specs.Tag.{tag_of}
+use Rattle.nofs_disk.specs.Pointer.{is_null}
+use Rattle.nofs_ptrs.specs.Cells.{pointer_at}
+use Rattle.nofs_inode.specs.InodeRecords.{is_live}
+use Rattle.nofs_dirent.specs.Entries.{entry_limit}
+use Rattle.nofs_ptrs.specs.Paths.{slot_limit, Path, InRecord, Under, IsSlot}
+use Rattle.nofs_super.specs.Super.{super_in}
+use Rattle.nofs_model.specs.Geometry.{Image, super_at, is_data_block, inode}
+use Rattle.nofs_disk.specs.Disk.{cell_at}
+use Rattle.nofs_model.specs.Files.{files_in, agreed, Agreed, root, linked, FileState, Files, is_folder, entry_held}
+use Rattle.nofs_model.specs.Slots.{tag_for, is_tag, agrees, record_pointer, judged, find, pointer}
+use Rattle.nofs_model.specs.Files.{entry_in_file, pairs, is_a, is_pair, links_in_file, links_of, is_root, is_special}
+use Rattle.nofs_model.specs.Owners.{IsFree}
 use Rattle.nofs_model.specs.declared.image.value.Value.{Value}
 
 module _ (s : ℕ) (X Y : Image) (w : Rewrites s X Y) (i : ℕ) (owned : agreed (files_in X) i ≡ true)

@@ -3,14 +3,23 @@ use Rattle.std.proofs.Common.{◌≡◌, ℕ, ◌<◌, inl, inr, Bool, true, fal
 use Rattle.nofs_model.specs.declared.image.path.PathAnswer.{PathAnswer}
 use Rattle.nofs_crashlaw.specs.Untouched.Frames.{Rewrites, SameIdentity, SamePointers, OldPointers, Touches}
 use Rattle.nofs_model.proofs.OnSlots.Find.{find-held}
-use Rattle.nofs_model.proofs.OnSlots.Paths.{path_of-slot}
+use Rattle.nofs_ptrs.specs.PathLaws.{path_of-slot}
 use Rattle.nofs_crashlaw.proofs.OnUntouched.Frames.{frame}
 use Rattle.nofs_model.specs.declared.image.path.PathAnswer.TheVariants as answer
 use Rattle.nofs_history.specs.History.{SameFile}
-use Rattle.nofs_model.specs.Cells.{Cell, FileKind, Tag, Pointer, Record, tag_of, pointer_at, is_live, slot_limit}
-use Rattle.nofs_model.specs.Image.{Image, cell_at, inode, files_in, agreed, value, value_in, node_in, Path, InRecord}
-use Rattle.nofs_model.specs.Image.{Under, path_of, slot_of}
-use Rattle.nofs_model.specs.Image.{tag_for, find, IsSlot}
+use Rattle.nofs_disk.specs.declared.tag.Cell.{Cell}
+use Rattle.nofs_inode.specs.declared.inode.FileKind.{FileKind}
+use Rattle.nofs_disk.specs.declared.tag.Tag.{Tag}
+use Rattle.nofs_disk.specs.declared.tag.Pointer.{Pointer}
+use Rattle.nofs_inode.specs.declared.inode.Record.{Record}
+use Rattle.nofs_disk.specs.Tag.{tag_of}
+use Rattle.nofs_ptrs.specs.Cells.{pointer_at}
+use Rattle.nofs_inode.specs.InodeRecords.{is_live}
+use Rattle.nofs_ptrs.specs.Paths.{slot_limit, Path, InRecord, Under, path_of, slot_of, IsSlot}
+use Rattle.nofs_model.specs.Geometry.{Image, inode}
+use Rattle.nofs_disk.specs.Disk.{cell_at}
+use Rattle.nofs_model.specs.Files.{files_in, agreed, node_in}
+use Rattle.nofs_model.specs.Slots.{value, value_in, tag_for, find}
 use Rattle.nofs_model.specs.declared.image.value.Value.{Value}
 
 same-parts : (t u : Tag) → Some t ≡ Some u → (t.inode ≡ u.inode) × (t.slot ≡ u.slot)

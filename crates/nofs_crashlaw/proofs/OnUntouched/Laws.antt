@@ -1,5 +1,5 @@
 -- The laws of what a step leaves as it was.
-use Rattle.nofs_model.specs.Image.{path_of}
+use Rattle.nofs_ptrs.specs.Paths.{path_of}
 use Rattle.nofs_crashlaw.specs.Untouched.Laws.{LawUntouched, LawGrown}
 use Rattle.nofs_crashlaw.proofs.OnUntouched.Inodes.{same-file}
 use Rattle.nofs_crashlaw.proofs.OnFiles.Growth.{on-path, off-path, value-on, value-off}

@@ -4,9 +4,14 @@ use Rattle.std.proofs.Common.{subst}
 use Rattle.nofs_crashlaw.proofs.OnLives.Era.{meta_of_file}
 use Rattle.nofs_history.specs.Meta.{meta_of}
 use Rattle.nofs_history.specs.Machine.{generation_of}
-use Rattle.nofs_history.specs.History.{agreed_files, FilesMatch, SameFile}
-use Rattle.nofs_model.specs.Cells.{FileKind, is_live, slot_limit}
-use Rattle.nofs_model.specs.Image.{Image, inode, file_from, files_in, agreed, value, FileState, Files}
+use Rattle.nofs_history.specs.Since.{agreed_files}
+use Rattle.nofs_history.specs.History.{FilesMatch, SameFile}
+use Rattle.nofs_inode.specs.declared.inode.FileKind.{FileKind}
+use Rattle.nofs_inode.specs.InodeRecords.{is_live}
+use Rattle.nofs_ptrs.specs.Paths.{slot_limit}
+use Rattle.nofs_model.specs.Geometry.{Image, inode}
+use Rattle.nofs_model.specs.Files.{file_from, files_in, agreed, FileState, Files}
+use Rattle.nofs_model.specs.Slots.{value}
 
 pub agreed-files-is : (X : Image) (i : ℕ) → agreed_files X i ≡ cond (agreed (files_in X) i) (files_in X i) None
 unfolding agreed_files

@@ -1,9 +1,14 @@
 -- A slot of content gets a block: the blocks of pointers above it are there already, or are claimed with it.
 use Rattle.std.specs.Prelude.{◌≡◌, ℕ, ◌≤◌, ◌⊎◌, true, false, Some}
-use Rattle.nofs_model.specs.Cells.{Pointer, tag_of, is_null, pointer_at}
-use Rattle.nofs_model.specs.Image.{Image, cell_at, is_data_block, inode, Path, InRecord, Under, tag_for, find}
-use Rattle.nofs_model.specs.Image.{record_pointer, IsAbove, IsSlot}
-use Rattle.nofs_model.specs.Image.{IsFree}
+use Rattle.nofs_disk.specs.declared.tag.Pointer.{Pointer}
+use Rattle.nofs_disk.specs.Tag.{tag_of}
+use Rattle.nofs_disk.specs.Pointer.{is_null}
+use Rattle.nofs_ptrs.specs.Cells.{pointer_at}
+use Rattle.nofs_model.specs.Geometry.{Image, is_data_block, inode}
+use Rattle.nofs_disk.specs.Disk.{cell_at}
+use Rattle.nofs_ptrs.specs.Paths.{Path, InRecord, Under, IsSlot}
+use Rattle.nofs_model.specs.Slots.{tag_for, find, record_pointer, IsAbove}
+use Rattle.nofs_model.specs.Owners.{IsFree}
 use Rattle.nofs_model.specs.declared.image.path.PathAnswer.TheVariants as answer
 
 -- where the pointer of slot a stands in Y

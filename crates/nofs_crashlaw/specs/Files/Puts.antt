@@ -1,9 +1,12 @@
 -- What a Put leaves on the disk, wherever its slot lies.
 use Rattle.std.specs.Prelude.{◌≡◌, ◌≢◌, ℕ, ◌+◌, ◌*◌, ◌<◌, ◌⊎◌, max, true, false, List, length, Some, is_some, ◌==◌}
-use Rattle.nofs_model.specs.Cells.{Pointer, tag_of, slot_limit}
-use Rattle.nofs_model.specs.Image.{Image, cell_at, is_data_block, inode, Path, path_of, find, pointer, record_pointer}
-use Rattle.nofs_model.specs.Image.{FileState, Files, is_folder}
-use Rattle.nofs_model.specs.Image.{IsAbove}
+use Rattle.nofs_disk.specs.declared.tag.Pointer.{Pointer}
+use Rattle.nofs_disk.specs.Tag.{tag_of}
+use Rattle.nofs_ptrs.specs.Paths.{slot_limit, Path, path_of}
+use Rattle.nofs_model.specs.Geometry.{Image, is_data_block, inode}
+use Rattle.nofs_disk.specs.Disk.{cell_at}
+use Rattle.nofs_model.specs.Slots.{find, pointer, record_pointer, IsAbove}
+use Rattle.nofs_model.specs.Files.{FileState, Files, is_folder}
 use Rattle.nofs_model.specs.declared.image.path.PathAnswer.TheVariants as answer
 use Rattle.nofs_history.specs.Machine.{put_given, put_content, files_after}
 use Rattle.nofs_history.specs.History.{FilesMatch}

@@ -1,9 +1,14 @@
 -- What a Resize leaves on the disk: the slots from the cut on are empty, and every other stays.
 use Rattle.std.specs.Prelude.{◌≡◌, ◌≢◌, ℕ, ◌+◌, ◌*◌, ◌<◌, min, Bool, true, false, ◌||◌, if◌then◌else◌, nat_le, ◌==◌}
 use Rattle.std.specs.Prelude.{unwrap_or, is_some, Some}
-use Rattle.nofs_model.specs.Cells.{Pointer, is_null, pointer_at, slot_limit}
-use Rattle.nofs_model.specs.Image.{Image, cell_at, inode, Path, InRecord, Under, path_of, find, FileState, Files}
-use Rattle.nofs_model.specs.Image.{is_folder, record_pointer, IsSlot}
+use Rattle.nofs_disk.specs.declared.tag.Pointer.{Pointer}
+use Rattle.nofs_disk.specs.Pointer.{is_null}
+use Rattle.nofs_ptrs.specs.Cells.{pointer_at}
+use Rattle.nofs_ptrs.specs.Paths.{slot_limit, Path, InRecord, Under, path_of, IsSlot}
+use Rattle.nofs_model.specs.Geometry.{Image, inode}
+use Rattle.nofs_disk.specs.Disk.{cell_at}
+use Rattle.nofs_model.specs.Slots.{find, record_pointer}
+use Rattle.nofs_model.specs.Files.{FileState, Files, is_folder}
 use Rattle.nofs_model.specs.declared.image.path.PathAnswer.TheVariants as answer
 use Rattle.nofs_model.specs.declared.image.value.Value.TheVariants.{Bytes}
 use Rattle.nofs_history.specs.Marks.{Mark}

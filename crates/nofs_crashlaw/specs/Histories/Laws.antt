@@ -1,17 +1,20 @@
 -- The laws of steps, of later entries, of the rest and of names.
 use Rattle.std.specs.Prelude.{◌≡◌, ℕ, ◌<◌, ◌≤◌, Bool, true, false, List, [], ◌∷◌, ◌++◌, length, None, is_some}
-use Rattle.nofs_disk.specs.Disk.{Picks}
+use Rattle.nofs_disk.specs.Disk.{Picks, cell_at}
 use Rattle.nofs_crashlaw.specs.Untouched.Frames.{Touches, OldPointers}
 use Rattle.nofs_crashlaw.specs.Images.Reasons.{IsMark}
 use Rattle.nofs_crashlaw.specs.Images.Moments.{during, AllExplained, OnlyProper}
 use Rattle.nofs_history.specs.declared.machine.history.Entry1.{Entry1}
 use Rattle.nofs_history.specs.Machine.{given_by}
-use Rattle.nofs_history.specs.History.{agreed_files, files_along, mark, mark_at, is_flushed, FilesMatch}
+use Rattle.nofs_history.specs.Since.{agreed_files, files_along, mark, is_flushed}
+use Rattle.nofs_history.specs.Marks.{mark_at, IsUnderWay}
+use Rattle.nofs_history.specs.History.{FilesMatch}
 use Rattle.nofs_history.specs.Allowed.{HasVersions, NamesStay, IsAllowed}
 use Rattle.nofs_history.specs.Steady.{SteadyPointers, SteadyRest}
-use Rattle.nofs_history.specs.Marks.{IsUnderWay}
-use Rattle.nofs_model.specs.Cells.{Cell, is_live}
-use Rattle.nofs_model.specs.Image.{Image, cell_at, inode, Files}
+use Rattle.nofs_disk.specs.declared.tag.Cell.{Cell}
+use Rattle.nofs_inode.specs.InodeRecords.{is_live}
+use Rattle.nofs_model.specs.Geometry.{Image, inode}
+use Rattle.nofs_model.specs.Files.{Files}
 
 -- A step that begins at image X, a pick of what a crash may leave at moment l, with its reasons; and what may be left
 -- at moment m of it

@@ -3,11 +3,14 @@ use Rattle.std.specs.Prelude.{◌≡◌, ℕ, ◌+◌, ◌<◌, ◌≤◌, true,
 use Rattle.nofs_disk.specs.Disk.{DiskState, IsDisk, IsSettled, StaysButFaults, Flushes, cell_at}
 use Rattle.nofs_disk.specs.Moments.{AtEach}
 use Rattle.nofs_disk.specs.Adds.{Adds}
-use Rattle.nofs_model.specs.Cells.{Cell}
-use Rattle.nofs_model.specs.Image.{Image, super_at, is_mountable, Files, CellBelow, IsBelow}
-use Rattle.nofs_history.specs.Marks.{Mark}
+use Rattle.nofs_disk.specs.declared.tag.Cell.{Cell}
+use Rattle.nofs_model.specs.Geometry.{Image, super_at, is_mountable}
+use Rattle.nofs_model.specs.Files.{Files}
+use Rattle.nofs_model.specs.Sound.{CellBelow, IsBelow}
+use Rattle.nofs_history.specs.Marks.{Mark, mark_at}
 use Rattle.nofs_history.specs.Machine.{given_by, files_by}
-use Rattle.nofs_history.specs.History.{FilesMatch, NoWriteFault, agreed_files, files_along, is_flushed, mark_at}
+use Rattle.nofs_history.specs.History.{FilesMatch, NoWriteFault}
+use Rattle.nofs_history.specs.Since.{agreed_files, files_along, is_flushed}
 use Rattle.nofs_history.specs.Allowed.{IsAllowed}
 use Rattle.nofs_history.specs.Steady.{SteadyRest, IsSteady}
 use Rattle.nofs_history.specs.Claims.{no_claims}

@@ -1,7 +1,11 @@
 -- What each step on names does to the homes of the blocks.
 use Rattle.std.specs.Prelude.{◌≡◌, ℕ, true, List, Some, None}
-use Rattle.nofs_model.specs.Cells.{FileKind, Pointer, Entry, spelled_entry}
-use Rattle.nofs_model.specs.Image.{Image, inode, FileState, Files}
+use Rattle.nofs_inode.specs.declared.inode.FileKind.{FileKind}
+use Rattle.nofs_disk.specs.declared.tag.Pointer.{Pointer}
+use Rattle.nofs_dirent.specs.declared.entry.Entry.{Entry}
+use Rattle.nofs_dirent.specs.Entries.{spelled_entry}
+use Rattle.nofs_model.specs.Geometry.{Image, inode}
+use Rattle.nofs_model.specs.Files.{FileState, Files}
 use Rattle.nofs_history.specs.Meta.{Gone, Is}
 use Rattle.nofs_history.specs.Machine.{place_for, link_to, without_link, drop_meta}
 use Rattle.nofs_history.specs.World.{World}

@@ -1,6 +1,7 @@
 -- What a step on names does to the homes of the blocks.
 use Rattle.std.specs.Prelude.{◌≡◌, ◌≢◌, ℕ, true, Some, None, is_some}
-use Rattle.nofs_model.specs.Image.{Image, Home}
+use Rattle.nofs_model.specs.Geometry.{Image}
+use Rattle.nofs_model.specs.Owners.{Home}
 use Rattle.nofs_history.specs.Machine.{Given, files_after}
 use Rattle.nofs_history.specs.History.{FilesMatch}
 use Rattle.nofs_history.specs.World.{World}

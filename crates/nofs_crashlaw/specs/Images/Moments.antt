@@ -1,14 +1,15 @@
 -- What goes on from moment to moment of a step.
 use Rattle.std.specs.Prelude.{◌≡◌, ℕ, ◌⊎◌, Bool, true, false, ◌&&◌, not, List, ◌++◌, length, Option, Some, None}
 use Rattle.std.specs.Prelude.{option_to_list, Contains}
-use Rattle.nofs_disk.specs.Disk.{Picks}
+use Rattle.nofs_disk.specs.Disk.{Picks, cell_at}
 use Rattle.nofs_crashlaw.specs.Images.Reasons.{Fine, Solid, IsMark, ReadsSince, KeepsSure, KeepsPointers}
 use Rattle.nofs_crashlaw.specs.Images.Proper.{Proper}
 use Rattle.nofs_history.specs.Meta.{Meta, Gone, Is}
 use Rattle.nofs_history.specs.Marks.{Mark}
 use Rattle.nofs_history.specs.Machine.{Given}
-use Rattle.nofs_model.specs.Cells.{Cell}
-use Rattle.nofs_model.specs.Image.{Image, cell_at, files_in, agreed}
+use Rattle.nofs_disk.specs.declared.tag.Cell.{Cell}
+use Rattle.nofs_model.specs.Geometry.{Image}
+use Rattle.nofs_model.specs.Files.{files_in, agreed}
 
 abbrev pub is_removal : Option Meta → Bool
 is_removal None = false

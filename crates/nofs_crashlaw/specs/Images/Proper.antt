@@ -4,12 +4,21 @@ use Rattle.nofs_crashlaw.specs.Images.Reasons.{Holes}
 use Rattle.nofs_model.specs.declared.image.path.PathAnswer.TheVariants as answer
 use Rattle.nofs_history.specs.Meta.{meta_of}
 use Rattle.nofs_history.specs.Marks.{Mark}
-use Rattle.nofs_model.specs.Image.{IsSlot, IsFree, Image, cell_at, is_data_block, is_inode, inode, Path, InRecord}
-use Rattle.nofs_model.specs.Image.{Under, slot_of, is_pointer_slot}
-use Rattle.nofs_model.specs.Image.{record_pointer, find, pointer, AboveHolds}
-use Rattle.nofs_model.specs.Cells.{Cell, Kind, Content, Directory, Leaf, Tag, Pointer, Record, tag_of, is_null}
-use Rattle.nofs_model.specs.Cells.{pointer_at, record_at, is_live}
-use Rattle.nofs_model.specs.Cells.{slot_limit}
+use Rattle.nofs_ptrs.specs.Paths.{IsSlot, Path, InRecord, Under, slot_of, is_pointer_slot, slot_limit}
+use Rattle.nofs_model.specs.Owners.{IsFree}
+use Rattle.nofs_model.specs.Geometry.{Image, is_data_block, is_inode, inode}
+use Rattle.nofs_disk.specs.Disk.{cell_at}
+use Rattle.nofs_model.specs.Slots.{record_pointer, find, pointer, AboveHolds}
+use Rattle.nofs_disk.specs.declared.tag.Cell.{Cell}
+use Rattle.nofs_disk.specs.declared.tag.Kind.{Kind}
+use Rattle.nofs_disk.specs.declared.tag.Kind.TheVariants.{Content, Directory, Leaf}
+use Rattle.nofs_disk.specs.declared.tag.Tag.{Tag}
+use Rattle.nofs_disk.specs.declared.tag.Pointer.{Pointer}
+use Rattle.nofs_inode.specs.declared.inode.Record.{Record}
+use Rattle.nofs_disk.specs.Tag.{tag_of}
+use Rattle.nofs_disk.specs.Pointer.{is_null}
+use Rattle.nofs_ptrs.specs.Cells.{pointer_at}
+use Rattle.nofs_inode.specs.InodeRecords.{record_at, is_live}
 use Rattle.nofs_model.specs.declared.image.value.Value.TheVariants.{Hole, Bytes}
 
 -- why a step that began at X, whose givings m has, writes this pointer

@@ -1,15 +1,22 @@
 -- What a crash may leave, block by block.
 use Rattle.std.specs.Prelude.{◌≡◌, ℕ, ◌+◌, ◌-◌, ◌/◌, ◌%◌, ◌<◌, ◌≤◌, ◌⊎◌, ◌≢◌, true, List, Some, Contains}
-use Rattle.nofs_model.specs.Cells.{slot_limit}
+use Rattle.nofs_ptrs.specs.Paths.{slot_limit, Path, InRecord, Under, path_of}
 use Rattle.nofs_model.specs.declared.image.path.PathAnswer.TheVariants as answer
 use Rattle.nofs_history.specs.Meta.{meta_of, AllBytes, MayRead}
 use Rattle.nofs_history.specs.Marks.{Mark}
-use Rattle.nofs_model.specs.Image.{IsAbove, AboveHolds, Image, cell_at, super_at, is_data_block, is_inode, inode, Path}
-use Rattle.nofs_model.specs.Image.{InRecord, Under, path_of}
-use Rattle.nofs_model.specs.Image.{record_pointer, find, pointer, value}
-use Rattle.nofs_model.specs.Cells.{Cell, Kind, Nothing, Content, Directory, Leaf, Table, Super, Tag, Pointer, Record}
-use Rattle.nofs_model.specs.Cells.{tag_of, is_null, pointer_at}
-use Rattle.nofs_model.specs.Cells.{record_at, is_live}
+use Rattle.nofs_model.specs.Slots.{IsAbove, AboveHolds, record_pointer, find, pointer, value}
+use Rattle.nofs_model.specs.Geometry.{Image, super_at, is_data_block, is_inode, inode}
+use Rattle.nofs_disk.specs.Disk.{cell_at}
+use Rattle.nofs_disk.specs.declared.tag.Cell.{Cell}
+use Rattle.nofs_disk.specs.declared.tag.Kind.{Kind}
+use Rattle.nofs_disk.specs.declared.tag.Kind.TheVariants.{Nothing, Content, Directory, Leaf, Table, Super}
+use Rattle.nofs_disk.specs.declared.tag.Tag.{Tag}
+use Rattle.nofs_disk.specs.declared.tag.Pointer.{Pointer}
+use Rattle.nofs_inode.specs.declared.inode.Record.{Record}
+use Rattle.nofs_disk.specs.Tag.{tag_of}
+use Rattle.nofs_disk.specs.Pointer.{is_null}
+use Rattle.nofs_ptrs.specs.Cells.{pointer_at}
+use Rattle.nofs_inode.specs.InodeRecords.{record_at, is_live}
 use Rattle.nofs_model.specs.declared.image.value.Value.TheVariants.{Hole, Bytes, Lost}
 
 -- each slot of content in or below this one may be a hole

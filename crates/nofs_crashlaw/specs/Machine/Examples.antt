@@ -3,14 +3,14 @@ use Rattle.std.specs.Prelude.{◌≡◌, ℕ, ◌+◌, ◌^◌, true, false, Lis
 use Rattle.std.specs.Prelude.{nat_le, nat_lt, replicate}
 use Rattle.nofs_ptrs.specs.Paths.{slot_limit}
 use Rattle.nofs_disk.specs.Pointer.{null}
-use Rattle.nofs_model.specs.Kinds.{File}
+use Rattle.nofs_inode.specs.declared.inode.FileKind.TheVariants.{File}
 use Rattle.nofs_dirent.specs.Entries.{spelled_entry}
-use Rattle.nofs_model.specs.Image.{FileState}
+use Rattle.nofs_model.specs.Files.{FileState}
 use Rattle.nofs_model.specs.declared.image.value.Value.TheVariants.{Hole, Bytes, Lost}
 use Rattle.nofs_history.specs.Machine.{link_to}
 use Rattle.nofs_history.specs.World.{World}
 use Rattle.nofs_history.specs.Claims.{no_claims}
-use Rattle.nofs_history.specs.History.{values_given}
+use Rattle.nofs_history.specs.Since.{values_given}
 use Rattle.nofs_history.specs.Next.{Next}
 use Rattle.nofs_history.specs.declared.machine.history.Claims.{Claims}
 use Rattle.nofs_history.specs.declared.machine.steps.Step.{Step}
@@ -19,8 +19,7 @@ use Rattle.nofs_history.specs.declared.machine.replies.Reply.{Reply}
 use Rattle.nofs_history.specs.declared.machine.replies.Reply.TheVariants as reply
 use Rattle.nofs_history.specs.declared.machine.replies.Refusal.TheVariants as refusal
 use Rattle.nofs_crashlaw.specs.Machine.Worlds.{links, no_links, first_slot, cell, directory, file, files}
-use Rattle.nofs_crashlaw.specs.Machine.Worlds.{example_world, first_child_damaged, answer}
-use Rattle.nofs_crashlaw.specs.Machine.Worlds.{world_after, without_claims}
+use Rattle.nofs_crashlaw.specs.Machine.Worlds.{example_world, first_child_damaged, answer, world_after, without_claims}
 
 -- in this world this step with these claims is answered so
 pub record Example : Type 0 where

@@ -3,9 +3,11 @@ use Rattle.std.specs.Prelude.{◌≡◌, ℕ, ◌≤◌, false, List, [], ◌∷
 use Rattle.nofs_model.specs.declared.image.value.Value.TheVariants.{Bytes}
 use Rattle.nofs_history.specs.Machine.{value_of, is_fault}
 use Rattle.nofs_history.specs.Steps.{Fits}
-use Rattle.nofs_model.specs.Image.{Image, FileState}
+use Rattle.nofs_model.specs.Geometry.{Image}
+use Rattle.nofs_model.specs.Files.{FileState}
 use Rattle.nofs_history.specs.Meta.{Is}
-use Rattle.nofs_history.specs.History.{agreed_files, files_along, NoWriteFault, accepted_of, accepted_meta_of, last_in}
+use Rattle.nofs_history.specs.Since.{agreed_files, files_along, accepted_of, accepted_meta_of, last_in}
+use Rattle.nofs_history.specs.History.{NoWriteFault}
 use Rattle.nofs_history.specs.World.{World}
 use Rattle.nofs_history.specs.Next.{Next}
 use Rattle.nofs_history.specs.declared.machine.history.Entry1.{Entry1}

@@ -1,9 +1,11 @@
 -- Small worlds for the examples: 64 blocks, 16 inodes, the root, the label file, and two more files.
 use Rattle.std.specs.Prelude.{ℕ, ◌+◌, ◌-◌, true, false, List, [], ◌∷◌, ◌++◌, length, Option, Some, None, if◌then◌else◌}
 use Rattle.std.specs.Prelude.{nat_lt, nat_le, ◌==◌, replicate}
-use Rattle.nofs_model.specs.Cells.{BackLink}
-use Rattle.nofs_model.specs.Kinds.{File, Directory}
-use Rattle.nofs_model.specs.Image.{Path, InRecord, Under, NodeState, Absent, Present, Damaged, FileState, home_at}
+use Rattle.nofs_inode.specs.declared.inode.BackLink.{BackLink}
+use Rattle.nofs_inode.specs.declared.inode.FileKind.TheVariants.{File, Directory}
+use Rattle.nofs_ptrs.specs.Paths.{Path, InRecord, Under}
+use Rattle.nofs_model.specs.Files.{NodeState, Absent, Present, Damaged, FileState}
+use Rattle.nofs_model.specs.Owners.{home_at}
 use Rattle.nofs_model.specs.declared.image.value.Value.{Value}
 use Rattle.nofs_model.specs.declared.image.value.Value.TheVariants.{Hole, Bytes}
 use Rattle.nofs_history.specs.Search.{first_of}

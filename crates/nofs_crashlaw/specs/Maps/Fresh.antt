@@ -10,10 +10,19 @@ use Rattle.nofs_history.specs.World.{World, inodes_needed, blocks_needed}
 use Rattle.nofs_history.specs.Claims.{claimed_blocks, next_stamp}
 use Rattle.nofs_history.specs.Next.{Next}
 use Rattle.nofs_history.specs.Good.{IsFresh}
-use Rattle.nofs_model.specs.Cells.{Cell, Content, Directory, Leaf, Table, Tag, Pointer, Record, tag_of, pointer_at}
-use Rattle.nofs_model.specs.Cells.{record_at, is_live, entry_in}
-use Rattle.nofs_model.specs.Image.{Image, cell_at, super_at, is_mountable, is_data_block, is_inode, inode}
-use Rattle.nofs_model.specs.Image.{record_pointer, CellBelow, IsBelow}
+use Rattle.nofs_disk.specs.declared.tag.Cell.{Cell}
+use Rattle.nofs_disk.specs.declared.tag.Kind.TheVariants.{Content, Directory, Leaf, Table}
+use Rattle.nofs_disk.specs.declared.tag.Tag.{Tag}
+use Rattle.nofs_disk.specs.declared.tag.Pointer.{Pointer}
+use Rattle.nofs_inode.specs.declared.inode.Record.{Record}
+use Rattle.nofs_disk.specs.Tag.{tag_of}
+use Rattle.nofs_ptrs.specs.Cells.{pointer_at}
+use Rattle.nofs_inode.specs.InodeRecords.{record_at, is_live}
+use Rattle.nofs_dirent.specs.Entries.{entry_in}
+use Rattle.nofs_model.specs.Geometry.{Image, super_at, is_mountable, is_data_block, is_inode, inode}
+use Rattle.nofs_disk.specs.Disk.{cell_at}
+use Rattle.nofs_model.specs.Slots.{record_pointer}
+use Rattle.nofs_model.specs.Sound.{CellBelow, IsBelow}
 
 -- how many a step claims
 abbrev pub needed : World → Step → ℕ

@@ -10,10 +10,13 @@ use Rattle.nofs_history.specs.World.{World, uses_inode, uses_block}
 use Rattle.nofs_history.specs.Claims.{claimed_blocks, claimed_home, homes_after, IsClaim}
 use Rattle.nofs_history.specs.Next.{Keeps, Next}
 use Rattle.nofs_history.specs.Good.{MatchesSuper, IsGood}
-use Rattle.nofs_model.specs.Cells.{Pointer}
-use Rattle.nofs_model.specs.Image.{Image, cell_at, is_data_block, files_in, agreed, Path, slot_of, find, Files, Home}
-use Rattle.nofs_model.specs.Image.{owner, is_used_inode}
-use Rattle.nofs_model.specs.Image.{is_used_block, IsSlot, IsFree}
+use Rattle.nofs_disk.specs.declared.tag.Pointer.{Pointer}
+use Rattle.nofs_model.specs.Geometry.{Image, is_data_block}
+use Rattle.nofs_disk.specs.Disk.{cell_at}
+use Rattle.nofs_model.specs.Files.{files_in, agreed, Files}
+use Rattle.nofs_ptrs.specs.Paths.{Path, slot_of, IsSlot}
+use Rattle.nofs_model.specs.Slots.{find}
+use Rattle.nofs_model.specs.Owners.{Home, owner, is_used_inode, is_used_block, IsFree}
 
 -- the slot of this home holds block p, and its inode is agreed
 pub record Houses (X : Image) (home : Home) (p : ℕ) : Type 0 where

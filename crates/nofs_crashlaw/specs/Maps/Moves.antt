@@ -7,8 +7,12 @@ use Rattle.nofs_history.specs.declared.machine.steps.Step.{Step}
 use Rattle.nofs_history.specs.declared.machine.history.Claims.{Claims}
 use Rattle.nofs_history.specs.World.{World}
 use Rattle.nofs_history.specs.Claims.{is_claimed, cell_slot, slot_above, IsClaim}
-use Rattle.nofs_model.specs.Cells.{Pointer, slot_limit}
-use Rattle.nofs_model.specs.Image.{Image, files_in, agreed, Path, path_of, find, Home, IsAbove, IsSlot}
+use Rattle.nofs_disk.specs.declared.tag.Pointer.{Pointer}
+use Rattle.nofs_ptrs.specs.Paths.{slot_limit, Path, path_of, IsSlot}
+use Rattle.nofs_model.specs.Geometry.{Image}
+use Rattle.nofs_model.specs.Files.{files_in, agreed}
+use Rattle.nofs_model.specs.Slots.{find, IsAbove}
+use Rattle.nofs_model.specs.Owners.{Home}
 
 abbrev pub IsClaimed : Claims → Pointer → Type 0
 IsClaimed c y = (is_claimed y ≡ true) × ((c.cell ≡ y) ⊎ ((c.leaf ≡ y) ⊎ (c.top ≡ y)))

@@ -6,8 +6,17 @@ use Rattle.nofs_history.specs.Machine.{bytes_in, with_entry}
 use Rattle.nofs_history.specs.World.{World}
 use Rattle.nofs_history.specs.Claims.{claimed_blocks, next_stamp}
 use Rattle.nofs_history.specs.Good.{IsFresh}
-use Rattle.nofs_model.specs.Cells.{Cell, Entry, Pointer, is_null, is_live, entry_of, entry_in}
-use Rattle.nofs_model.specs.Image.{Image, cell_at, super_at, is_mountable, inode, Path, pointer, IsBelow, IsSlot}
+use Rattle.nofs_disk.specs.declared.tag.Cell.{Cell}
+use Rattle.nofs_dirent.specs.declared.entry.Entry.{Entry}
+use Rattle.nofs_disk.specs.declared.tag.Pointer.{Pointer}
+use Rattle.nofs_disk.specs.Pointer.{is_null}
+use Rattle.nofs_inode.specs.InodeRecords.{is_live}
+use Rattle.nofs_dirent.specs.Entries.{entry_of, entry_in}
+use Rattle.nofs_model.specs.Geometry.{Image, super_at, is_mountable, inode}
+use Rattle.nofs_disk.specs.Disk.{cell_at}
+use Rattle.nofs_ptrs.specs.Paths.{Path, IsSlot}
+use Rattle.nofs_model.specs.Slots.{pointer}
+use Rattle.nofs_model.specs.Sound.{IsBelow}
 use Rattle.nofs_model.specs.declared.image.value.Value.{Value}
 use Rattle.nofs_model.specs.declared.image.value.Value.TheVariants.{Bytes}
 

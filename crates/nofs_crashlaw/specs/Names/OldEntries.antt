@@ -1,9 +1,18 @@
 -- What the steps on names leave on the disk where the entry's slot holds.
 use Rattle.std.specs.Prelude.{◌≡◌, ◌≢◌, ℕ, ◌+◌, ◌-◌, ◌/◌, ◌<◌, ◌≤◌, ◌⊎◌, true, false, List, length, Some, None, is_some}
-use Rattle.nofs_model.specs.Cells.{Tag, Pointer, BackLink, Entry, tag_of, spelled_entry, entry_limit, Spells}
-use Rattle.nofs_model.specs.Image.{Image, cell_at, super_at, is_data_block, inode, Path, path_of, find, record_pointer}
-use Rattle.nofs_model.specs.Image.{FileState, Files, is_folder}
-use Rattle.nofs_model.specs.Image.{entry_at, IsFree}
+use Rattle.nofs_disk.specs.declared.tag.Tag.{Tag}
+use Rattle.nofs_disk.specs.declared.tag.Pointer.{Pointer}
+use Rattle.nofs_inode.specs.declared.inode.BackLink.{BackLink}
+use Rattle.nofs_dirent.specs.declared.entry.Entry.{Entry}
+use Rattle.nofs_disk.specs.Tag.{tag_of}
+use Rattle.nofs_dirent.specs.Entries.{spelled_entry, entry_limit}
+use Rattle.nofs_dirent.specs.EntryLaws.{Spells}
+use Rattle.nofs_model.specs.Geometry.{Image, super_at, is_data_block, inode}
+use Rattle.nofs_disk.specs.Disk.{cell_at}
+use Rattle.nofs_ptrs.specs.Paths.{Path, path_of}
+use Rattle.nofs_model.specs.Slots.{find, record_pointer}
+use Rattle.nofs_model.specs.Files.{FileState, Files, is_folder, entry_at}
+use Rattle.nofs_model.specs.Owners.{IsFree}
 use Rattle.nofs_model.specs.declared.image.path.PathAnswer.TheVariants as answer
 use Rattle.nofs_model.specs.declared.image.value.Value.TheVariants.{Bytes}
 use Rattle.nofs_history.specs.Meta.{Gone, Is}

@@ -1,10 +1,13 @@
 -- Where a new entry goes, and that its bytes are read back as it.
 use Rattle.std.specs.Prelude.{◌≡◌, ℕ, ◌/◌, ◌^◌, ◌<◌, ◌≤◌, ◌⊎◌, false, List, Some}
-use Rattle.nofs_dirent.specs.Entries.{entry_limit}
+use Rattle.nofs_dirent.specs.Entries.{entry_limit, spelled_entry}
 use Rattle.nofs_dirent.specs.EntryLaws.{Spells}
 use Rattle.nofs_dirent.specs.Names.{NameOk}
-use Rattle.nofs_model.specs.Cells.{Pointer, spelled_entry}
-use Rattle.nofs_model.specs.Image.{Image, path_of, find, FileState, Files}
+use Rattle.nofs_disk.specs.declared.tag.Pointer.{Pointer}
+use Rattle.nofs_model.specs.Geometry.{Image}
+use Rattle.nofs_ptrs.specs.Paths.{path_of}
+use Rattle.nofs_model.specs.Slots.{find}
+use Rattle.nofs_model.specs.Files.{FileState, Files}
 use Rattle.nofs_model.specs.declared.image.path.PathAnswer.TheVariants as answer
 use Rattle.nofs_history.specs.Machine.{is_paired, place_for}
 use Rattle.nofs_history.specs.History.{FilesMatch}

@@ -2,12 +2,23 @@
 -- one.
 use Rattle.std.specs.Prelude.{◌≡◌, ◌≢◌, ℕ, ◌+◌, ◌-◌, ◌/◌, ◌%◌, ◌<◌, ◌⊎◌, true, false, Some, List, length, IfSome}
 use Rattle.std.specs.Prelude.{Contains}
-use Rattle.nofs_model.specs.Cells.{Cell, Content, Directory, Table, Tag, Pointer, BackLink, Record, Entry, tag_of}
-use Rattle.nofs_model.specs.Cells.{is_null, is_live, pointer_at}
-use Rattle.nofs_model.specs.Cells.{record_at, entry_of}
-use Rattle.nofs_model.specs.Image.{Image, cell_at, is_mountable, is_data_block, is_inode, inode, Path, InRecord, Under}
-use Rattle.nofs_model.specs.Image.{is_pointer_slot, kind_in}
-use Rattle.nofs_model.specs.Image.{tag_for, find, record_pointer, IsBelow, IsSlot}
+use Rattle.nofs_disk.specs.declared.tag.Cell.{Cell}
+use Rattle.nofs_disk.specs.declared.tag.Kind.TheVariants.{Content, Directory, Table}
+use Rattle.nofs_disk.specs.declared.tag.Tag.{Tag}
+use Rattle.nofs_disk.specs.declared.tag.Pointer.{Pointer}
+use Rattle.nofs_inode.specs.declared.inode.BackLink.{BackLink}
+use Rattle.nofs_inode.specs.declared.inode.Record.{Record}
+use Rattle.nofs_dirent.specs.declared.entry.Entry.{Entry}
+use Rattle.nofs_disk.specs.Tag.{tag_of}
+use Rattle.nofs_disk.specs.Pointer.{is_null}
+use Rattle.nofs_inode.specs.InodeRecords.{is_live, record_at}
+use Rattle.nofs_ptrs.specs.Cells.{pointer_at}
+use Rattle.nofs_dirent.specs.Entries.{entry_of}
+use Rattle.nofs_model.specs.Geometry.{Image, is_mountable, is_data_block, is_inode, inode}
+use Rattle.nofs_disk.specs.Disk.{cell_at}
+use Rattle.nofs_ptrs.specs.Paths.{Path, InRecord, Under, is_pointer_slot, IsSlot}
+use Rattle.nofs_model.specs.Slots.{kind_in, tag_for, find, record_pointer}
+use Rattle.nofs_model.specs.Sound.{IsBelow}
 use Rattle.nofs_model.specs.declared.image.path.PathAnswer.TheVariants as answer
 use Rattle.nofs_model.specs.declared.image.value.Value.{Value}
 use Rattle.nofs_model.specs.declared.image.value.Value.TheVariants.{Hole, Bytes}

@@ -1,8 +1,12 @@
 -- The numbers in what the steps on files write: Put and Resize.
 use Rattle.std.specs.Prelude.{◌≡◌, ℕ, ◌<◌, ◌⊎◌, true, false, List}
-use Rattle.nofs_model.specs.Cells.{Pointer, Record, slot_limit}
-use Rattle.nofs_model.specs.Image.{Image, cell_at, inode, Path, path_of, is_pointer_slot, find, record_pointer}
-use Rattle.nofs_model.specs.Image.{FileState, IsAbove, IsSlot}
+use Rattle.nofs_disk.specs.declared.tag.Pointer.{Pointer}
+use Rattle.nofs_inode.specs.declared.inode.Record.{Record}
+use Rattle.nofs_ptrs.specs.Paths.{slot_limit, Path, path_of, is_pointer_slot, IsSlot}
+use Rattle.nofs_model.specs.Geometry.{Image, inode}
+use Rattle.nofs_disk.specs.Disk.{cell_at}
+use Rattle.nofs_model.specs.Slots.{find, record_pointer, IsAbove}
+use Rattle.nofs_model.specs.Files.{FileState}
 use Rattle.nofs_model.specs.declared.image.path.PathAnswer.TheVariants as answer
 use Rattle.nofs_history.specs.World.{World}
 use Rattle.nofs_history.specs.declared.machine.history.Claims.{Claims}

@@ -1,7 +1,12 @@
 -- The numbers in what the steps on names write: Rename, Drop, Link and Make.
 use Rattle.std.specs.Prelude.{◌≡◌, ℕ, ◌/◌, ◌≤◌, ◌⊎◌, List, None}
-use Rattle.nofs_model.specs.Cells.{FileKind, Pointer, Entry, spelled_entry}
-use Rattle.nofs_model.specs.Image.{Image, cell_at, inode, FileState}
+use Rattle.nofs_inode.specs.declared.inode.FileKind.{FileKind}
+use Rattle.nofs_disk.specs.declared.tag.Pointer.{Pointer}
+use Rattle.nofs_dirent.specs.declared.entry.Entry.{Entry}
+use Rattle.nofs_dirent.specs.Entries.{spelled_entry}
+use Rattle.nofs_model.specs.Geometry.{Image, inode}
+use Rattle.nofs_disk.specs.Disk.{cell_at}
+use Rattle.nofs_model.specs.Files.{FileState}
 use Rattle.nofs_history.specs.Machine.{link_to, without_link}
 use Rattle.nofs_history.specs.World.{World}
 use Rattle.nofs_history.specs.Claims.{IsClaim}

@@ -5,8 +5,10 @@
 -- the old name. Other callers' entries may stand between these. From the first flush on one of the two names finds the
 -- file in every image that a crash may leave.
 use Rattle.std.specs.Prelude.{◌≡◌, ◌≢◌, ℕ, ◌/◌, ◌<◌, ◌≤◌, ◌⊎◌, List, [], ◌∷◌, ◌++◌, Some, slice_get}
-use Rattle.nofs_model.specs.Cells.{FileKind, Entry}
-use Rattle.nofs_model.specs.Image.{Image, entry_held, entry_at}
+use Rattle.nofs_inode.specs.declared.inode.FileKind.{FileKind}
+use Rattle.nofs_dirent.specs.declared.entry.Entry.{Entry}
+use Rattle.nofs_model.specs.Geometry.{Image}
+use Rattle.nofs_model.specs.Files.{entry_held, entry_at}
 use Rattle.nofs_model.specs.declared.image.value.Value.{Value}
 use Rattle.nofs_history.specs.Machine.{Given, found, place_for, given_by}
 use Rattle.nofs_history.specs.HistoryState.{HistoryState}

@@ -1,11 +1,14 @@
 -- Which name finds which file, in an image and in every version since the last flush.
 use Rattle.std.specs.Prelude.{◌≡◌, ℕ, ◌/◌, ◌%◌, true, false, List, Some, Contains}
-use Rattle.nofs_model.specs.Cells.{BackLink, Entry, entry_in}
-use Rattle.nofs_model.specs.Image.{Image, inode, files_in, agreed, entry_at, is_pair, links_of, is_special}
+use Rattle.nofs_inode.specs.declared.inode.BackLink.{BackLink}
+use Rattle.nofs_dirent.specs.declared.entry.Entry.{Entry}
+use Rattle.nofs_dirent.specs.Entries.{entry_in}
+use Rattle.nofs_model.specs.Geometry.{Image, inode}
+use Rattle.nofs_model.specs.Files.{files_in, agreed, entry_at, is_pair, links_of, is_special}
 use Rattle.nofs_model.specs.declared.image.value.Value.{Value}
 use Rattle.nofs_model.specs.declared.image.value.Value.TheVariants.{Bytes}
 use Rattle.nofs_history.specs.Meta.{Meta}
-use Rattle.nofs_history.specs.History.{since, since_meta, stands}
+use Rattle.nofs_history.specs.Since.{since, since_meta, stands}
 use Rattle.nofs_history.specs.Allowed.{IsAllowed, IsFolderMeta, SureLink}
 use Rattle.nofs_history.specs.declared.machine.history.Entry1.{Entry1}
 

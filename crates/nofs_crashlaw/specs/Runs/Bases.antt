@@ -1,6 +1,7 @@
 -- What a mount leaves for the machine to run over, and a history of the machine over it.
 use Rattle.std.specs.Prelude.{◌≡◌, ℕ, ◌+◌, ◌*◌, ◌^◌, ◌<◌, ◌≤◌, true}
-use Rattle.nofs_model.specs.Image.{Image, super_at, IsSized, is_mountable, IsBelow, IsSound}
+use Rattle.nofs_model.specs.Geometry.{Image, super_at, IsSized, is_mountable}
+use Rattle.nofs_model.specs.Sound.{IsBelow, IsSound}
 use Rattle.nofs_history.specs.HistoryState.{HistoryState}
 use Rattle.nofs_history.specs.World.{World}
 use Rattle.nofs_history.specs.Next.{IsAfter}

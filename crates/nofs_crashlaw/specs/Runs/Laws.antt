@@ -1,9 +1,10 @@
 -- What a run of the machine keeps, whatever its entries.
 use Rattle.std.specs.Prelude.{◌≡◌, ℕ, suc, ◌≤◌, true, List, length, take, Some, slice_get}
-use Rattle.nofs_model.specs.Cells.{BackLink}
-use Rattle.nofs_model.specs.Image.{Image, Files, FileState, Agreed, is_pair}
+use Rattle.nofs_inode.specs.declared.inode.BackLink.{BackLink}
+use Rattle.nofs_model.specs.Geometry.{Image}
+use Rattle.nofs_model.specs.Files.{Files, FileState, Agreed, is_pair}
 use Rattle.nofs_history.specs.Machine.{found}
-use Rattle.nofs_history.specs.History.{agreed_files, files_along}
+use Rattle.nofs_history.specs.Since.{agreed_files, files_along}
 use Rattle.nofs_history.specs.HistoryState.{HistoryState}
 use Rattle.nofs_history.specs.declared.machine.history.Entry1.{Entry1}
 use Rattle.nofs_history.specs.declared.machine.steps.Step.TheVariants as step

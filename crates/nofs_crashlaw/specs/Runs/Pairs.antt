@@ -1,8 +1,8 @@
 -- A directory, the pairs in it, and the place of a back link, in the machine's files.
 use Rattle.std.specs.Prelude.{◌≡◌, ℕ, zero, suc, ◌<◌, Bool, true, false, List, [], ◌∷◌, Some}
 use Rattle.nofs_dirent.specs.Entries.{entry_limit}
-use Rattle.nofs_model.specs.Cells.{BackLink}
-use Rattle.nofs_model.specs.Image.{Files, FileState, is_folder}
+use Rattle.nofs_inode.specs.declared.inode.BackLink.{BackLink}
+use Rattle.nofs_model.specs.Files.{Files, FileState, is_folder}
 use Rattle.nofs_history.specs.Machine.{is_paired}
 use Rattle.nofs_history.specs.declared.machine.steps.Step.{Step}
 use Rattle.nofs_history.specs.declared.machine.steps.Step.TheVariants as step

@@ -1,9 +1,16 @@
 -- What a step leaves as it was.
 use Rattle.std.specs.Prelude.{◌≡◌, ℕ, ◌<◌, ◌≤◌, ◌⊎◌, Bool, true, false, Some}
 use Rattle.nofs_model.specs.declared.image.path.PathAnswer.TheVariants as answer
-use Rattle.nofs_model.specs.Cells.{Tag, Pointer, tag_of, pointer_at, is_live}
-use Rattle.nofs_model.specs.Image.{Image, cell_at, is_data_block, inode, Path, InRecord, Under, record_pointer, find}
-use Rattle.nofs_model.specs.Image.{pointer, IsSlot, IsFree}
+use Rattle.nofs_disk.specs.declared.tag.Tag.{Tag}
+use Rattle.nofs_disk.specs.declared.tag.Pointer.{Pointer}
+use Rattle.nofs_disk.specs.Tag.{tag_of}
+use Rattle.nofs_ptrs.specs.Cells.{pointer_at}
+use Rattle.nofs_inode.specs.InodeRecords.{is_live}
+use Rattle.nofs_model.specs.Geometry.{Image, is_data_block, inode}
+use Rattle.nofs_disk.specs.Disk.{cell_at}
+use Rattle.nofs_ptrs.specs.Paths.{Path, InRecord, Under, IsSlot}
+use Rattle.nofs_model.specs.Slots.{record_pointer, find, pointer}
+use Rattle.nofs_model.specs.Owners.{IsFree}
 
 -- each block keeps its tag, or was free and has a stamp of at least s
 pub record Rewrites (s : ℕ) (X Y : Image) : Type 0 where

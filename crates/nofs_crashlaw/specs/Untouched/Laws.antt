@@ -1,7 +1,12 @@
 -- What a step leaves of the files that it does not touch, and of the slots of the one that it changes.
 use Rattle.std.specs.Prelude.{◌≡◌, ◌≢◌, ℕ, ◌<◌, Bool, true, false}
-use Rattle.nofs_model.specs.Cells.{is_live, slot_limit, Pointer}
-use Rattle.nofs_model.specs.Image.{Image, cell_at, inode, files_in, agreed, value, Path, path_of, find, IsAbove, IsSlot}
+use Rattle.nofs_inode.specs.InodeRecords.{is_live}
+use Rattle.nofs_ptrs.specs.Paths.{slot_limit, Path, path_of, IsSlot}
+use Rattle.nofs_disk.specs.declared.tag.Pointer.{Pointer}
+use Rattle.nofs_model.specs.Geometry.{Image, inode}
+use Rattle.nofs_disk.specs.Disk.{cell_at}
+use Rattle.nofs_model.specs.Files.{files_in, agreed}
+use Rattle.nofs_model.specs.Slots.{value, find, IsAbove}
 use Rattle.nofs_model.specs.declared.image.path.PathAnswer.TheVariants as answer
 use Rattle.nofs_model.specs.declared.image.value.Value.TheVariants.{Bytes}
 use Rattle.nofs_history.specs.History.{SameFile}

@@ -1,11 +1,12 @@
 -- What a step gives to slots and metas rests on what is kept of files alone, and files that are alike stay so.
 use Rattle.std.proofs.Common.{if◌then◌else◌, ◌≡◌, ℕ, ◌+◌, ◌*◌, ◌/◌, ◌<◌, max, Bool, true, false, ◌&&◌, not, cond, eqb}
-use Rattle.std.proofs.Common.{ltb, List, [], length, Option, Some}
-use Rattle.std.proofs.Common.{None, unwrap_or, refl, sym, ap, ◌∙◌, arith, eqb-true}
+use Rattle.std.proofs.Common.{ltb, List, [], length, Option, Some, None, unwrap_or, refl, sym, ap, ◌∙◌, arith, eqb-true}
 use Rattle.std.specs.List.{list_any}
 use Rattle.nofs_ptrs.specs.Paths.{slot_limit}
 use Rattle.nofs_dirent.specs.Entries.{spelled_entry}
-use Rattle.nofs_model.specs.Cells.{FileKind, BackLink, Entry}
+use Rattle.nofs_inode.specs.declared.inode.FileKind.{FileKind}
+use Rattle.nofs_inode.specs.declared.inode.BackLink.{BackLink}
+use Rattle.nofs_dirent.specs.declared.entry.Entry.{Entry}
 use Rattle.nofs_model.specs.Files.{Absent, FileState, Files, entry_at, is_pair, is_special}
 use Rattle.nofs_model.specs.declared.image.value.Value.{Value}
 use Rattle.nofs_model.specs.declared.image.value.Value.TheVariants.{Hole, Bytes}

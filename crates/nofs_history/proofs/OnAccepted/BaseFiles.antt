@@ -2,25 +2,25 @@
 --
 -- Slots whose block of pointers is missing are holes, and inodes that the image does not have are no files.
 use Rattle.std.proofs.Common.{◌≡◌, ℕ, zero, suc, ◌+◌, ◌-◌, ◌/◌, ◌%◌, ◌<◌, ◌≤◌, inl, inr, Bool, true, false, cond, ltb}
-use Rattle.std.proofs.Common.{leb, eqb, ◌&&◌, List, length, Option}
-use Rattle.std.proofs.Common.{Some, None, refl, sym, ap, ◌∙◌, arith, ltb-true}
+use Rattle.std.proofs.Common.{leb, eqb, ◌&&◌, List, length, Option, Some, None, refl, sym, ap, ◌∙◌, arith, ltb-true}
 use Rattle.std.proofs.Math.Path.{fun_ext}
 use Rattle.std.specs.List.{slice_get}
 use Rattle.std.proofs.lemmas.Option.{slice_get_past}
 use Rattle.std.proofs.lemmas.Bool.{cases_lt, lt-leb}
 use Rattle.std.proofs.lemmas.Bool.Decides.{nat_tests}
-use Rattle.nofs_ptrs.specs.Paths.{slot_limit}
-use Rattle.nofs_model.proofs.OnSlots.Paths.{path-leaf, path-far}
+use Rattle.nofs_ptrs.specs.Paths.{slot_limit, Path, Under, path_of, leaf, top, child}
+use Rattle.nofs_ptrs.specs.PathLaws.{path-leaf, path-far}
 use Rattle.nofs_model.proofs.OnSlots.Find.{and-both, find-held}
-use Rattle.nofs_model.specs.Cells.{FileKind, null}
-use Rattle.nofs_model.specs.Geometry.{inodes_of, blocks_of, first_data, IsMountable, IsSized, cell_at}
-use Rattle.nofs_model.specs.Image.{Image, inode, is_inode, file_from, files_in, agreed, value, value_in as value_found}
-use Rattle.nofs_model.specs.Image.{Path, Under, path_of, find}
-use Rattle.nofs_model.specs.Image.{leaf, top, child}
+use Rattle.nofs_inode.specs.declared.inode.FileKind.{FileKind}
+use Rattle.nofs_disk.specs.Pointer.{null}
+use Rattle.nofs_model.specs.Geometry.{inodes_of, blocks_of, first_data, IsMountable, IsSized, Image, inode, is_inode}
+use Rattle.nofs_disk.specs.Disk.{cell_at}
+use Rattle.nofs_model.specs.Files.{file_from, files_in, agreed}
+use Rattle.nofs_model.specs.Slots.{value, value_in as value_found, find}
 use Rattle.nofs_model.specs.declared.image.path.PathAnswer.{PathAnswer}
 use Rattle.nofs_model.specs.declared.image.path.PathAnswer.TheVariants as answer
 use Rattle.nofs_model.specs.declared.image.value.Value.TheVariants.{Hole, Bytes}
-use Rattle.nofs_history.specs.History.{agreed_files}
+use Rattle.nofs_history.specs.Since.{agreed_files}
 use Rattle.nofs_history.specs.Accepted.Files.{file_at, kept_files_of, kept_file, kept_files}
 use Rattle.nofs_history.specs.Accepted.BaseFiles.{AreFiles}
 use Rattle.nofs_history.specs.declared.accepted.files.file.FileNow.{FileNow}

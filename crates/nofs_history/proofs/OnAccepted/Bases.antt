@@ -1,7 +1,7 @@
 -- A number that is no inode of a base has no generation there.
 use Rattle.std.proofs.Common.{◌≡◌, ℕ, ◌<◌, Bool, true, false, ◌&&◌, leb, refl, arith}
 use Rattle.nofs_model.specs.Geometry.{Image, inode, is_inode, inodes_of}
-use Rattle.nofs_history.specs.History.{is_generation}
+use Rattle.nofs_history.specs.Since.{is_generation}
 
 pub no_inode : (B : Image) (i g : ℕ) → is_inode B i ≡ false → is_generation B i g ≡ false
 unfolding inode

@@ -6,7 +6,7 @@ use Rattle.nofs_ptrs.specs.Paths.{slot_limit}
 use Rattle.nofs_model.specs.Files.{Files}
 use Rattle.nofs_model.specs.declared.image.value.Value.{Value}
 use Rattle.nofs_history.specs.Machine.{nothing, gives, files_after, given_by, files_by, is_refused, may_give}
-use Rattle.nofs_history.specs.History.{values_given}
+use Rattle.nofs_history.specs.Since.{values_given}
 use Rattle.nofs_history.specs.Accepted.Files.{kept_files}
 use Rattle.nofs_history.specs.Accepted.Fit.{is_fit, AreFit}
 use Rattle.nofs_history.specs.declared.machine.history.Entry1.{Entry1}

@@ -1,22 +1,21 @@
 -- Words on names and places say the same of files and of what is kept of them.
 use Rattle.std.proofs.Common.{◌≡◌, ℕ, zero, suc, ◌+◌, ◌*◌, ◌/◌, ◌<◌, Bool, true, false, ◌&&◌, ◌||◌, not, cond, eqb, ltb}
-use Rattle.std.proofs.Common.{List, [], ◌∷◌, Option, Some, None}
-use Rattle.std.proofs.Common.{is_some, option_map, refl, ap, ◌∙◌, arith, bytes_eq}
+use Rattle.std.proofs.Common.{List, [], ◌∷◌, Option, Some, None, is_some, option_map, refl, ap, ◌∙◌, arith, bytes_eq}
 use Rattle.std.specs.List.{list_any}
 use Rattle.nofs_dirent.specs.Entries.{entry_limit}
 use Rattle.nofs_ptrs.specs.Paths.{slot_limit}
-use Rattle.nofs_model.specs.Cells.{BackLink, Entry, is_empty_link}
+use Rattle.nofs_inode.specs.declared.inode.BackLink.{BackLink}
+use Rattle.nofs_dirent.specs.declared.entry.Entry.{Entry}
+use Rattle.nofs_inode.specs.InodeRecords.{is_empty_link}
 use Rattle.nofs_model.specs.Files.{FileState, Files, is_folder, entry_held, entry_in_file, entry_at, names, is_a, pairs}
-use Rattle.nofs_model.specs.Files.{is_pair, links_in_file}
-use Rattle.nofs_model.specs.Files.{links_of}
+use Rattle.nofs_model.specs.Files.{is_pair, links_in_file, links_of}
 use Rattle.nofs_inode.specs.declared.inode.FileKind.TheVariants.{Directory as Folder}
 use Rattle.nofs_model.specs.declared.image.value.Value.{Value}
 use Rattle.nofs_model.specs.declared.image.value.Value.TheVariants.{Hole}
 use Rattle.nofs_history.specs.Meta.{is_bytes}
 use Rattle.nofs_history.specs.Search.{least_from, first_of}
 use Rattle.nofs_history.specs.Machine.{generation_of, value_of, size_of, same_link, link_to, is_paired, entry_has_name}
-use Rattle.nofs_history.specs.Machine.{found, first_dead, place_for}
-use Rattle.nofs_history.specs.Machine.{link_place, place_for_link, is_hole}
+use Rattle.nofs_history.specs.Machine.{found, first_dead, place_for, link_place, place_for_link, is_hole}
 use Rattle.nofs_history.specs.Accepted.Files.{kept_file, kept_files}
 
 -- Searches

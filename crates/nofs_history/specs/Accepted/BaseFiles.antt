@@ -1,7 +1,8 @@
 -- What has been read of the files of a base image.
 use Rattle.std.specs.Prelude.{◌≡◌, ℕ, ◌+◌, ◌<◌, List, length, Option, slice_get}
-use Rattle.nofs_model.specs.Image.{Image, value}
-use Rattle.nofs_history.specs.History.{agreed_files}
+use Rattle.nofs_model.specs.Geometry.{Image}
+use Rattle.nofs_model.specs.Slots.{value}
+use Rattle.nofs_history.specs.Since.{agreed_files}
 use Rattle.nofs_history.specs.Accepted.Files.{file_at, value_at, kept_file, kept_files}
 use Rattle.nofs_history.specs.declared.accepted.files.file.ValueNow.{ValueNow}
 use Rattle.nofs_history.specs.declared.accepted.files.file.FileNow.{FileNow}

@@ -6,13 +6,8 @@ use Rattle.nofs_model.specs.declared.image.value.Value.{Value}
 use Rattle.nofs_model.specs.declared.image.value.Value.TheVariants.{Hole, Bytes}
 use Rattle.nofs_history.specs.Meta.{Meta, Gone, Is}
 use Rattle.nofs_history.specs.Machine.{Given, nothing, is_at, cell_given, meta_given, no_meta, resize_given, link_to}
-use Rattle.nofs_history.specs.Machine.{at_place, place_for, link_place}
-use Rattle.nofs_history.specs.Machine.{found, make_given, link_given, drop_given, rename_given}
-use Rattle.nofs_history.specs.History.{values_given}
-use Rattle.nofs_history.specs.declared.machine.history.Claims.{Claims}
+use Rattle.nofs_history.specs.Since.{values_given}
 use Rattle.nofs_history.specs.declared.machine.history.Entry1.{Entry1}
-use Rattle.nofs_history.specs.declared.machine.steps.Step.{Step}
-use Rattle.nofs_history.specs.declared.machine.steps.Step.TheVariants as step
 use Rattle.nofs_history.specs.declared.accepted.given.given.GivenCell.{GivenCell}
 use Rattle.nofs_history.specs.declared.accepted.given.given.MetaNow.{MetaNow}
 use Rattle.nofs_history.specs.declared.accepted.given.given.MetaNow.TheVariants as now
@@ -67,13 +62,5 @@ values_for F entries wanted = values_given F entries wanted.inode wanted.generat
 abbrev pub is_sound : GivenNow → Bool
 is_sound (what.Cell cell meta) = nat_lt cell.slot slot_limit
 is_sound (what.Make cell birth) = nat_lt cell.slot slot_limit && nat_lt 0 birth.inode
-is_sound _ = true
-
--- what a step on the names of a directory gives, nothing by another
-abbrev pub name_gives : Files → Step → Claims → Given
-name_gives F (step.Make d g name kind) claims = at_place (place_for F d name) (λ e. make_given F d g name kind claims e)
-name_gives F (step.Link d g name i of) claims =
-    at_place (place_for F d name) (λ e. at_place (link_place F i) (λ b. link_given F d g name i of e b))
-name_gives F (step.Drop d g name) claims = at_place (found F d name) (λ e. drop_given F d g e)
-name_gives F (step.Rename d g old new) claims = at_place (found F d old) (λ e. rename_given F d g new e)
-name_gives F _ claims = nothing
+is_sound what.Nothing = true
+is_sound (what.Size i g size) = true

@@ -4,7 +4,8 @@ use Rattle.nofs_model.specs.Files.{Absent, FileState}
 use Rattle.nofs_model.specs.declared.image.value.Value.TheVariants as value
 use Rattle.nofs_history.specs.Meta.{Meta}
 use Rattle.nofs_history.specs.Machine.{Given, nothing, files_after, link_to}
-use Rattle.nofs_model.specs.Cells.{FileKind, BackLink}
+use Rattle.nofs_inode.specs.declared.inode.FileKind.{FileKind}
+use Rattle.nofs_inode.specs.declared.inode.BackLink.{BackLink}
 use Rattle.nofs_history.specs.Accepted.Files.{kept_files, kept_files_of}
 use Rattle.nofs_history.specs.declared.accepted.files.file.FilesNow.{FilesNow}
 

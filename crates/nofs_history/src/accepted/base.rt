@@ -2,8 +2,9 @@
 //!
 //! Promise: they are the files of its agreed inodes, and of no other.
 ghost use Rattle.std.specs.Prelude.{◌≡◌, ◌<◌, ◌≤◌, ℕ, IfOk, IsTrue, Some, length};
+ghost use Rattle.nofs_disk.specs.Disk.{cell_at};
 ghost use Rattle.nofs_ptrs.specs.Paths.{slot_limit};
-ghost use Rattle.nofs_history.specs.History.{agreed_files};
+ghost use Rattle.nofs_history.specs.Since.{agreed_files};
 ghost use Rattle.nofs_model.specs.Files.{file_from};
 ghost use Rattle.nofs_model.specs.Geometry as image;
 ghost use Rattle.nofs_model.specs.Slots as slots;
@@ -50,7 +51,7 @@ pub(crate) fn inodes_of(base: &[Cell]) -> u64
 
 fn cell_at(base: &[Cell], block: u64) -> &Cell
     requires { block < length base.now }
-    ensures { result.now ≡ image.cell_at base.now block }
+    ensures { result.now ≡ cell_at base.now block }
 {
     &base[block as usize]
 }

@@ -5,7 +5,7 @@ ghost use Rattle.nofs_ptrs.specs.Paths.{slot_limit};
 ghost use Rattle.nofs_model.specs.Geometry as image;
 ghost use Rattle.nofs_model.specs.Slots as slots;
 ghost use Rattle.nofs_history.specs.Machine as machine;
-ghost use Rattle.nofs_history.specs.History.{accepted_of, is_generation};
+ghost use Rattle.nofs_history.specs.Since.{accepted_of, is_generation};
 ghost use Rattle.nofs_history.specs.Next.{IsAfter};
 ghost use Rattle.nofs_history.specs.World.{World};
 ghost use Rattle.nofs_history.specs.Accepted.Files.{kept_files_of, kept_files};

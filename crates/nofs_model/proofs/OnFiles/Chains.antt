@@ -4,10 +4,9 @@ use Rattle.std.proofs.Common.{[], ◌∷◌, Option, Some, None, refl}
 use Rattle.std.proofs.Common.{sym, ap, ◌∙◌, subst, arith, Contains, eqb-true, ltb-true}
 use Rattle.std.specs.List.{list_any}
 use Rattle.std.proofs.lemmas.List.Folds.{list_any_at}
-use Rattle.nofs_model.specs.Cells.{BackLink}
-use Rattle.nofs_model.specs.Image.{FileState, Files, is_folder, entry_in_file, pairs, names, is_pair, links_of, is_root}
-use Rattle.nofs_model.specs.Image.{is_special, agreed_below}
-use Rattle.nofs_model.specs.Image.{agreed, Agreed, root, linked}
+use Rattle.nofs_inode.specs.declared.inode.BackLink.{BackLink}
+use Rattle.nofs_model.specs.Files.{FileState, Files, is_folder, entry_in_file, pairs, names, is_pair, links_of, is_root}
+use Rattle.nofs_model.specs.Files.{is_special, agreed_below, agreed, Agreed, root, linked}
 use Rattle.nofs_model.proofs.OnSlots.Find.{and-both}
 
 pub any-same : (f g : BackLink → Bool) (xs : List BackLink) → ((x : BackLink) → f x ≡ g x)

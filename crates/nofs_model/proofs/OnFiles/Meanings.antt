@@ -2,13 +2,19 @@
 use Rattle.std.proofs.Common.{◌≡◌, ◌≢◌, ℕ, ◌/◌, ◌<◌, ◌⊎◌, inl, inr, Bool, true, false, cond, eqb, ltb, ◌&&◌, ◌||◌, not}
 use Rattle.std.proofs.Common.{List, Option, Some, None, is_some}
 use Rattle.std.proofs.Common.{refl, sym, ap, ◌∙◌, subst, Contains, eqb-true, eq-eqb, ne_eqb, ltb-true, lt-ltb}
-use Rattle.nofs_model.specs.Kinds.{File, Directory as Folder}
-use Rattle.nofs_model.specs.Cells.{FileKind, BackLink, Entry, is_live, entry_limit}
-use Rattle.nofs_model.specs.Image.{Image, cell_at, inode, path_of, find, value, value_in, FileState, file_from}
-use Rattle.nofs_model.specs.Image.{files_in, is_folder, entry_held}
-use Rattle.nofs_model.specs.Image.{entry_in_file, names, is_a, pairs, is_pair, links_of, links_in_file, is_root}
-use Rattle.nofs_model.specs.Image.{is_special, agreed, Agreed, root}
-use Rattle.nofs_model.specs.Image.{linked}
+use Rattle.nofs_inode.specs.declared.inode.FileKind.TheVariants.{File, Directory as Folder}
+use Rattle.nofs_inode.specs.declared.inode.FileKind.{FileKind}
+use Rattle.nofs_inode.specs.declared.inode.BackLink.{BackLink}
+use Rattle.nofs_dirent.specs.declared.entry.Entry.{Entry}
+use Rattle.nofs_inode.specs.InodeRecords.{is_live}
+use Rattle.nofs_dirent.specs.Entries.{entry_limit}
+use Rattle.nofs_model.specs.Geometry.{Image, inode}
+use Rattle.nofs_disk.specs.Disk.{cell_at}
+use Rattle.nofs_ptrs.specs.Paths.{path_of}
+use Rattle.nofs_model.specs.Slots.{find, value, value_in}
+use Rattle.nofs_model.specs.Files.{FileState, file_from, files_in, is_folder, entry_held}
+use Rattle.nofs_model.specs.Files.{entry_in_file, names, is_a, pairs, is_pair, links_of, links_in_file, is_root}
+use Rattle.nofs_model.specs.Files.{is_special, agreed, Agreed, root, linked}
 use Rattle.nofs_model.specs.Definitions.{bytes, IsEntry, IsPair, IsAgreed, the_root, the_label, named, LawPairs}
 use Rattle.nofs_model.specs.declared.image.path.PathAnswer.{PathAnswer}
 use Rattle.nofs_model.specs.declared.image.path.PathAnswer.TheVariants as answer

@@ -7,14 +7,16 @@ use Rattle.std.specs.List.{list_any, list_all, count_by, position, position_or_l
 use Rattle.std.proofs.lemmas.List.Folds.{list_any_none}
 use Rattle.std.proofs.lemmas.List.Sums.{fails_before_first, sum_by-cons}
 use Rattle.nofs_inode.specs.InodeRecords.{allows_kind, allows_record, is_tidy_link, link_count, has_rest, record_with}
-use Rattle.nofs_inode.specs.InodeRecords.{record_or_free}
+use Rattle.nofs_inode.specs.InodeRecords.{record_or_free, is_empty_link, free_record, record_of, record_at, fields_in}
 use Rattle.nofs_inode.specs.declared.inode.FileKind.TheVariants.{File, Directory as Folder}
-use Rattle.nofs_model.specs.Cells.{FileKind, BackLink, Record, is_null, is_empty_link, free_record, record_of}
-use Rattle.nofs_model.specs.Cells.{record_at, fields_in}
-use Rattle.nofs_model.specs.Image.{Image, cell_at, is_inode, inode, FileState, Files, file_from, files_in, is_folder}
-use Rattle.nofs_model.specs.Image.{pairs, is_pair, agreed}
-use Rattle.nofs_model.specs.Image.{links_of, links_in_file, is_root, is_special}
-use Rattle.nofs_model.specs.Files.{has_agreed_link, IsParent}
+use Rattle.nofs_inode.specs.declared.inode.FileKind.{FileKind}
+use Rattle.nofs_inode.specs.declared.inode.BackLink.{BackLink}
+use Rattle.nofs_inode.specs.declared.inode.Record.{Record}
+use Rattle.nofs_disk.specs.Pointer.{is_null}
+use Rattle.nofs_model.specs.Geometry.{Image, is_inode, inode}
+use Rattle.nofs_disk.specs.Disk.{cell_at}
+use Rattle.nofs_model.specs.Files.{FileState, Files, file_from, files_in, is_folder, pairs, is_pair, agreed}
+use Rattle.nofs_model.specs.Files.{links_of, links_in_file, is_root, is_special, has_agreed_link, IsParent}
 use Rattle.nofs_model.proofs.OnSlots.Find.{and-both}
 use Rattle.nofs_model.proofs.OnFiles.Chains.{pair-of, agreed-is}
 use Rattle.std.proofs.lemmas.List.Quantifiers.{position-Some}

@@ -2,11 +2,12 @@
 use Rattle.std.proofs.Common.{◌≡◌, ℕ, ◌^◌, ◌<◌, Bool, true, false, cond, ◌||◌, eqb, eqb-true, List, Some, None, refl}
 use Rattle.std.proofs.Common.{arith}
 use Rattle.nofs_disk.specs.OneSpelling.{SpellsTag-tag_bytes, tag_of-spells}
-use Rattle.nofs_disk.specs.Tag.{tag_bytes}
+use Rattle.nofs_disk.specs.Tag.{tag_bytes, tag_of}
 use Rattle.nofs_super.specs.Format.{super_cell}
-use Rattle.nofs_super.specs.Super.{is_version, super_of}
-use Rattle.nofs_model.specs.Cells.{Super, SuperBlock, Tag, tag_of}
-use Rattle.nofs_model.specs.Image.{super_in, is_super}
+use Rattle.nofs_super.specs.Super.{is_version, super_of, super_in, is_super}
+use Rattle.nofs_disk.specs.declared.tag.Kind.TheVariants.{Super}
+use Rattle.nofs_super.specs.declared.superblock.SuperBlock.{SuperBlock}
+use Rattle.nofs_disk.specs.declared.tag.Tag.{Tag}
 
 -- a payload that spells a superblock has its numbers
 pub record Spells (payload : List ℕ) (it : SuperBlock) : Type 0 where

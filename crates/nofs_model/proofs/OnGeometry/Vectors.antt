@@ -1,16 +1,26 @@
 -- The formats, at bytes that stand in their document.
 use Rattle.std.proofs.Common.{◌≡◌, ℕ, ◌+◌, ◌^◌, List, [], ◌∷◌, ◌++◌, Some, replicate, refl, true}
-use Rattle.nofs_model.specs.Cells.{no_link, FileKind, Record, number_at, fields_in, record_at, Cell, Content, File}
-use Rattle.nofs_model.specs.Cells.{tag_of, pointer_at, pointer_in}
-use Rattle.nofs_model.specs.Cells.{record_of, entry_of, null, link_in}
-use Rattle.nofs_model.specs.Image.{is_super, is_geometry, Image, find, InRecord, value, files_in, agreed, owner, inode}
-use Rattle.nofs_model.specs.Image.{super_at, is_mountable}
-use Rattle.nofs_model.specs.Image.{path_of, slot_of, home_at}
-use Rattle.nofs_super.specs.Geometry.{format_fault}
+use Rattle.nofs_inode.specs.InodeRecords.{no_link, fields_in, record_at, record_of, link_in}
+use Rattle.nofs_inode.specs.declared.inode.FileKind.{FileKind}
+use Rattle.nofs_inode.specs.declared.inode.Record.{Record}
+use Rattle.nofs_disk.specs.Number.{number_at}
+use Rattle.nofs_disk.specs.declared.tag.Cell.{Cell}
+use Rattle.nofs_disk.specs.declared.tag.Kind.TheVariants.{Content}
+use Rattle.nofs_inode.specs.declared.inode.FileKind.TheVariants.{File}
+use Rattle.nofs_disk.specs.Tag.{tag_of}
+use Rattle.nofs_ptrs.specs.Cells.{pointer_at}
+use Rattle.nofs_disk.specs.Pointer.{pointer_in, null}
+use Rattle.nofs_dirent.specs.Entries.{entry_of, entry_fields}
+use Rattle.nofs_super.specs.Super.{is_super, super_in}
+use Rattle.nofs_super.specs.Geometry.{is_geometry, format_fault}
+use Rattle.nofs_model.specs.Geometry.{Image, inode, super_at, is_mountable}
+use Rattle.nofs_model.specs.Slots.{find, value}
+use Rattle.nofs_ptrs.specs.Paths.{InRecord, path_of, slot_of}
+use Rattle.nofs_model.specs.Files.{files_in, agreed}
+use Rattle.nofs_model.specs.Owners.{owner, home_at}
 use Rattle.nofs_model.specs.declared.image.value.Value.TheVariants.{Lost}
 use Rattle.nofs_model.specs.declared.image.path.PathAnswer.TheVariants as answer
-use Rattle.nofs_model.specs.Cells.{entry_fields, is_name}
-use Rattle.nofs_model.specs.Image.{super_in}
+use Rattle.nofs_dirent.specs.Names.{is_name}
 
 -- the record of an empty file with no names
 abbrev pub new_record : ℕ → FileKind → Record

@@ -1,10 +1,10 @@
 -- An owner, a used inode and a used block are what the computing words say.
 use Rattle.std.proofs.Common.{◌≡◌, ℕ, ◌/◌, ◌⊎◌, inl, inr, Bool, true, false, eqb, ◌||◌, Option, Some, None, is_some}
-use Rattle.std.proofs.Common.{refl, sym, ◌∙◌, subst₂, eqb-true, eq-eqb}
-use Rattle.std.proofs.Common.{leb-true, le-leb}
-use Rattle.nofs_model.specs.Image.{Image, super_at, path_of, files_in, agreed, owner, Home, home_at, is_special}
-use Rattle.nofs_model.specs.Image.{is_used_inode, is_fixed_block}
-use Rattle.nofs_model.specs.Image.{is_used_block}
+use Rattle.std.proofs.Common.{refl, sym, ◌∙◌, subst₂, eqb-true, eq-eqb, leb-true, le-leb}
+use Rattle.nofs_model.specs.Geometry.{Image, super_at}
+use Rattle.nofs_ptrs.specs.Paths.{path_of}
+use Rattle.nofs_model.specs.Files.{files_in, agreed, is_special}
+use Rattle.nofs_model.specs.Owners.{owner, Home, home_at, is_used_inode, is_fixed_block, is_used_block}
 use Rattle.nofs_model.specs.Definitions.{IsOwner, IsUsedInode, IsUsedBlock, LawOwners}
 use Rattle.nofs_model.proofs.OnSlots.Paths.{path_of-number}
 use Rattle.nofs_model.proofs.OnOwners.Slots.{owner-of, owner-holds, owner-slot, same-home}

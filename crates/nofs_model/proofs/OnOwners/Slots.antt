@@ -2,15 +2,22 @@
 use Rattle.std.proofs.Common.{◌≡◌, ℕ, ◌≤◌, [], length, Bool, true, false, cond, eqb, ◌&&◌, Option, Some, None, refl, ap}
 use Rattle.std.proofs.Common.{◌∙◌, subst, subst₂, eqb-true, eq-eqb}
 use Rattle.std.proofs.lemmas.List.{get_or_past}
-use Rattle.nofs_disk.specs.Disk.{no_cell}
-use Rattle.nofs_model.specs.Cells.{Cell, Tag, Pointer, tag_of, number_at}
-use Rattle.nofs_model.specs.Image.{Image, cell_at, inode, files_in, agreed, Path, path_of, slot_of, IsSlot, is_slot}
-use Rattle.nofs_model.specs.Image.{tag_for, find, owner_found}
-use Rattle.nofs_model.specs.Image.{owner_by, owner, IsFree, Home, home_at}
+use Rattle.nofs_disk.specs.Disk.{no_cell, cell_at}
+use Rattle.nofs_disk.specs.declared.tag.Cell.{Cell}
+use Rattle.nofs_disk.specs.declared.tag.Tag.{Tag}
+use Rattle.nofs_disk.specs.declared.tag.Pointer.{Pointer}
+use Rattle.nofs_disk.specs.Tag.{tag_of}
+use Rattle.nofs_disk.specs.Number.{number_at}
+use Rattle.nofs_model.specs.Geometry.{Image, inode}
+use Rattle.nofs_model.specs.Files.{files_in, agreed}
+use Rattle.nofs_ptrs.specs.Paths.{Path, path_of, slot_of, IsSlot, is_slot}
+use Rattle.nofs_model.specs.Slots.{tag_for, find}
+use Rattle.nofs_model.specs.Owners.{owner_found, owner_by, owner, IsFree, Home, home_at}
 use Rattle.nofs_model.specs.declared.image.path.PathAnswer.{PathAnswer}
 use Rattle.nofs_model.specs.declared.image.path.PathAnswer.TheVariants as answer
 use Rattle.nofs_model.proofs.OnSlots.Find.{and-both, find-held}
-use Rattle.nofs_model.proofs.OnSlots.Paths.{path_of-slot_of, slot_of-slot}
+use Rattle.nofs_ptrs.specs.PathLaws.{path_of-slot_of}
+use Rattle.nofs_model.proofs.OnSlots.Paths.{slot_of-slot}
 
 -- what an agreed slot holds is owned by it
 pub owner-of : (X : Image) (i : ℕ) (path : Path) (x : Pointer) → IsSlot path

@@ -2,13 +2,20 @@
 use Rattle.std.proofs.Common.{◌≡◌, ℕ, ◌⊎◌, inl, inr, Bool, true, false, cond, eqb, ◌&&◌, Option, Some, None, refl, sym}
 use Rattle.std.proofs.Common.{ap, subst, arith, eqb-true}
 use Rattle.std.proofs.lemmas.Bool.Decides.{nat_tests}
-use Rattle.nofs_model.specs.Cells.{Kind, Nothing, Content, Directory, Leaf, Table, Super, Tag, Pointer, same_kind}
-use Rattle.nofs_model.specs.Cells.{same_tag, tag_of, is_null}
-use Rattle.nofs_model.specs.Cells.{pointer_at, is_live}
+use Rattle.nofs_disk.specs.declared.tag.Kind.{Kind}
+use Rattle.nofs_disk.specs.declared.tag.Kind.TheVariants.{Nothing, Content, Directory, Leaf, Table, Super}
+use Rattle.nofs_disk.specs.declared.tag.Tag.{Tag}
+use Rattle.nofs_disk.specs.declared.tag.Pointer.{Pointer}
+use Rattle.nofs_model.specs.Cells.{same_kind, same_tag}
+use Rattle.nofs_disk.specs.Tag.{tag_of}
+use Rattle.nofs_disk.specs.Pointer.{is_null}
+use Rattle.nofs_ptrs.specs.Cells.{pointer_at}
+use Rattle.nofs_inode.specs.InodeRecords.{is_live}
 use Rattle.nofs_model.specs.declared.image.path.PathAnswer.{PathAnswer}
-use Rattle.nofs_model.specs.Image.{Image, cell_at, is_data_block, inode, Path, InRecord, Under, tag_for, is_tag, agrees}
-use Rattle.nofs_model.specs.Image.{record_pointer, judged, find}
-use Rattle.nofs_model.specs.Image.{pointer, AboveHolds}
+use Rattle.nofs_model.specs.Geometry.{Image, is_data_block, inode}
+use Rattle.nofs_disk.specs.Disk.{cell_at}
+use Rattle.nofs_ptrs.specs.Paths.{Path, InRecord, Under}
+use Rattle.nofs_model.specs.Slots.{tag_for, is_tag, agrees, record_pointer, judged, find, pointer, AboveHolds}
 use Rattle.nofs_model.specs.declared.image.path.PathAnswer.TheVariants as answer
 
 pub and-both : (a b : Bool) → (a && b) ≡ true → (a ≡ true) × (b ≡ true)

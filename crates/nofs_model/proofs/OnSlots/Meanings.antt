@@ -1,11 +1,13 @@
 -- A slot holds, is empty and has its value where the computing words say so.
 use Rattle.std.proofs.Common.{◌≡◌, ◌≢◌, ℕ, ◌<◌, ◌≤◌, inl, inr, Bool, true, false, eqb, leb, ltb, refl, sym, ap, ◌∙◌}
-use Rattle.std.proofs.Common.{subst, eqb-true, leb-true, ltb-true}
-use Rattle.std.proofs.Common.{le-leb, lt-ltb}
-use Rattle.nofs_model.specs.Cells.{Pointer, null, is_null, pointer_at}
-use Rattle.nofs_model.specs.Image.{Image, cell_at, inode, first_data, is_data_block, super_at, Path, InRecord, Under}
-use Rattle.nofs_model.specs.Image.{path_of, record_pointer, find}
-use Rattle.nofs_model.specs.Image.{pointer, value, value_in}
+use Rattle.std.proofs.Common.{subst, eqb-true, leb-true, ltb-true, le-leb, lt-ltb}
+use Rattle.nofs_disk.specs.declared.tag.Pointer.{Pointer}
+use Rattle.nofs_disk.specs.Pointer.{null, is_null}
+use Rattle.nofs_ptrs.specs.Cells.{pointer_at}
+use Rattle.nofs_model.specs.Geometry.{Image, inode, first_data, is_data_block, super_at}
+use Rattle.nofs_disk.specs.Disk.{cell_at}
+use Rattle.nofs_ptrs.specs.Paths.{Path, InRecord, Under, path_of}
+use Rattle.nofs_model.specs.Slots.{record_pointer, find, pointer, value, value_in}
 use Rattle.nofs_model.specs.Definitions.{TagFits, Holds, IsEmpty, IsValue, hole, bytes, lost, LawSlots}
 use Rattle.nofs_model.specs.declared.image.path.PathAnswer.{PathAnswer}
 use Rattle.nofs_model.specs.declared.image.path.PathAnswer.TheVariants as answer

@@ -1,13 +1,12 @@
 -- The numbers of slots, and which slot lies above which.
 use Rattle.std.proofs.Common.{◌≡◌, ℕ, ◌+◌, ◌-◌, ◌*◌, ◌^◌, ◌<◌, ◌≤◌, ◌⊎◌, inl, inr, Bool, true, false, leb, ltb, ◌&&◌}
-use Rattle.std.proofs.Common.{refl, sym, subst, arith, leb-true}
-use Rattle.std.proofs.Common.{ltb-true, lt-ltb, le-ltb, le-leb}
+use Rattle.std.proofs.Common.{refl, sym, subst, arith, leb-true, ltb-true, lt-ltb, le-ltb, le-leb}
 use Rattle.std.proofs.lemmas.Bool.{cases_lt, false≢true}
 use Rattle.std.proofs.lemmas.Bool.Decides.{nat_tests}
-pub use Rattle.nofs_ptrs.specs.PathLaws.{path-direct, path-leaf, path-far, path_of-slot_of, slot_of-path_of}
-pub use Rattle.nofs_ptrs.specs.PathLaws.{slot_of-path_of-node, path_of-slot}
+use Rattle.nofs_ptrs.specs.PathLaws.{path-direct, path-leaf, path-far, slot_of-path_of}
+use Rattle.nofs_ptrs.specs.PathLaws.{slot_of-path_of-node, path_of-slot}
 use Rattle.nofs_ptrs.specs.Paths.{slot_limit}
-use Rattle.nofs_model.specs.Slots.{Path, InRecord, Under, child, path_of, slot_of, is_pointer_slot, IsSlot, is_slot}
+use Rattle.nofs_ptrs.specs.Paths.{Path, InRecord, Under, child, path_of, slot_of, is_pointer_slot, IsSlot, is_slot}
 use Rattle.nofs_model.specs.Slots.{IsAbove, find}
 use Rattle.nofs_model.specs.Geometry.{Image}
 use Rattle.nofs_model.specs.declared.image.path.PathAnswer.TheVariants as answer

@@ -1,20 +1,28 @@
 -- What a format leaves is sound.
 use Rattle.std.proofs.Common.{◌≡◌, ◌≢◌, ℕ, zero, suc, ◌+◌, ◌-◌, ◌*◌, ◌/◌, ◌%◌, ◌^◌, ◌<◌, Bool, true, false, cond, eqb}
-use Rattle.std.proofs.Common.{leb, length, get_or, Option}
-use Rattle.std.proofs.Common.{Some, IfSome, refl, sym, ap, ◌∙◌, subst, arith, eqb-true}
-use Rattle.nofs_disk.specs.Number.{zeros, put_number}
-use Rattle.nofs_disk.specs.Tag.{tag_bytes, zero_cell}
+use Rattle.std.proofs.Common.{leb, length, get_or, Option, Some, IfSome, refl, sym, ap, ◌∙◌, subst, arith, eqb-true}
+use Rattle.nofs_disk.specs.Number.{zeros, put_number, number_at}
+use Rattle.nofs_disk.specs.Tag.{tag_bytes, zero_cell, tag_of}
 use Rattle.nofs_disk.specs.OneSpelling.{SpellsTag-tag_bytes, tag_of-spells}
 use Rattle.nofs_super.specs.Spelling.{super_of-payload}
 use Rattle.nofs_super.specs.Format.{super_payload, super_cell, first_records, table_cell, fresh_super, formatted_cell}
-use Rattle.nofs_model.specs.Kinds as file
-use Rattle.nofs_model.specs.Cells.{Cell, Kind, Nothing, Directory, Leaf, Table, Super, Tag, FileKind, SuperBlock}
-use Rattle.nofs_model.specs.Cells.{number_at, tag_of, free_record}
-use Rattle.nofs_model.specs.Cells.{is_live, record_of, record_at, fields_in, link_in, pointer_in, pointer_at, entry_in}
-use Rattle.nofs_model.specs.Image.{Image, cell_at, super_at, super_in, is_super, record_pointer, TagBelow, RecordBelow}
-use Rattle.nofs_model.specs.Image.{CellBelow}
-use Rattle.nofs_model.specs.Geometry.{IsGeometry}
-use Rattle.nofs_model.specs.Sound.{LawFormatted}
+use Rattle.nofs_inode.specs.declared.inode.FileKind.TheVariants as file
+use Rattle.nofs_disk.specs.declared.tag.Cell.{Cell}
+use Rattle.nofs_disk.specs.declared.tag.Kind.{Kind}
+use Rattle.nofs_disk.specs.declared.tag.Kind.TheVariants.{Nothing, Directory, Leaf, Table, Super}
+use Rattle.nofs_disk.specs.declared.tag.Tag.{Tag}
+use Rattle.nofs_inode.specs.declared.inode.FileKind.{FileKind}
+use Rattle.nofs_super.specs.declared.superblock.SuperBlock.{SuperBlock}
+use Rattle.nofs_inode.specs.InodeRecords.{free_record, is_live, record_of, record_at, fields_in, link_in}
+use Rattle.nofs_disk.specs.Pointer.{pointer_in}
+use Rattle.nofs_ptrs.specs.Cells.{pointer_at}
+use Rattle.nofs_dirent.specs.Entries.{entry_in}
+use Rattle.nofs_model.specs.Geometry.{Image, super_at}
+use Rattle.nofs_disk.specs.Disk.{cell_at}
+use Rattle.nofs_super.specs.Super.{super_in, is_super}
+use Rattle.nofs_model.specs.Slots.{record_pointer}
+use Rattle.nofs_model.specs.Sound.{TagBelow, RecordBelow, CellBelow, LawFormatted}
+use Rattle.nofs_super.specs.Geometry.{IsGeometry}
 use Rattle.nofs_model.proofs.OnSound.Writes.{mountable-law}
 use Rattle.nofs_model.proofs.OnGeometry.Super.{spells}
 use Rattle.nofs_model.proofs.OnGeometry.Vectors.{new_record}

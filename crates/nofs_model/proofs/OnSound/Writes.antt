@@ -1,11 +1,19 @@
 -- Fresh stamps and old contents keep every image sound.
 use Rattle.std.proofs.Common.{◌≡◌, ℕ, ◌+◌, ◌*◌, ◌%◌, ◌^◌, ◌<◌, ◌≤◌, true, ◌&&◌, length, Option, Some, None, IfSome}
 use Rattle.std.proofs.Common.{refl, sym, ap, subst, arith, leb}
-use Rattle.nofs_model.specs.Cells.{SuperBlock, Cell, Entry, Record, Directory, Leaf, tag_of, entry_in, pointer_at}
-use Rattle.nofs_model.specs.Image.{super_in, is_super, is_geometry, Image, cell_at, super_at, is_inode, is_mountable}
-use Rattle.nofs_model.specs.Image.{TagBelow, RecordBelow, LawSound}
-use Rattle.nofs_super.specs.Geometry.{is_geometry-parts, is_geometry-from}
-use Rattle.nofs_model.specs.Geometry.{LawMountable}
+use Rattle.nofs_super.specs.declared.superblock.SuperBlock.{SuperBlock}
+use Rattle.nofs_disk.specs.declared.tag.Cell.{Cell}
+use Rattle.nofs_dirent.specs.declared.entry.Entry.{Entry}
+use Rattle.nofs_inode.specs.declared.inode.Record.{Record}
+use Rattle.nofs_disk.specs.declared.tag.Kind.TheVariants.{Directory, Leaf}
+use Rattle.nofs_disk.specs.Tag.{tag_of}
+use Rattle.nofs_dirent.specs.Entries.{entry_in}
+use Rattle.nofs_ptrs.specs.Cells.{pointer_at}
+use Rattle.nofs_super.specs.Super.{super_in, is_super}
+use Rattle.nofs_super.specs.Geometry.{is_geometry, is_geometry-parts, is_geometry-from}
+use Rattle.nofs_model.specs.Geometry.{Image, super_at, is_inode, is_mountable, LawMountable}
+use Rattle.nofs_disk.specs.Disk.{cell_at}
+use Rattle.nofs_model.specs.Sound.{TagBelow, RecordBelow, LawSound}
 use Rattle.nofs_model.proofs.OnSlots.Find.{and-both}
 
 pub if-some : {A : Type 0} → (P Q : A → Type 0) → (o : Option A) → ((x : A) → P x → Q x) → IfSome o P → IfSome o Q

@@ -2,7 +2,7 @@
 //!
 //! Promise: a slot has one place, and its place leads back to its number.
 ghost use Rattle.std.specs.Prelude.{◌≡◌, ◌<◌, ◌+◌, IsTrue};
-ghost use Rattle.nofs_model.specs.Slots.{is_pointer_slot, is_slot, path_of, slot_of};
+ghost use Rattle.nofs_ptrs.specs.Paths.{is_pointer_slot, is_slot, path_of, slot_of};
 ghost use Rattle.nofs_model.specs.Places.{IsPlace, place_path};
 
 use nofs_ptrs::SLOT_LIMIT;

@@ -1,11 +1,10 @@
 -- What is found adds up, line by line.
 use Rattle.std.proofs.Common.{◌≡◌, ℕ, ◌+◌, ◌<◌, Bool, true, false, ◌&&◌, ◌||◌, not, ◌++◌, List, [], ◌∷◌, length, take}
-use Rattle.std.proofs.Common.{get_or, refl, sym, ap, ◌∙◌, subst}
-use Rattle.std.proofs.Common.{append_assoc, bytes_eq}
+use Rattle.std.proofs.Common.{get_or, refl, sym, ap, ◌∙◌, subst, append_assoc, bytes_eq}
 use Rattle.std.proofs.lemmas.List.{append-nil, take_more}
 use Rattle.std.proofs.lemmas.List.Folds.{list_any-append}
-use Rattle.nofs_model.specs.Kinds as kind
-use Rattle.nofs_model.specs.Image.{Files}
+use Rattle.nofs_inode.specs.declared.inode.FileKind.TheVariants as kind
+use Rattle.nofs_model.specs.Files.{Files}
 use Rattle.nofs_history.specs.World.{World}
 use Rattle.nofs_history.specs.declared.machine.replies.NameLine.{NameLine}
 use Rattle.nofs_salvage.specs.declared.report.report.Loss.{Loss}

@@ -4,7 +4,7 @@ use Rattle.std.proofs.Common.{sym, subst}
 use Rattle.std.specs.Prelude.{All, slice_get}
 use Rattle.std.proofs.lemmas.List.Elements.{All-nil, All-cons, All-append, All-get_or}
 use Rattle.std.proofs.lemmas.Option.{get_or_from_slice_get, slice_get_within}
-use Rattle.nofs_model.specs.Image.{Files}
+use Rattle.nofs_model.specs.Files.{Files}
 use Rattle.nofs_salvage.specs.declared.report.answers.InodeHandle.{InodeHandle}
 use Rattle.nofs_salvage.specs.declared.report.tree.Tree.{Tree}
 use Rattle.nofs_salvage.specs.Walk.Refusals.{is_there, HasRoots, MayAsk}

@@ -8,13 +8,12 @@ use Rattle.std.specs.List.{list_any}
 use Rattle.std.proofs.lemmas.Bool.{cases_lt}
 use Rattle.std.proofs.lemmas.List.{append-nil, take-append-le, take_more, take_all, length-append}
 use Rattle.std.proofs.lemmas.Option.{slice_get_within, slice_get_past, get_or_from_slice_get, slice_get-get_or}
-use Rattle.nofs_model.specs.Image.{Files}
+use Rattle.nofs_model.specs.Files.{Files}
 use Rattle.nofs_history.specs.World.{World}
 use Rattle.nofs_salvage.specs.declared.report.report.Loss.{Loss}
 use Rattle.nofs_salvage.specs.declared.report.findings.Findings.{Findings}
 use Rattle.nofs_salvage.specs.Report.Losses.{folder_slots, file_losses, report_of, losses_below, folders_below}
-use Rattle.nofs_salvage.specs.Report.Losses.{with_one, with_directories, folders_of, tree_after}
-use Rattle.nofs_salvage.specs.Report.Losses.{tree_of, tree_losses}
+use Rattle.nofs_salvage.specs.Report.Losses.{with_one, with_directories, folders_of, tree_after, tree_of, tree_losses}
 use Rattle.nofs_salvage.specs.Report.Trees.{inodes_in, AddsFindings}
 
 -- a list that begins with ds

@@ -1,11 +1,11 @@
 -- What the machine's answers to the steps of a walk say.
 use Rattle.std.proofs.Common.{◌≡◌, ℕ, ◌<◌, ◌≤◌, inl, inr, List, [], ◌∷◌, Bool, true, false, nat_le, ◌==◌, if◌then◌else◌}
-use Rattle.std.proofs.Common.{Option}
-use Rattle.std.proofs.Common.{Some, None, refl, sym, ap, ◌∙◌, subst, leb-true, arith}
+use Rattle.std.proofs.Common.{Option, Some, None, refl, sym, ap, ◌∙◌, subst, leb-true, arith}
 use Rattle.std.specs.Prelude.{IfOk}
 use Rattle.std.proofs.lemmas.Bool.Decides.{nat_tests}
-use Rattle.nofs_model.specs.Cells.{Entry, slot_limit}
-use Rattle.nofs_model.specs.Image.{FileState, Files, entry_at}
+use Rattle.nofs_dirent.specs.declared.entry.Entry.{Entry}
+use Rattle.nofs_ptrs.specs.Paths.{slot_limit}
+use Rattle.nofs_model.specs.Files.{FileState, Files, entry_at}
 use Rattle.nofs_model.specs.declared.image.value.Value.{Value}
 use Rattle.nofs_model.specs.declared.image.value.Value.TheVariants as value
 use Rattle.nofs_history.specs.Search.{first_of}

@@ -3,8 +3,8 @@ use Rattle.std.proofs.Common.{◌≡◌, ℕ, zero, suc, ◌+◌, ◌-◌, ◌*�
 use Rattle.std.proofs.Common.{[], ◌∷◌, Option, Some, None}
 use Rattle.std.proofs.Common.{nat_lt, if◌then◌else◌, refl, sym, ap, ◌∙◌, subst, inl, inr, le_refl, arith}
 use Rattle.std.proofs.lemmas.Bool.{cases_lt}
-use Rattle.nofs_model.specs.Cells.{entry_limit}
-use Rattle.nofs_model.specs.Image.{FileState, Files, is_folder, entry_held, entry_in_file, entry_at}
+use Rattle.nofs_dirent.specs.Entries.{entry_limit}
+use Rattle.nofs_model.specs.Files.{FileState, Files, is_folder, entry_held, entry_in_file, entry_at}
 use Rattle.nofs_model.specs.declared.image.value.Value.{Value}
 use Rattle.nofs_model.specs.declared.image.value.Value.TheVariants as value
 use Rattle.nofs_history.specs.Meta.{is_bytes}

@@ -10,9 +10,11 @@ use Rattle.std.proofs.lemmas.List.{take-append-drop}
 use Rattle.std.proofs.lemmas.List.Folds.{list_any-append}
 use Rattle.std.proofs.lemmas.List.Elements.{All-head}
 use Rattle.std.proofs.lemmas.Slice.Eq.{bytes_eq-Decides}
-use Rattle.nofs_model.specs.Kinds as kind
-use Rattle.nofs_model.specs.Cells.{Entry, is_name, entry_limit}
-use Rattle.nofs_model.specs.Image.{Files, is_folder, entry_at}
+use Rattle.nofs_inode.specs.declared.inode.FileKind.TheVariants as kind
+use Rattle.nofs_dirent.specs.declared.entry.Entry.{Entry}
+use Rattle.nofs_dirent.specs.Names.{is_name}
+use Rattle.nofs_dirent.specs.Entries.{entry_limit}
+use Rattle.nofs_model.specs.Files.{Files, is_folder, entry_at}
 use Rattle.nofs_history.specs.Search.{least_from}
 use Rattle.nofs_history.specs.Machine.{found, is_folder_at, is_paired, entry_has_name, is_lost, value_of}
 use Rattle.nofs_history.specs.World.{World}

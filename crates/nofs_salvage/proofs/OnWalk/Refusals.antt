@@ -1,12 +1,11 @@
 -- Why the steps of a walk are refused, and what they may ask.
 use Rattle.std.proofs.Common.{◌≡◌, ℕ, inl, inr, ◌⊎◌, List, [], ◌∷◌, ◌++◌, Bool, true, false, ◌&&◌, ◌==◌, if◌then◌else◌}
-use Rattle.std.proofs.Common.{Option, Some, None}
-use Rattle.std.proofs.Common.{is_some, refl, sym, ap, ◌∙◌, subst, eq-eqb, append_assoc}
+use Rattle.std.proofs.Common.{Option, Some, None, is_some, refl, sym, ap, ◌∙◌, subst, eq-eqb, append_assoc}
 use Rattle.std.specs.Prelude.{All, IfSome, IfOk}
 use Rattle.std.proofs.lemmas.List.{append-nil, append_cancel_left}
 use Rattle.std.proofs.lemmas.List.Elements.{All-nil, All-cons, All-head, All-tail, All-append}
-use Rattle.nofs_model.specs.Cells.{Entry}
-use Rattle.nofs_model.specs.Image.{FileState, Files, entry_at}
+use Rattle.nofs_dirent.specs.declared.entry.Entry.{Entry}
+use Rattle.nofs_model.specs.Files.{FileState, Files, entry_at}
 use Rattle.nofs_history.specs.Search.{first_of}
 use Rattle.nofs_history.specs.Machine.{found, is_folder_at}
 use Rattle.nofs_history.specs.World.{World}
@@ -23,8 +22,7 @@ use Rattle.nofs_salvage.specs.Walk.Steps.{MakesReads, IsAccepted, refusal_of, fi
 use Rattle.nofs_salvage.specs.Walk.Steps.{size_by, listed_by}
 use Rattle.nofs_salvage.specs.Walk.Answers.{IsAnswered, AreAnswered}
 use Rattle.nofs_salvage.specs.Report.Losses.{inode_found}
-use Rattle.nofs_salvage.specs.Walk.Refusals.{is_there, HasRoots, MayRefuse, IsFair, AreFair, MakesOne}
-use Rattle.nofs_salvage.specs.Walk.Refusals.{MayAsk, LeadsTo}
+use Rattle.nofs_salvage.specs.Walk.Refusals.{is_there, HasRoots, MayRefuse, IsFair, AreFair, MakesOne, MayAsk, LeadsTo}
 use Rattle.nofs_salvage.specs.Report.Inodes.{root_handle, label_handle}
 use Rattle.nofs_salvage.specs.Report.Lines.{IsFolderPart}
 use Rattle.nofs_salvage.proofs.OnWalk.Steps.{answered-both, answered-one}

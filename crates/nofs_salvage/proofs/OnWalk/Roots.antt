@@ -1,8 +1,9 @@
 -- The files of an image have roots: inode 1 is agreed as a directory alone, and inode 2 as a file.
 use Rattle.std.proofs.Common.{◌≡◌, Bool, true, false, ◌&&◌, ◌||◌, not, if◌then◌else◌, Option, Some, None, is_some, refl}
 use Rattle.std.proofs.Common.{sym, ap, ◌∙◌}
-use Rattle.nofs_model.specs.Kinds.{File, Directory as Folder}
-use Rattle.nofs_model.specs.Image.{Image, FileState, Files, files_in, is_folder, is_a, agreed}
+use Rattle.nofs_inode.specs.declared.inode.FileKind.TheVariants.{File, Directory as Folder}
+use Rattle.nofs_model.specs.Geometry.{Image}
+use Rattle.nofs_model.specs.Files.{FileState, Files, files_in, is_folder, is_a, agreed}
 use Rattle.nofs_history.specs.Since.{agreed_files}
 use Rattle.nofs_history.specs.History.{FilesMatch, SameFile}
 use Rattle.nofs_salvage.specs.Walk.Refusals.{HasRoots}

@@ -1,11 +1,12 @@
 -- Why one step of a walk is refused, and that it is answered right where no row refuses it.
 use Rattle.std.proofs.Common.{◌≡◌, ℕ, inl, inr, ◌⊎◌, List, [], ◌∷◌, Bool, true, false, ◌&&◌, not, nat_le, ◌==◌}
-use Rattle.std.proofs.Common.{if◌then◌else◌, Option, Some, None}
-use Rattle.std.proofs.Common.{is_some, refl, sym, ap, ◌∙◌, subst}
+use Rattle.std.proofs.Common.{if◌then◌else◌, Option, Some, None, is_some, refl, sym, ap, ◌∙◌, subst}
 use Rattle.std.specs.Prelude.{IfSome, zero, suc}
 use Rattle.std.specs.List.{list_any}
-use Rattle.nofs_model.specs.Cells.{Entry, is_name, entry_limit}
-use Rattle.nofs_model.specs.Image.{FileState, Files, entry_at, is_pair, links_in_file, links_of}
+use Rattle.nofs_dirent.specs.declared.entry.Entry.{Entry}
+use Rattle.nofs_dirent.specs.Names.{is_name}
+use Rattle.nofs_dirent.specs.Entries.{entry_limit}
+use Rattle.nofs_model.specs.Files.{FileState, Files, entry_at, is_pair, links_in_file, links_of}
 use Rattle.nofs_history.specs.Search.{first_of, least_from}
 use Rattle.nofs_history.specs.Machine.{found, is_lost, is_folder_at, value_of, is_paired, entry_has_name, generation_of}
 use Rattle.nofs_history.specs.Machine.{same_link, link_to}
@@ -24,8 +25,7 @@ use Rattle.nofs_history.specs.declared.machine.replies.Refusal.{Refusal}
 use Rattle.nofs_history.specs.declared.machine.replies.Refusal.TheVariants as refusal
 use Rattle.nofs_salvage.specs.Walk.Steps.{is_too_large}
 use Rattle.nofs_salvage.specs.Walk.Answers.{IsAnswered}
-use Rattle.nofs_salvage.specs.Walk.Refusals.{is_there, LacksRoot, MayRefuse, IsFair}
-use Rattle.nofs_salvage.specs.Walk.Refusals.{MayAsk, LeadsTo}
+use Rattle.nofs_salvage.specs.Walk.Refusals.{is_there, LacksRoot, MayRefuse, IsFair, MayAsk, LeadsTo}
 use Rattle.nofs_salvage.proofs.OnWalk.Answers.{clash, no-value}
 
 -- The cause of a refusal

@@ -1,9 +1,8 @@
 -- The lost slots of a file, slot by slot.
 use Rattle.std.proofs.Common.{◌≡◌, ℕ, Bool, true, false, Result, Ok, Err, suc, ◌+◌, ◌<◌, ◌≤◌, ◌++◌, min, List, [], ◌∷◌}
-use Rattle.std.proofs.Common.{sym, ap, ◌∙◌, subst}
-use Rattle.std.proofs.Common.{append_assoc, add-one, arith}
+use Rattle.std.proofs.Common.{sym, ap, ◌∙◌, subst, append_assoc, add-one, arith}
 use Rattle.std.proofs.lemmas.List.{append-nil}
-use Rattle.nofs_model.specs.Image.{Files}
+use Rattle.nofs_model.specs.Files.{Files}
 use Rattle.nofs_history.specs.Machine.{value_of, size_of, slots_in, is_lost}
 use Rattle.nofs_history.specs.Refusals.{slots}
 use Rattle.nofs_history.specs.World.{World}

@@ -1,7 +1,7 @@
 -- What the lines of a directory tell, and the handles of a list of directories.
 use Rattle.std.specs.Prelude.{◌≡◌, ℕ, ◌⊎◌, true, false, List, [], ◌∷◌, ◌++◌, All, IsTrue}
-use Rattle.nofs_model.specs.Cells.{is_name}
-use Rattle.nofs_model.specs.Image.{Files, is_folder}
+use Rattle.nofs_dirent.specs.Names.{is_name}
+use Rattle.nofs_model.specs.Files.{Files, is_folder}
 use Rattle.nofs_history.specs.declared.machine.replies.NameLine.{NameLine}
 use Rattle.nofs_salvage.specs.declared.report.answers.NextSlot.{NextSlot}
 use Rattle.nofs_salvage.specs.declared.report.answers.NextSlot.TheVariants as listed

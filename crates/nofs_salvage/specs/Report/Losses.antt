@@ -2,8 +2,8 @@
 use Rattle.std.specs.Prelude.{ℕ, zero, suc, ◌^◌, min, Bool, not, ◌&&◌, List, [], ◌∷◌, ◌++◌, Option, Some, None}
 use Rattle.std.specs.Prelude.{if◌then◌else◌, slice_get, bytes_eq, ◌==◌}
 use Rattle.std.specs.List.{list_any}
-use Rattle.nofs_model.specs.Cells.{Entry}
-use Rattle.nofs_model.specs.Image.{Files, entry_at, is_folder}
+use Rattle.nofs_dirent.specs.declared.entry.Entry.{Entry}
+use Rattle.nofs_model.specs.Files.{Files, entry_at, is_folder}
 use Rattle.nofs_history.specs.Machine.{value_of, size_of, slots_in, is_lost, found}
 use Rattle.nofs_history.specs.Refusals.{slots}
 use Rattle.nofs_history.specs.Answers.{lines_in_slot}

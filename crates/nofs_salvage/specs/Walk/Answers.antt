@@ -1,6 +1,6 @@
 -- What the machine's answers say, while no file changes.
 use Rattle.std.specs.Prelude.{◌≡◌, ℕ, ◌-◌, ◌<◌, ◌≤◌, Bool, true, false, not, List, ◌++◌, All, Option, Some, None}
-use Rattle.nofs_model.specs.Image.{Files}
+use Rattle.nofs_model.specs.Files.{Files}
 use Rattle.nofs_history.specs.Search.{least_from}
 use Rattle.nofs_history.specs.Machine.{value_of, is_lost, is_hole}
 use Rattle.nofs_history.specs.Refusals.{slots}

@@ -1,7 +1,7 @@
 -- Why a walk is refused while no file changes: a read failed, the mount has stopped, or inode 1 or 2 isn't there.
 use Rattle.std.specs.Prelude.{◌≡◌, ℕ, ◌⊎◌, Bool, true, false, ◌&&◌, List, ◌++◌, All, IfSome, is_some, IsTrue, ◌==◌}
-use Rattle.nofs_model.specs.Cells.{is_name}
-use Rattle.nofs_model.specs.Image.{Files}
+use Rattle.nofs_dirent.specs.Names.{is_name}
+use Rattle.nofs_model.specs.Files.{Files}
 use Rattle.nofs_history.specs.Machine.{generation_of, is_folder_at, found}
 use Rattle.nofs_history.specs.Steps.{Made, with_made}
 use Rattle.nofs_history.specs.declared.machine.steps.Step.{Step}

@@ -2,7 +2,7 @@
 //!
 //! Promise: each line is noted as what it is: dead, doubled, a file with its lost slots, or a directory.
 ghost use Rattle.std.specs.Prelude.{◌≡◌, ◌++◌, ℕ, Bool, true, false, List, [], ◌∷◌, OnOk};
-ghost use Rattle.nofs_model.specs.Image.{is_folder};
+ghost use Rattle.nofs_model.specs.Files.{is_folder};
 ghost use Rattle.std.specs.Fn.{FnReturnsAt};
 ghost use Rattle.nofs_history.specs.World.{World};
 ghost use Rattle.nofs_history.specs.Steps.{Made};

@@ -191,7 +191,21 @@ fn told(reply: Reply) -> Result<SlotState, SalvageFault>
             }
         }
         Reply::Lost => Ok(SlotState::Lost),
-        _ => Ok(SlotState::Kept),
+        Reply::Found(_)
+        | Reply::Made { .. }
+        | Reply::Linked
+        | Reply::Dropped { .. }
+        | Reply::Renamed
+        | Reply::Names(..)
+        | Reply::LostNames(_)
+        | Reply::NoMore
+        | Reply::Bytes(_)
+        | Reply::Hole
+        | Reply::Stored
+        | Reply::Resized
+        | Reply::Stat(_)
+        | Reply::Flushed
+        | Reply::Seen { .. } => Ok(SlotState::Kept),
     }
 }
 

@@ -3,7 +3,7 @@ use Rattle.std.proofs.Common.{◌≡◌, ℕ, ◌+◌, ◌^◌, ◌<◌, ◌≤�
 use Rattle.std.proofs.Common.{drop, append-nil, length-append}
 use Rattle.std.proofs.Common.{Bool, true, false, Option, Some, None, Result, Ok, Err, IfOk, if◌then◌else◌, refl, sym}
 use Rattle.std.proofs.Common.{ap, ap₂, ◌∙◌, arith}
-use Rattle.std.specs.Prelude.{slice_index}
+use Rattle.std.specs.Prelude.{slice_index, option_and_then}
 use Rattle.std.proofs.lemmas.Bool.{eq-eqb, le-leb, le-ltb, lt-ltb}
 use Rattle.std.proofs.lemmas.List.{drop_at, drop-drop, get_or-drop, take_at}
 use Rattle.byteorder.specs.Endian.{little_number}
@@ -14,7 +14,7 @@ use Rattle.nofs_inode.specs.declared.inode.FileKind.TheVariants.{File, Directory
 use Rattle.nofs_history.specs.declared.machine.steps.Step.{Step}
 use Rattle.nofs_history.specs.declared.machine.steps.Step.TheVariants as step
 use Rattle.nofs_wire.specs.Frames.Fields.{number_bytes, kind_byte, name_bytes}
-use Rattle.nofs_wire.specs.Frames.Requests.{◌>>=◌, where_ends, name_length, name_field, kind_numbered, inode_field}
+use Rattle.nofs_wire.specs.Frames.Requests.{where_ends, name_length, name_field, kind_numbered, inode_field}
 use Rattle.nofs_wire.specs.Frames.Requests.{generation_field, look_request, make_of, link_of, drop_of}
 use Rattle.nofs_wire.specs.Frames.Requests.{rename_of, list_of, get_of, put_of, resize_of, stat_of, flush_of}
 use Rattle.nofs_wire.specs.Frames.Requests.{see_inode_of, see_block_of, named_of}
@@ -199,7 +199,8 @@ module _ (first d g : ℕ) (name rest : List ℕ) (no_inode : (first == 12) ≡ 
 read-name : (first d g : ℕ) (name : List ℕ) (make : ℕ → ℕ → List ℕ → Step)
     → (first == 12) ≡ false → (first == 13) ≡ false → IsHandle d g
     → ((L : List ℕ) → handled_of first L
-    ≡ (name_field 13 L >>= λ m. where_ends (length L == 14 + length m) (make (inode_field L) (generation_field L) m)))
+    ≡ option_and_then (λ m. where_ends (length L == 14 + length m) (make (inode_field L) (generation_field L) m))
+    (name_field 13 L))
     → step_of (head_bytes first d g (name_bytes name)) ≡ Some (make d g name)
 read-name first d g name make no_inode no_block h is =
     let R = name_bytes name in
@@ -211,7 +212,7 @@ read-name first d g name make no_inode no_block h is =
     let size : length L ≡ 14 + length name = length-head first d g R ∙ omega arith in
     handled first d g R no_inode no_block
     ∙ is L
-    ∙ ap (λ o. o >>= λ m. where_ends (length L == 14 + length m) (make (inode_field L) (generation_field L) m)) n
+    ∙ ap (option_and_then (λ m. where_ends (length L == 14 + length m) (make (inode_field L) (generation_field L) m))) n
     ∙ where-true _ _ _ (eq-eqb (length L) (14 + length name) size) (λ k. make (a k) (b k) name)
 
 read-look : (d g : ℕ) (name : List ℕ) → IsHandle d g
@@ -239,11 +240,9 @@ read-make d g name kind h =
     ap (slice_index L) here ∙ sym (get_or-drop (14 + length name) L 0 0)
     ∙ ap (λ m. slice_index m 0) (behind-name 2 d g name last refl refl) in
     handled 2 d g R refl refl
-    ∙ ap (λ o. o >>= λ m. named_of 2 m L) (found 2 d g name last refl refl)
-    ∙ ap (λ n. kind_numbered n
-    >>= λ k. where_ends (length L == 15 + length name) (step.Make (inode_field L) (generation_field L) name k)) byte
-    ∙ ap (λ o. o >>= λ k. where_ends (length L == 15 + length name)
-    (step.Make (inode_field L) (generation_field L) name k)) (kind-back kind)
+    ∙ ap (option_and_then (λ m. named_of 2 m L)) (found 2 d g name last refl refl)
+    ∙ ap (option_and_then (λ k. where_ends (length L == 15 + length name)
+    (step.Make (inode_field L) (generation_field L) name k))) (ap kind_numbered byte ∙ kind-back kind)
     ∙ where-true _ _ _ (eq-eqb (length L) (15 + length name) size) (λ k. step.Make (a k) (b k) name kind)
 
 read-link : (d g i of : ℕ) (name : List ℕ) → IsHandle d g → IsHandle i of
@@ -270,7 +269,7 @@ read-link d g i of name h file =
     ∙ omega
     (arith, length-append (number_bytes 4 i) (number_bytes 8 of), length-number_bytes 4 i, length-number_bytes 8 of) in
     handled 3 d g R refl refl
-    ∙ ap (λ o. o >>= λ m. named_of 3 m L) (found 3 d g name last refl refl)
+    ∙ ap (option_and_then (λ m. named_of 3 m L)) (found 3 d g name last refl refl)
     ∙ where-true _ _ _ (eq-eqb (length L) (26 + length name) size) (λ k. step.Link (a k) (b k) name (c k) (e k))
 
 read-rename : (d g : ℕ) (old new : List ℕ) → IsHandle d g
@@ -288,9 +287,9 @@ read-rename d g old new h =
     (long ∙ omega arith) in
     let size : length L ≡ 15 + length old + length new = long ∙ omega arith in
     handled 5 d g R refl refl
-    ∙ ap (λ o. o >>= λ m. named_of 5 m L) (found 5 d g old last refl refl)
-    ∙ ap (λ o. o >>= λ m. where_ends (length L == 15 + length old + length m)
-    (step.Rename (inode_field L) (generation_field L) old m)) second
+    ∙ ap (option_and_then (λ m. named_of 5 m L)) (found 5 d g old last refl refl)
+    ∙ ap (option_and_then (λ m. where_ends (length L == 15 + length old + length m)
+    (step.Rename (inode_field L) (generation_field L) old m))) second
     ∙ where-true _ _ _ (eq-eqb (length L) (15 + length old + length new) size) (λ k. step.Rename (a k) (b k) old new)
 
 -- a number alone

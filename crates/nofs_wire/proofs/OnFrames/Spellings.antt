@@ -4,7 +4,7 @@ use Rattle.std.proofs.Common.{drop, append-nil, length-drop}
 use Rattle.std.proofs.Common.{take-append-drop, drop_of_length-le, drop-cons, Bool, true, false, Option, Some, None}
 use Rattle.std.proofs.Common.{Result, Ok, Err, IfOk, IfSome, ◌⊎◌, inl}
 use Rattle.std.proofs.Common.{inr, if◌then◌else◌, refl, sym, ap, ap₂, ◌∙◌, arith, eqb-true, leb-true}
-use Rattle.std.specs.Prelude.{slice_index}
+use Rattle.std.specs.Prelude.{slice_index, option_and_then}
 use Rattle.std.specs.Int.{byte_at, bytes_low_first}
 use Rattle.std.proofs.lemmas.Bool.{and_parts, ltb-true, ltb-false}
 use Rattle.std.proofs.lemmas.List.{drop-drop, ext_get_or, length-take-le}
@@ -17,7 +17,7 @@ use Rattle.nofs_inode.specs.declared.inode.FileKind.TheVariants.{File, Directory
 use Rattle.nofs_history.specs.declared.machine.steps.Step.{Step}
 use Rattle.nofs_history.specs.declared.machine.steps.Step.TheVariants as step
 use Rattle.nofs_wire.specs.Frames.Fields.{number_bytes, kind_byte, name_bytes}
-use Rattle.nofs_wire.specs.Frames.Requests.{◌>>=◌, where_ends, name_length, has_name_field, name_field, kind_numbered}
+use Rattle.nofs_wire.specs.Frames.Requests.{where_ends, name_length, has_name_field, name_field, kind_numbered}
 use Rattle.nofs_wire.specs.Frames.Requests.{inode_field, generation_field, look_request, make_of, link_of}
 use Rattle.nofs_wire.specs.Frames.Requests.{drop_of, rename_of, list_of, get_of, put_of, resize_of, stat_of, flush_of}
 use Rattle.nofs_wire.specs.Frames.Requests.{see_inode_of, see_block_of, named_of}
@@ -51,7 +51,7 @@ where-parts : (b : Bool) (x s : Step) → where_ends b x ≡ Some s → (b ≡ t
 where-parts true x s e = (refl, cc)
 where-parts false x s e = absurd (cc)
 
-bind-parts : {A : Type 0} (o : Option A) (f : A → Option Step) (s : Step) → (o >>= f) ≡ Some s
+bind-parts : {A : Type 0} (o : Option A) (f : A → Option Step) (s : Step) → option_and_then f o ≡ Some s
     → (x : A) × (o ≡ Some x) × (f x ≡ Some s)
 bind-parts None f s e = absurd (cc)
 bind-parts (Some x) f s e = (x, refl, e)
@@ -190,6 +190,13 @@ module _ (body : List ℕ) (each : (k : ℕ) → slice_index body k < 256) where
           spelled first (name_bytes name) read is
           (last-name 13 name named (eqb-true (length body) (14 + length name) p.0)) same p.1
 
+      -- a head, the name, and what stands behind it
+      behind-name : (first : ℕ) → slice_index body 0 ≡ first → (rest : List ℕ) → drop (14 + length name) body ≡ rest
+          → body ≡ head_bytes first (inode_field body) (generation_field body) (name_bytes name ++ rest)
+      behind-name first is rest last =
+          head first is long ∙ ap (head_bytes first (inode_field body) (generation_field body))
+          (name-cut 13 name named ∙ ap (λ l. name_bytes name ++ l) last)
+
       spelled-make : slice_index body 0 ≡ 2 → make_of name body ≡ Some s → body ≡ request_bytes s
       unfolding make_of request_bytes
       spelled-make is e =
@@ -200,9 +207,7 @@ module _ (body : List ℕ) (each : (k : ℕ) → slice_index body k < 256) where
           byte-cut (14 + length name) (omega arith)
           ∙ ap₂ (λ n l. n ∷ l) (kind-byte (slice_index body (14 + length name)) kind kind_is)
           (end-cut (14 + length name + 1) (omega arith)) in
-          head 2 is long ∙ ap (head_bytes 2 (inode_field body) (generation_field body))
-          (name-cut 13 name named ∙ ap (λ l. name_bytes name ++ l) last)
-          ∙ ap request_bytes p.1
+          behind-name 2 is (kind_byte kind ∷ []) last ∙ ap request_bytes p.1
 
       spelled-link : slice_index body 0 ≡ 3 → link_of name body ≡ Some s → body ≡ request_bytes s
       unfolding link_of request_bytes
@@ -216,9 +221,7 @@ module _ (body : List ℕ) (each : (k : ℕ) → slice_index body k < 256) where
           number-cut 4 (14 + length name) (omega arith)
           ∙ ap (λ l. number_bytes 4 (number_at 4 (14 + length name) body) ++ l)
           (ap (λ k. drop k body) at ∙ last-number 8 (18 + length name) (omega arith)) in
-          head 3 is long ∙ ap (head_bytes 3 (inode_field body) (generation_field body))
-          (name-cut 13 name named ∙ ap (λ l. name_bytes name ++ l) last)
-          ∙ ap request_bytes p.1
+          behind-name 3 is _ last ∙ ap request_bytes p.1
 
       spelled-rename : slice_index body 0 ≡ 5 → rename_of name body ≡ Some s → body ≡ request_bytes s
       unfolding rename_of request_bytes
@@ -228,9 +231,7 @@ module _ (body : List ℕ) (each : (k : ℕ) → slice_index body k < 256) where
           let size = eqb-true (length body) (15 + length name + length new) p.0 in
           let last : drop (14 + length name) body ≡ name_bytes new =
           last-name (14 + length name) new new_is (omega arith) in
-          head 5 is long ∙ ap (head_bytes 5 (inode_field body) (generation_field body))
-          (name-cut 13 name named ∙ ap (λ l. name_bytes name ++ l) last)
-          ∙ ap request_bytes p.1
+          behind-name 5 is (name_bytes new) last ∙ ap request_bytes p.1
 
       spelled-named : (first : ℕ) → slice_index body 0 ≡ first → named_of first name body ≡ Some s
           → body ≡ request_bytes s

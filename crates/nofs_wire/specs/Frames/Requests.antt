@@ -8,10 +8,6 @@ use Rattle.nofs_inode.specs.declared.inode.FileKind.TheVariants.{File, Directory
 use Rattle.nofs_history.specs.declared.machine.steps.Step.{Step}
 use Rattle.nofs_history.specs.declared.machine.steps.Step.TheVariants as step
 
-infixl 10 ◌>>=◌
-abbrev pub ◌>>=◌ : {A B : Type 0} → Option A → (A → Option B) → Option B
-o >>= f = option_and_then f o
-
 -- a step, where its body ends where it should
 abbrev pub where_ends : Bool → Step → Option Step
 where_ends ends s = if ends then Some s else None
@@ -46,9 +42,10 @@ look_request name body =
 
 -- behind the name the kind
 unfoldable pub make_of : List ℕ → List ℕ → Option Step
-make_of name body = do
-  kind ← kind_numbered (slice_index body (14 + length name))
-  where_ends (length body == 15 + length name) (step.Make (inode_field body) (generation_field body) name kind)
+make_of name body = option_and_then
+    (λ kind. where_ends (length body == 15 + length name)
+    (step.Make (inode_field body) (generation_field body) name kind))
+    (kind_numbered (slice_index body (14 + length name)))
 
 -- behind the name the inode number and the generation of the file
 unfoldable pub link_of : List ℕ → List ℕ → Option Step
@@ -63,10 +60,10 @@ drop_of name body =
 
 -- behind the name the new one
 unfoldable pub rename_of : List ℕ → List ℕ → Option Step
-rename_of name body = do
-  new ← name_field (14 + length name) body
-  where_ends (length body == 15 + length name + length new)
-      (step.Rename (inode_field body) (generation_field body) name new)
+rename_of name body = option_and_then
+    (λ new. where_ends (length body == 15 + length name + length new)
+    (step.Rename (inode_field body) (generation_field body) name new))
+    (name_field (14 + length name) body)
 
 -- slot
 unfoldable pub list_of : List ℕ → Option Step
@@ -120,7 +117,7 @@ handled_of first body =
     else if first == 9 then resize_of body
     else if first == 10 then stat_of body
     else if first == 11 then flush_of body
-    else name_field 13 body >>= λ name. named_of first name body
+    else option_and_then (λ name. named_of first name body) (name_field 13 body)
 
 -- the step of a body, by its first byte
 unfoldable pub step_by : ℕ → List ℕ → Option Step

@@ -4,7 +4,8 @@ ghost use Rattle.nofs_ptrs.specs.Paths.{slot_limit};
 ghost use Rattle.nofs_history.specs.Machine as machine;
 ghost use Rattle.nofs_history.specs.Accepted.Files.{kept_files_of};
 ghost use Rattle.nofs_history.specs.Accepted.Fit.{is_fit, IsFit};
-ghost use Rattle.nofs_history.specs.Accepted.Given.{given_of, is_sound, name_gives, value_for};
+ghost use Rattle.nofs_history.specs.Accepted.Given.{given_of, is_sound, value_for};
+ghost use Rattle.nofs_history.specs.declared.accepted.given.given.GivenNow.TheVariants as given;
 
 use crate::accepted::files::file::FilesNow;
 use crate::accepted::files::names::DirectoryName;
@@ -79,8 +80,20 @@ pub(crate) fn is_refused(reply: &Reply) -> bool
     matches!(reply, Reply::Refused(_))
 }
 
-/// What a step on the names of a directory gives: nothing by another.
-fn name_given(
+// A new size of one generation of an inode.
+fn size_in(inode: u32, generation: u64, size: u64) -> GivenNow
+    ensures { result ≡ given.Size inode generation size }
+{
+    GivenNow::Size {
+        inode,
+        generation,
+        size,
+    }
+}
+
+/// What an accepted step gives.
+#[tactic(auto, unfolding(crate::specs::Machine::gives))]
+pub(crate) fn step_given(
     alloc: Global,
     files: &FilesNow,
     step: &Step,
@@ -88,7 +101,7 @@ fn name_given(
 ) -> Result<GivenNow, AllocError>
     requires { is_fit step.now claims.now ≡ true }
     ensures given { IfOk result
-        (λ it. given_of (kept_files_of files.now) it ≡ name_gives (kept_files_of files.now) step.now claims.now) }
+        (λ it. given_of (kept_files_of files.now) it ≡ machine.gives (kept_files_of files.now) step.now claims.now) }
     ensures sound { IfOk result (λ it. is_sound it ≡ true) }
 {
     match step {
@@ -107,13 +120,10 @@ fn name_given(
             name,
             inode,
             of,
-        } => link_given(
-            alloc,
-            files,
-            &name_in(*directory, *generation, name),
-            *inode,
-            *of,
-        ),
+        } => {
+            let name = name_in(*directory, *generation, name);
+            link_given(alloc, files, &name, *inode, *of)
+        }
         Step::Drop {
             directory,
             generation,
@@ -124,57 +134,32 @@ fn name_given(
             generation,
             old,
             new,
-        } => rename_given(
-            alloc,
-            files,
-            &name_in(*directory, *generation, old),
-            new.as_slice(),
-        ),
-        _ => Ok(GivenNow::Nothing),
-    }
-}
-
-/// What an accepted step gives.
-#[tactic(auto, unfolding(crate::specs::Machine::gives))]
-pub(crate) fn step_given(
-    alloc: Global,
-    files: &FilesNow,
-    step: &Step,
-    claims: &Claims,
-) -> Result<GivenNow, AllocError>
-    requires { is_fit step.now claims.now ≡ true }
-    ensures given { IfOk result
-        (λ it. given_of (kept_files_of files.now) it ≡ machine.gives (kept_files_of files.now) step.now claims.now) }
-    ensures sound { IfOk result (λ it. is_sound it ≡ true) }
-{
-    match step {
+        } => {
+            let old = name_in(*directory, *generation, old);
+            rename_given(alloc, files, &old, new.as_slice())
+        }
         Step::Put {
             inode,
             generation,
             slot,
             at,
             bytes,
-        } => put_given(
-            alloc,
-            files,
-            &BytesIn {
-                inode: *inode,
-                generation: *generation,
-                slot: *slot,
-                at: *at,
-                bytes: bytes.as_slice(),
-            },
-        ),
+        } => {
+            let put = BytesIn::new(*inode, *generation, *slot, *at, bytes.as_slice());
+            put_given(alloc, files, &put)
+        }
         Step::Resize {
             inode,
             generation,
             size,
-        } => Ok(GivenNow::Size {
-            inode: *inode,
-            generation: *generation,
-            size: *size,
-        }),
-        _ => name_given(alloc, files, step, claims),
+        } => Ok(size_in(*inode, *generation, *size)),
+        Step::Look { .. }
+        | Step::List { .. }
+        | Step::Get { .. }
+        | Step::Stat { .. }
+        | Step::Flush { .. }
+        | Step::SeeInode { .. }
+        | Step::SeeBlock { .. } => Ok(GivenNow::Nothing),
     }
 }
 

@@ -36,6 +36,22 @@ pub(crate) struct BytesIn<'a> {
     pub bytes: &'a [u8],
 }
 
+impl<'a> BytesIn<'a> {
+    /// Bytes for a slot, from a place in it on.
+    pub(crate) fn new(inode: u32, generation: u64, slot: u64, at: u32, bytes: &'a [u8]) -> Self
+        ensures place { (result.inode ≡ inode) × (result.generation ≡ generation) × (result.slot ≡ slot) }
+        ensures bytes { (result.at ≡ at) × (result.bytes.now ≡ bytes.now) }
+    {
+        BytesIn {
+            inode,
+            generation,
+            slot,
+            at,
+            bytes,
+        }
+    }
+}
+
 impl Says<'_> {
     // The 64 bytes of the entry.
     fn bytes(&self) -> [u8; 64]

@@ -1,5 +1,5 @@
 use Rattle.std.proofs.Common.{sym, ◌∙◌}
-use Rattle.nofs_model.specs.Cells.{no_link}
+use Rattle.nofs_inode.specs.InodeRecords.{no_link}
 use Rattle.nofs_model.proofs.OnFiles.Parents.{parent-read, no-parent-read}
 use Rattle.nofs_model.proofs.names.parent_of.Goals as goal
 

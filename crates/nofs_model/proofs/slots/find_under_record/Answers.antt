@@ -1,7 +1,7 @@
 use Rattle.std.proofs.Common.{refl}
-use Rattle.nofs_model.specs.Slots as slots
+use Rattle.nofs_ptrs.specs.Paths as paths
 use Rattle.nofs_model.proofs.slots.find_under_record.Goals as goal
 
 pub returns-clause-found : goal.returns-clause-found
 returns-clause-found c =
-    c.find_under.ensures.found (slots.InRecord c.args.above) c.find_in_record-node.ensures.found refl
+    c.find_under.ensures.found (paths.InRecord c.args.above) c.find_in_record-node.ensures.found refl

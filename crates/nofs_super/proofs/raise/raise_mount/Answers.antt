@@ -1,5 +1,8 @@
+use Rattle.std.specs.Prelude.{Contains}
+use Rattle.std.proofs.Common.{ℕ, List, sym, ◌∙◌, subst, arith, rules}
+use Rattle.nofs_disk.specs.declared.tag.Cell.{Cell}
 use Rattle.nofs_super.specs.Raise.{raised}
-use Rattle.nofs_super.proofs.RaiseRun.{adds-raise, adds-raised}
+use Rattle.nofs_super.proofs.RaiseRun.{adds-raise, adds-raised, first-raise, kept-raise}
 use Rattle.nofs_super.proofs.raise.raise_mount.Goals as goal
 
 pub returns-then-is_err-clause-adds : goal.returns-then-is_err-clause-adds
@@ -18,3 +21,34 @@ returns-in-Err-clause-adds g c =
     adds-raised (raised c.args.old.now) _ _ _ _ (g.met.D.Disk.is_disk c.write.new.self)
     (g.met.D.Disk.is_disk c.flush.new.self)
     c.write_super.ensures.cell c.write.ensures c.flush.ensures
+
+pub returns-then-is_err-clause-stopped : goal.returns-then-is_err-clause-stopped
+returns-then-is_err-clause-stopped g c =
+    let w = c.write.ensures in
+    let m = w.moment in
+    record {
+      cause = search rules;
+      began = omega (arith, m);
+      most = omega (arith, m);
+      now = search rules;
+      kept = kept-raise _ _ _ w;
+      others = w.others;
+      first = first-raise (raised c.args.old.now) _ _ _ c.write_super.ensures.cell w;
+    }
+
+pub returns-in-Err-clause-stopped : goal.returns-in-Err-clause-stopped
+returns-in-Err-clause-stopped g c =
+    let w = c.write.ensures in
+    let f = c.in-Err.ensures in
+    let m = w.moment in
+    let n = f.moment in
+    record {
+      cause = search rules;
+      began = omega (arith, m, n);
+      most = omega (arith, m, n);
+      now = search rules;
+      kept = λ b x has. subst (λ (may : ℕ → List Cell). Contains (may b) x) (sym f.err) (kept-raise _ _ _ w b x has);
+      others = λ b apart. (λ j. f.err j b) ∙ w.others b apart;
+      first = λ x has. first-raise (raised c.args.old.now) _ _ _ c.write_super.ensures.cell w x
+          (subst (λ (may : ℕ → List Cell). Contains (may 0) x) f.err has);
+    }

@@ -1,5 +1,5 @@
 use Rattle.std.proofs.Common.{◌≡◌, ap, sym, ◌∙◌, None, Some}
-use Rattle.nofs_model.specs.Cells.{Record}
+use Rattle.nofs_inode.specs.declared.inode.Record.{Record}
 use Rattle.nofs_model.specs.Geometry.{inode}
 use Rattle.nofs_history.specs.Accepted.Files.{kept_file}
 use Rattle.nofs_history.proofs.OnAccepted.BaseFiles.{agreed-file, free-inode, not-agreed}

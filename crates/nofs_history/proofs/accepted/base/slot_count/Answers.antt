@@ -1,6 +1,7 @@
 use Rattle.std.proofs.Common.{◌≡◌, ap, ◌∙◌, inl, inr}
 use Rattle.std.proofs.lemmas.Bool.{cases_lt}
-use Rattle.nofs_model.specs.Cells.{Record, null}
+use Rattle.nofs_inode.specs.declared.inode.Record.{Record}
+use Rattle.nofs_disk.specs.Pointer.{null}
 use Rattle.nofs_history.proofs.OnAccepted.BaseFiles.{holes-behind-leaf, holes-behind-top}
 use Rattle.nofs_history.proofs.accepted.base.slot_count.Goals as goal
 

@@ -1,8 +1,8 @@
 -- The base's value, and then what the entries give, of files that are alike.
 use Rattle.std.proofs.Common.{List, [], ◌∷◌, ◌++◌, ◌∙◌, ap, cond}
-use Rattle.nofs_model.specs.Image.{value}
+use Rattle.nofs_model.specs.Slots.{value}
 use Rattle.nofs_model.specs.declared.image.value.Value.{Value}
-use Rattle.nofs_history.specs.History.{agreed_files, is_generation}
+use Rattle.nofs_history.specs.Since.{agreed_files, is_generation}
 use Rattle.nofs_history.specs.World.{world_of}
 use Rattle.nofs_history.specs.Accepted.Files.{kept_files_of}
 use Rattle.nofs_history.proofs.OnAccepted.Fit.{run-fit}

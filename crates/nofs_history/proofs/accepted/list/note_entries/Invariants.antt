@@ -1,5 +1,5 @@
 use Rattle.std.proofs.Common.{◌≡◌, ◌++◌, drop}
-use Rattle.nofs_history.specs.History.{values_given}
+use Rattle.nofs_history.specs.Since.{values_given}
 use Rattle.nofs_history.specs.Accepted.Files.{kept_files_of}
 use Rattle.nofs_history.specs.Accepted.Fit.{AreFit}
 use Rattle.nofs_history.proofs.accepted.list.note_entries.Given as goal
