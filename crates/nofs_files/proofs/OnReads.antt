@@ -3,3 +3,4 @@ pub mod Stats
 pub mod Rows
 pub mod Gets
 pub mod Flushes
+pub mod Memory

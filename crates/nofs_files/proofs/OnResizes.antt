@@ -6,6 +6,7 @@ pub mod Records
 pub mod Maps
 pub mod Blocks
 pub mod Image
+pub mod Counts
 pub mod Pointers
 pub mod Homes
 pub mod Proper

@@ -5,11 +5,17 @@ use Rattle.std.specs.Prelude.{List, length, [], ◌∷◌, if◌then◌else◌, 
 use Rattle.std.specs.Prelude.{slice_set}
 use Rattle.nofs_disk.specs.Disk.{DiskState, StaysButFaults, Rose, cell_at}
 use Rattle.nofs_disk.specs.Number.{zeros}
-use Rattle.nofs_ptrs.specs.Paths.{slot_limit}
+use Rattle.nofs_ptrs.specs.Paths.{slot_limit, Path, InRecord, Under, path_of, slot_of}
 use Rattle.nofs_bits.specs.Bits.{NoneSet, count_set, is_set}
 use Rattle.nofs_inode.specs.InodeRecords.{largest_size}
-use Rattle.nofs_model.specs.Cells.{Cell, Content, Leaf, Pointer, Record, is_null, pointer_at, tag_of}
-use Rattle.nofs_model.specs.Image.{Path, InRecord, Under, find, path_of, slot_of, value}
+use Rattle.nofs_disk.specs.declared.tag.Cell.{Cell}
+use Rattle.nofs_disk.specs.declared.tag.Kind.TheVariants.{Content, Leaf}
+use Rattle.nofs_disk.specs.declared.tag.Pointer.{Pointer}
+use Rattle.nofs_inode.specs.declared.inode.Record.{Record}
+use Rattle.nofs_disk.specs.Pointer.{is_null}
+use Rattle.nofs_ptrs.specs.Cells.{pointer_at}
+use Rattle.nofs_disk.specs.Tag.{tag_of}
+use Rattle.nofs_model.specs.Slots.{find, value}
 use Rattle.nofs_model.specs.declared.image.path.PathAnswer.TheVariants as answer
 use Rattle.nofs_model.specs.declared.image.value.Value.TheVariants.{Bytes}
 use Rattle.nofs_history.specs.Meta.{is_bytes}

@@ -5,10 +5,11 @@ use Rattle.std.specs.Prelude.{IfOk, IfErr, OnOk, OnErr, count_by}
 use Rattle.nofs_ptrs.specs.Paths.{slot_limit}
 use Rattle.nofs_disk.specs.declared.Failed.{Failed}
 use Rattle.nofs_disk.specs.Disk.{DiskState, Flushes, StaysButFaults, Rose}
-use Rattle.nofs_model.specs.Cells.{Record, SuperBlock}
+use Rattle.nofs_inode.specs.declared.inode.Record.{Record}
+use Rattle.nofs_super.specs.declared.superblock.SuperBlock.{SuperBlock}
 use Rattle.nofs_inode.specs.declared.inode.FileKind.TheVariants as kind
-use Rattle.nofs_model.specs.Image.{Image, inode, files_in}
-use Rattle.nofs_model.specs.Files.{is_kind}
+use Rattle.nofs_model.specs.Geometry.{Image, inode}
+use Rattle.nofs_model.specs.Files.{files_in, is_kind}
 use Rattle.nofs_history.specs.Refusals.{row}
 use Rattle.nofs_history.specs.Steps.{InRange}
 use Rattle.nofs_history.specs.declared.machine.replies.Refusal.TheVariants as refusal

@@ -7,6 +7,5 @@ pub mod Contract
 pub mod Entries
 pub mod Rows
 pub mod Reads
-pub mod HoleCells
 pub mod InHole
 pub mod Ends

@@ -1,13 +1,14 @@
 -- What Make asks of its parts, and answers.
 use Rattle.std.specs.Prelude.{◌≡◌, ℕ, ◌⊎◌, ◌+◌, ◌-◌, ◌/◌, ◌^◌, ◌<◌, ◌≤◌, ◌||◌, nat_lt, Bool, true, false, List, [], ◌∷◌}
-use Rattle.std.specs.Prelude.{length, Option, Some, IsTrue, Result}
-use Rattle.std.specs.Prelude.{Ok, Err, IfOk, IfErr, OnOk}
+use Rattle.std.specs.Prelude.{length, Option, Some, IsTrue, Result, Ok, Err, IfOk, IfErr, OnOk}
 use Rattle.nofs_dirent.specs.Entries.{entry_limit}
 use Rattle.nofs_bits.specs.Bits.{NoneSet, count_set, is_set}
 use Rattle.nofs_disk.specs.Disk.{DiskState}
 use Rattle.nofs_dirent.specs.Names.{NameOk}
 use Rattle.nofs_inode.specs.InodeRecords.{free_record}
-use Rattle.nofs_model.specs.Cells.{BackLink, FileKind, Record}
+use Rattle.nofs_inode.specs.declared.inode.BackLink.{BackLink}
+use Rattle.nofs_inode.specs.declared.inode.FileKind.{FileKind}
+use Rattle.nofs_inode.specs.declared.inode.Record.{Record}
 use Rattle.nofs_history.specs.Search.{first_of}
 use Rattle.nofs_history.specs.Machine.{link_to}
 use Rattle.nofs_history.specs.World.{World, next_inode}

@@ -1,11 +1,11 @@
 -- The claim of one block, of two and of three, by the books.
 use Rattle.std.proofs.Common.{◌≡◌, ◌≢◌, ℕ, ◌+◌, ◌*◌, ◌^◌, ◌<◌, inl, inr, true, false, eqb, ne_eqb, not, List, length}
-use Rattle.std.proofs.Common.{refl, sym, ap, ◌∙◌, subst, subst₂}
-use Rattle.std.proofs.Common.{arith}
+use Rattle.std.proofs.Common.{refl, sym, ap, ◌∙◌, subst, subst₂, arith}
 use Rattle.std.specs.Prelude.{slice_set}
 use Rattle.nofs_bits.specs.Bits.{is_set}
 use Rattle.nofs_disk.specs.Disk.{DiskState}
-use Rattle.nofs_model.specs.Cells.{Pointer, null}
+use Rattle.nofs_disk.specs.declared.tag.Pointer.{Pointer}
+use Rattle.nofs_disk.specs.Pointer.{null}
 use Rattle.nofs_history.specs.World.{blocks_for}
 use Rattle.nofs_history.specs.Claims.{IsClaim, claimed_blocks, is_claimed, next_stamp}
 use Rattle.nofs_history.specs.declared.machine.history.Claims.{Claims}
@@ -15,8 +15,7 @@ use Rattle.nofs_state.specs.Cores.Invariant.{IsOpen, Past}
 use Rattle.nofs_state.specs.declared.books.maps.Books.{Books}
 use Rattle.nofs_state.proofs.OnBooks.Bits.{set-here, set-length, set-other}
 use Rattle.nofs_files.specs.Puts.{AreThreeFree, AreTwoFree, HasRoom, IsOneFree, one_claim, step_of_put, three_books}
-use Rattle.nofs_files.specs.Puts.{three_claims, two_books}
-use Rattle.nofs_files.specs.Puts.{two_claims}
+use Rattle.nofs_files.specs.Puts.{three_claims, two_books, two_claims}
 use Rattle.nofs_files.specs.declared.puts.put.Put.{Put}
 use Rattle.nofs_files.proofs.OnPuts.Unchanged.{claimed-safe}
 use Rattle.nofs_files.proofs.OnPuts.Claims.{IsTaken, claim-one, claim-three, claim-two}

@@ -1,14 +1,22 @@
 -- What the cells of a Put into a slot without bytes are: that of the content and that of the table.
 use Rattle.std.proofs.Common.{◌≡◌, ◌≢◌, ℕ, ◌<◌, true, false, List, Some, IsTrue, refl, sym, ap, ◌∙◌, subst}
-use Rattle.nofs_ptrs.specs.Paths.{slot_limit}
+use Rattle.nofs_ptrs.specs.Paths.{slot_limit, Path, path_of, slot_of, is_pointer_slot}
 use Rattle.nofs_disk.specs.Disk.{DiskState, cell_at}
 use Rattle.nofs_inode.specs.declared.inode.FileKind.TheVariants.{File}
-use Rattle.nofs_model.specs.Cells.{Cell, Content, Leaf, Pointer, Record, pointer_at, record_of, tag_of}
-use Rattle.nofs_model.specs.Image.{Image, inode, value, value_in, Path, path_of, slot_of, kind_in, tag_for, find}
-use Rattle.nofs_model.specs.Image.{files_in, agreed, is_pointer_slot}
+use Rattle.nofs_disk.specs.declared.tag.Cell.{Cell}
+use Rattle.nofs_disk.specs.declared.tag.Kind.TheVariants.{Content, Leaf}
+use Rattle.nofs_disk.specs.declared.tag.Pointer.{Pointer}
+use Rattle.nofs_inode.specs.declared.inode.Record.{Record}
+use Rattle.nofs_ptrs.specs.Cells.{pointer_at}
+use Rattle.nofs_inode.specs.InodeRecords.{record_of}
+use Rattle.nofs_disk.specs.Tag.{tag_of}
+use Rattle.nofs_model.specs.Geometry.{Image, inode}
+use Rattle.nofs_model.specs.Slots.{value, value_in, kind_in, tag_for, find}
+use Rattle.nofs_model.specs.Files.{files_in, agreed}
 use Rattle.nofs_model.specs.declared.image.path.PathAnswer.{PathAnswer}
 use Rattle.nofs_model.specs.declared.image.path.PathAnswer.TheVariants as answer
-use Rattle.nofs_model.proofs.OnSlots.Paths.{slot_of-path_of, path_of-content}
+use Rattle.nofs_ptrs.specs.PathLaws.{slot_of-path_of}
+use Rattle.nofs_model.proofs.OnSlots.Paths.{path_of-content}
 use Rattle.nofs_history.specs.Meta.{is_bytes}
 use Rattle.nofs_history.specs.Machine.{put_content}
 use Rattle.nofs_state.specs.declared.books.maps.Books.{Books}

@@ -1,7 +1,8 @@
 -- The parts of the claim of a Put: their stamps are new, and they have their homes.
 use Rattle.std.proofs.Common.{◌≡◌, ◌≢◌, ℕ, ◌≤◌, ◌⊎◌, true, List, None, is_some, refl}
-use Rattle.nofs_model.specs.Cells.{Pointer}
-use Rattle.nofs_model.specs.Image.{Files, home_at}
+use Rattle.nofs_disk.specs.declared.tag.Pointer.{Pointer}
+use Rattle.nofs_model.specs.Files.{Files}
+use Rattle.nofs_model.specs.Owners.{home_at}
 use Rattle.nofs_history.specs.World.{World}
 use Rattle.nofs_history.specs.Claims.{IsClaim, claimed_home, next_stamp}
 use Rattle.nofs_history.specs.declared.machine.history.Claims.{Claims}

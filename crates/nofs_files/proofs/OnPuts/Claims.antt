@@ -1,15 +1,16 @@
 -- How many blocks a Put asks for, and what it claims.
 use Rattle.std.proofs.Common.{◌≡◌, ◌≢◌, ℕ, zero, suc, ◌+◌, ◌<◌, ◌⊎◌, inl, inr, Bool, true, false, cond, ltb, List, []}
-use Rattle.std.proofs.Common.{◌∷◌}
-use Rattle.std.proofs.Common.{◌++◌, refl, sym, ap, ◌∙◌, subst, arith, Contains}
-use Rattle.nofs_ptrs.specs.Paths.{slot_limit}
-use Rattle.nofs_model.specs.Cells.{Pointer, null}
-use Rattle.nofs_model.specs.Image.{Image, value, Path, InRecord, Under, path_of, is_pointer_slot, find, pointer}
-use Rattle.nofs_model.specs.Image.{files_in, agreed, Files, NodeState}
-use Rattle.nofs_model.specs.Image.{Absent, Present, Damaged, node_in, IsAbove, IsSlot}
+use Rattle.std.proofs.Common.{◌∷◌, ◌++◌, refl, sym, ap, ◌∙◌, subst, arith, Contains}
+use Rattle.nofs_ptrs.specs.Paths.{slot_limit, Path, InRecord, Under, path_of, is_pointer_slot, IsSlot}
+use Rattle.nofs_disk.specs.declared.tag.Pointer.{Pointer}
+use Rattle.nofs_disk.specs.Pointer.{null}
+use Rattle.nofs_model.specs.Geometry.{Image}
+use Rattle.nofs_model.specs.Slots.{value, find, pointer, IsAbove}
+use Rattle.nofs_model.specs.Files.{files_in, agreed, Files, NodeState, Absent, Present, Damaged, node_in}
 use Rattle.nofs_model.specs.declared.image.path.PathAnswer.TheVariants as answer
 use Rattle.nofs_model.proofs.OnSlots.Find.{find-held}
-use Rattle.nofs_model.proofs.OnSlots.Paths.{above-refl, path_of-slot}
+use Rattle.nofs_model.proofs.OnSlots.Paths.{above-refl}
+use Rattle.nofs_ptrs.specs.PathLaws.{path_of-slot}
 use Rattle.nofs_history.specs.Meta.{is_bytes}
 use Rattle.nofs_history.specs.Machine.{value_of, node_of}
 use Rattle.nofs_history.specs.World.{World, absent_above, blocks_for, is_free_block}
@@ -19,7 +20,7 @@ use Rattle.nofs_history.specs.History.{FilesMatch}
 use Rattle.nofs_history.specs.declared.machine.history.Claims.{Claims}
 use Rattle.nofs_history.specs.declared.machine.steps.Step.TheVariants as step
 use Rattle.nofs_crashlaw.proofs.OnUntouched.Matches.{matched-agreed}
-use Rattle.nofs_crashlaw.proofs.OnFiles.PutFile.{file-in}
+use Rattle.nofs_crashlaw.proofs.OnUntouched.Agreement.{file-in}
 use Rattle.nofs_files.proofs.OnReads.Rows.{value-is}
 use Rattle.nofs_files.proofs.OnPuts.Ways.{IsNew, IsOld}
 use Rattle.nofs_state.proofs.OnBooks.Machine.{agreed-live}

@@ -2,8 +2,12 @@
 use Rattle.std.proofs.Common.{◌≡◌, ℕ, ◌+◌, Bool, true, false, List, length}
 use Rattle.std.proofs.Common.{IsTrue, Result, Ok, Err, refl, sym, ap, ◌∙◌, subst, subst₂}
 use Rattle.nofs_disk.specs.Disk.{DiskState, IsDisk, StaysButFaults}
-use Rattle.nofs_model.specs.Cells.{Cell, Pointer, Record}
-use Rattle.nofs_model.specs.Image.{Image, Path, path_of, agreed, files_in}
+use Rattle.nofs_disk.specs.declared.tag.Cell.{Cell}
+use Rattle.nofs_disk.specs.declared.tag.Pointer.{Pointer}
+use Rattle.nofs_inode.specs.declared.inode.Record.{Record}
+use Rattle.nofs_model.specs.Geometry.{Image}
+use Rattle.nofs_ptrs.specs.Paths.{Path, path_of}
+use Rattle.nofs_model.specs.Files.{agreed, files_in}
 use Rattle.nofs_history.specs.Machine.{gives}
 use Rattle.nofs_history.specs.World.{blocks_for}
 use Rattle.nofs_history.specs.Claims.{IsClaim, claimed_blocks}
@@ -15,9 +19,11 @@ use Rattle.nofs_history.specs.declared.machine.replies.Refusal.{Refusal}
 use Rattle.nofs_history.specs.declared.machine.replies.Refusal.TheVariants as refusal
 use Rattle.nofs_state.specs.Books.Maps.{IsSafe}
 use Rattle.nofs_state.specs.Cores.Invariant.{IsOpen, Past}
-use Rattle.nofs_state.specs.Cores.Steps.{Goes, WritesAlone, WritesSoMany, entry, pointers_written}
+use Rattle.nofs_history.specs.Writes.{WritesSoMany, pointers_written}
+use Rattle.nofs_state.specs.Cores.Steps.{Goes, IsRow, WritesAlone, entry}
 use Rattle.nofs_state.specs.declared.books.maps.Books.{Books}
-use Rattle.nofs_state.specs.Writes.Cells.{HasOneEach, IsApart, Stores, Stored, NotStored}
+use Rattle.nofs_disk.specs.Order.{IsApart}
+use Rattle.nofs_state.specs.Writes.Cells.{Stores, Stored, NotStored}
 use Rattle.nofs_state.specs.Writes.Premises.{RowsPass}
 use Rattle.nofs_state.proofs.OnCores.Done.{goes-done}
 use Rattle.nofs_state.proofs.OnCores.Faults.{goes-fault, stopped_books, stopped_world}
@@ -25,7 +31,7 @@ use Rattle.nofs_state.proofs.OnCores.Unchanged.{Keeping, goes-after, open-back, 
 use Rattle.nofs_state.proofs.OnBooks.Machine.{are-agreed}
 use Rattle.nofs_state.proofs.OnWrites.Tables.{table_block}
 use Rattle.nofs_state.proofs.OnWrites.TwoWrites.{safe-writes, writes-cells}
-use Rattle.nofs_files.proofs.OnPuts.Image.{Climbs, climb-each}
+use Rattle.nofs_files.proofs.OnPuts.Image.{Climbs, climb-once}
 use Rattle.nofs_files.proofs.OnPuts.Mount.{climb-done, climb-proper, climb-numbered}
 use Rattle.nofs_files.proofs.OnReads.Rows.{current-agreed}
 use Rattle.nofs_files.proofs.OnPuts.ClaimParts.{Takes}
@@ -67,14 +73,16 @@ climb-goes d new k l' l i g slot at bytes r r' m way places cells c c2 result is
     l-going : l'.stopped ≡ false
     l-going = ap (λ (b : Books). b.stopped) takes.same ∙ going
 
-    each : IsTrue d.tells → (H : List Entry1) (p : Past) → IsOpen d k H p
-        → HasOneEach (way_writes places cells (table_block i, c2) m way)
-    each tells H p o = let f = facts tells H p o in
-        climb-each d new k l' H p i g slot at bytes r r' m way places cells c c2 is_d tells safe o f.climbs
-        f.needs f.claim takes
-
     count : WritesSoMany (step.Put i g slot at bytes) c (length (way_writes places cells (table_block i, c2) m way))
     count = way-count places cells (table_block i, c2) m way ∙ sym (λ j. 2 + pointers_written (number j) (path j))
+
+    owes : IsTrue d.tells → (H : List Entry1) (p : Past) → IsOpen d k H p
+        → IsRow p.world.files (step.Put i g slot at bytes) c (way_writes places cells (table_block i, c2) m way)
+    owes tells H p o = let f = facts tells H p o in record {
+      once = climb-once d new k l' H p i g slot at bytes r r' m way places cells c c2 is_d tells safe o f.climbs
+          f.needs f.claim takes;
+      exact = count;
+    }
 
     go : Stores d l' new l (way_writes places cells (table_block i, c2) m way) result
         → Goes d k new l (step.Put i g slot at bytes) c (put_answer result)
@@ -87,7 +95,7 @@ climb-goes d new k l' l i g slot at bytes r r' m way places cells c c2 result is
         (safe-writes d new l' (way_writes places cells (table_block i, c2) m way)
         (Ok tt) l'.stopped writes apart claimed) refl writes.adds.disk
         writes.adds.past writes.later
-        (WritesAlone refl (writes-cells k (step.Put i g slot at bytes) c writes count each)) safe
+        (WritesAlone refl (writes-cells k (step.Put i g slot at bytes) c writes count owes)) safe
         (λ tells H p o. let f = facts tells H p o in
         climb-done d new k l' H p i g slot at bytes r r' m way places cells c c2 is_d tells safe o f.climbs f.needs
         f.claim takes writes (pass tells H p o)))
@@ -96,7 +104,7 @@ climb-goes d new k l' l i g slot at bytes r r' m way places cells c c2 result is
         (sym same) (sym e)
         (goes-fault d new k (stopped_books l')
         (step.Put i g slot at bytes) c is_d going l-at l-history refl writes.adds.disk writes.adds.past writes.cause
-        writes.later (WritesAlone refl (writes-cells k (step.Put i g slot at bytes) c writes count each)) safe
+        writes.later (WritesAlone refl (writes-cells k (step.Put i g slot at bytes) c writes count owes)) safe
         (safe-writes d new l' (way_writes places cells (table_block i, c2) m way) (Err x) true writes apart claimed)
         (λ tells H p o. let f = facts tells H p o in
         climb-numbered d new k l' H p i g slot at bytes r r' m way places cells c c2 is_d tells safe o f.climbs

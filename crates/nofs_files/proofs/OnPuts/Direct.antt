@@ -1,20 +1,23 @@
 -- A Put in place, and one into a direct slot, are ways with no new slot and with one.
 use Rattle.std.proofs.Common.{◌≡◌, ◌≢◌, ℕ, ◌+◌, ◌*◌, ◌<◌, max, inl, inr, Bool, true, false, cond, eqb, ltb, List, []}
-use Rattle.std.proofs.Common.{◌∷◌, length, get_or, Some, IsTrue, Result}
-use Rattle.std.proofs.Common.{refl, sym, ap, ◌∙◌, subst, arith}
+use Rattle.std.proofs.Common.{◌∷◌, length, get_or, Some, IsTrue, Result, refl, sym, ap, ◌∙◌, subst, arith}
 use Rattle.std.proofs.lemmas.Bool.Decides.{nat_tests}
 use Rattle.std.proofs.lemmas.List.{get_or-set_same, get_or-set_other}
 use Rattle.std.specs.Prelude.{slice_set}
-use Rattle.nofs_ptrs.specs.Paths.{slot_limit}
+use Rattle.nofs_ptrs.specs.Paths.{slot_limit, Path, InRecord, Under, path_of}
 use Rattle.nofs_disk.specs.Disk.{DiskState, IsDisk, StaysButFaults, cell_at}
-use Rattle.nofs_model.specs.Cells.{Cell, Pointer, Record, null, tag_of}
-use Rattle.nofs_model.specs.Image.{Image, value_in, Path, InRecord, Under, path_of, tag_for, find, pointer}
-use Rattle.nofs_model.specs.Image.{record_pointer, IsAbove}
+use Rattle.nofs_disk.specs.declared.tag.Cell.{Cell}
+use Rattle.nofs_disk.specs.declared.tag.Pointer.{Pointer}
+use Rattle.nofs_inode.specs.declared.inode.Record.{Record}
+use Rattle.nofs_disk.specs.Pointer.{null}
+use Rattle.nofs_disk.specs.Tag.{tag_of}
+use Rattle.nofs_model.specs.Geometry.{Image}
+use Rattle.nofs_model.specs.Slots.{value_in, tag_for, find, pointer, record_pointer, IsAbove}
 use Rattle.nofs_model.specs.declared.image.path.PathAnswer.{PathAnswer}
 use Rattle.nofs_model.specs.declared.image.path.PathAnswer.TheVariants as answer
 use Rattle.nofs_model.specs.declared.image.value.Value.{Value}
 use Rattle.nofs_model.specs.declared.image.value.Value.TheVariants.{Bytes}
-use Rattle.nofs_model.proofs.OnSlots.Paths.{path-direct}
+use Rattle.nofs_ptrs.specs.PathLaws.{path-direct}
 use Rattle.nofs_history.specs.Machine.{put_content, same_path, value_of}
 use Rattle.nofs_history.specs.Meta.{is_bytes}
 use Rattle.nofs_history.specs.World.{World, blocks_for}
@@ -26,7 +29,8 @@ use Rattle.nofs_crashlaw.proofs.OnFiles.Growth.{same_path-true, same_path-refl}
 use Rattle.nofs_state.specs.Writes.Premises.{RowsPass}
 use Rattle.nofs_state.specs.Cores.Steps.{Goes}
 use Rattle.nofs_state.specs.declared.books.maps.Books.{Books}
-use Rattle.nofs_state.specs.Writes.Cells.{IsApart, Stores}
+use Rattle.nofs_disk.specs.Order.{IsApart}
+use Rattle.nofs_state.specs.Writes.Cells.{Stores}
 use Rattle.nofs_state.proofs.OnBooks.Machine.{are-agreed}
 use Rattle.nofs_state.proofs.OnCores.Replies.{open-files}
 use Rattle.nofs_state.proofs.OnWrites.Tables.{table_block}

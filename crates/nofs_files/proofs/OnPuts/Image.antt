@@ -2,18 +2,26 @@
 use Rattle.std.proofs.Common.{◌≡◌, ◌≢◌, ℕ, ◌+◌, ◌*◌, ◌/◌, ◌<◌, ◌≤◌, ◌⊎◌, max, inl, inr, true, false, eqb}
 use Rattle.std.proofs.Common.{eq-eqb, leb, ltb, leb-true, ltb-true, not, List, length, Some, IsTrue}
 use Rattle.std.proofs.Common.{refl, sym, ap, ◌∙◌, subst, arith}
-use Rattle.nofs_ptrs.specs.Paths.{slot_limit}
+use Rattle.nofs_ptrs.specs.Paths.{slot_limit, Path, InRecord, Under, path_of, IsSlot}
 use Rattle.nofs_disk.specs.Disk.{DiskState, IsDisk, cell_at}
 use Rattle.nofs_super.specs.Geometry.{IsGeometry}
 use Rattle.nofs_inode.specs.declared.inode.FileKind.TheVariants.{File}
-use Rattle.nofs_model.specs.Cells.{Cell, Pointer, Record, Tag, is_null, pointer_at, tag_of, is_live}
-use Rattle.nofs_model.specs.Image.{Image, super_at, file_from, value, is_data_block, inode, Path, InRecord, Under}
-use Rattle.nofs_model.specs.Image.{path_of, tag_for}
-use Rattle.nofs_model.specs.Image.{find, record_pointer, files_in, agreed, is_folder, IsAbove, IsSlot, IsFree}
-use Rattle.nofs_model.specs.Image.{IsBelow}
+use Rattle.nofs_disk.specs.declared.tag.Cell.{Cell}
+use Rattle.nofs_disk.specs.declared.tag.Pointer.{Pointer}
+use Rattle.nofs_inode.specs.declared.inode.Record.{Record}
+use Rattle.nofs_disk.specs.declared.tag.Tag.{Tag}
+use Rattle.nofs_disk.specs.Pointer.{is_null}
+use Rattle.nofs_ptrs.specs.Cells.{pointer_at}
+use Rattle.nofs_disk.specs.Tag.{tag_of}
+use Rattle.nofs_inode.specs.InodeRecords.{is_live}
+use Rattle.nofs_model.specs.Geometry.{Image, super_at, is_data_block, inode}
+use Rattle.nofs_model.specs.Files.{file_from, files_in, agreed, is_folder}
+use Rattle.nofs_model.specs.Slots.{value, tag_for, find, record_pointer, IsAbove}
+use Rattle.nofs_model.specs.Owners.{IsFree}
+use Rattle.nofs_model.specs.Sound.{IsBelow}
 use Rattle.nofs_model.specs.declared.image.path.PathAnswer.TheVariants as answer
 use Rattle.nofs_model.proofs.OnSlots.Find.{and-both, find-held}
-use Rattle.nofs_model.proofs.OnSlots.Paths.{path_of-slot, path_of-slot_of}
+use Rattle.nofs_ptrs.specs.PathLaws.{path_of-slot, path_of-slot_of}
 use Rattle.nofs_model.proofs.OnSlots.Paths.{above-slot}
 use Rattle.nofs_model.proofs.OnSound.Writes.{mountable-law}
 use Rattle.nofs_history.specs.Machine.{put_content}
@@ -31,14 +39,13 @@ use Rattle.nofs_crashlaw.specs.Maps.Moves.{IsClaimed}
 use Rattle.nofs_crashlaw.proofs.OnMaps.Fresh.{law-old}
 use Rattle.nofs_crashlaw.proofs.OnMaps.Good.{law-claims}
 use Rattle.nofs_crashlaw.proofs.OnMaps.Homes.{law-good}
-use Rattle.nofs_crashlaw.proofs.OnFiles.PutFile.{file-in}
+use Rattle.nofs_crashlaw.proofs.OnUntouched.Agreement.{file-in}
 use Rattle.nofs_crashlaw.specs.Numbers.Cells.{OldNumbers, table_tag}
 use Rattle.nofs_crashlaw.proofs.OnNumbers.Files.{listed, tag-same}
 use Rattle.nofs_state.specs.Books.Maps.{IsSafe}
 use Rattle.nofs_state.specs.Cores.Invariant.{IsOpen, Past}
 use Rattle.nofs_state.specs.declared.books.maps.Books.{Books}
-use Rattle.nofs_state.specs.Writes.Cells.{HasOneEach, image_after}
-use Rattle.nofs_state.proofs.OnWrites.TwoWrites.{one-each}
+use Rattle.nofs_disk.specs.Order.{WritesOnce, image_after}
 use Rattle.nofs_history.specs.Good.{MatchesSuper}
 use Rattle.nofs_state.proofs.OnCores.Replies.{open-files}
 use Rattle.nofs_state.proofs.OnBooks.Machine.{agreed-live, world-numbers}
@@ -47,7 +54,7 @@ use Rattle.nofs_files.proofs.OnPuts.ClaimParts.{Takes, stamp-new}
 use Rattle.nofs_files.proofs.OnPuts.Ways.{IsNew, IsOld, IsChanged, way_writes, new-or-old, new-above, old-above}
 use Rattle.nofs_files.proofs.OnPuts.Ways.{changed-is, new-changed}
 use Rattle.nofs_files.proofs.OnPuts.Ways.{meets, one-is, changed-one, table-one}
-use Rattle.nofs_files.proofs.OnPuts.Ways.{written-apart, written-here}
+use Rattle.nofs_files.proofs.OnPuts.Ways.{written-apart, written-here, way-once}
 
 -- the file of a Put with the way to its slot, and the cell of the table with the new record
 pub record IsPutFile (X : Image) (i g slot : ℕ) (r r' : Record) (way : Path) (c2 : Cell) : Type 0 where
@@ -230,13 +237,10 @@ module _ (old new : DiskState) (k l : Books) (H : List Entry1) (p : Past) (i g s
         | inr (a, qa, ea, ec) ↦ absurd (off-table (places a).block (area a (changed-above a qa)) (sym ea))
       ]) (inl (table-one places cells (table_block i, c2) m way))
 
-  -- each block gets one cell
-  pub climb-each : HasOneEach (way_writes places cells (table_block i, c2) m way)
-  climb-each = one-each (way_writes places cells (table_block i, c2) m way) Y
-      (λ b q one. elim (one-is places cells (table_block i, c2) m way b q one) [
-        | inl e ↦ e.1 ∙ sym table-here ∙ ap (cell_at Y) (sym e.0)
-        | inr (a, u, eb, ec) ↦ ec ∙ sym (cell-here a u) ∙ ap (cell_at Y) (sym eb)
-      ])
+  pub climb-once : WritesOnce (way_writes places cells (table_block i, c2) m way)
+  climb-once = way-once places cells (table_block i, c2) m way
+      (λ a b u v e. same-place a b (changed-above a u) (changed-above b v) e)
+      (λ a u. off-table (places a).block (area a (changed-above a u)))
 
   pub super-stays : cell_at Y 0 ≡ cell_at X 0
   super-stays = low-stays 0 (omega arith) (λ e. omega (arith, e))

@@ -1,10 +1,13 @@
 -- How many blocks a Put asks for, by what is missing above its slot.
 use Rattle.std.proofs.Common.{◌≡◌, ℕ, suc, ◌<◌, inl, inr, IsTrue, refl, sym, ◌∙◌, subst}
 use Rattle.nofs_disk.specs.Disk.{DiskState, IsDisk}
-use Rattle.nofs_model.specs.Cells.{Pointer, Record}
-use Rattle.nofs_model.specs.Image.{Path, InRecord, Under, path_of, find, pointer, IsAbove}
+use Rattle.nofs_disk.specs.declared.tag.Pointer.{Pointer}
+use Rattle.nofs_inode.specs.declared.inode.Record.{Record}
+use Rattle.nofs_ptrs.specs.Paths.{Path, InRecord, Under, path_of}
+use Rattle.nofs_model.specs.Slots.{find, pointer, IsAbove}
 use Rattle.nofs_model.specs.declared.image.path.PathAnswer.TheVariants as answer
-use Rattle.nofs_model.proofs.OnSlots.Paths.{above-refl, below-null, path-direct}
+use Rattle.nofs_model.proofs.OnSlots.Paths.{above-refl, below-null}
+use Rattle.nofs_ptrs.specs.PathLaws.{path-direct}
 use Rattle.nofs_agree.specs.declared.reads.LastRead.{LastRead}
 use Rattle.nofs_state.specs.declared.books.maps.Books.{Books}
 use Rattle.nofs_state.proofs.OnBooks.Machine.{are-agreed}

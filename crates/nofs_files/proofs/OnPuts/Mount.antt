@@ -6,9 +6,14 @@ use Rattle.nofs_agree.specs.Chain.{known_agreement}
 use Rattle.nofs_disk.specs.Disk.{DiskState, IsDisk, cell_at}
 use Rattle.nofs_disk.specs.Adds.{Adds}
 use Rattle.nofs_bits.specs.Bits.{is_set}
-use Rattle.nofs_model.specs.Cells.{Cell, Pointer, Record, SuperBlock}
-use Rattle.nofs_model.specs.Image.{Image, inode, Path}
-use Rattle.nofs_model.specs.Image.{is_special, is_folder, Home}
+use Rattle.nofs_disk.specs.declared.tag.Cell.{Cell}
+use Rattle.nofs_disk.specs.declared.tag.Pointer.{Pointer}
+use Rattle.nofs_inode.specs.declared.inode.Record.{Record}
+use Rattle.nofs_super.specs.declared.superblock.SuperBlock.{SuperBlock}
+use Rattle.nofs_model.specs.Geometry.{Image, inode}
+use Rattle.nofs_ptrs.specs.Paths.{Path}
+use Rattle.nofs_model.specs.Files.{is_special, is_folder}
+use Rattle.nofs_model.specs.Owners.{Home}
 use Rattle.nofs_model.specs.declared.image.path.PathAnswer.TheVariants as answer
 use Rattle.nofs_crashlaw.specs.Images.Proper.{Proper}
 use Rattle.nofs_crashlaw.specs.Images.Moments.{during}
@@ -19,7 +24,8 @@ use Rattle.nofs_history.specs.Machine.{Given, gives, given_by, put_given, files_
 use Rattle.nofs_history.specs.World.{World, is_fixed, blocks_for, uses_inode, uses_block}
 use Rattle.nofs_history.specs.Claims.{claimed_home, next_stamp, has_block, homes_after, IsClaim}
 use Rattle.nofs_history.specs.Refusals.{rows}
-use Rattle.nofs_history.specs.History.{FilesMatch, agreed_files, files_along}
+use Rattle.nofs_history.specs.History.{FilesMatch}
+use Rattle.nofs_history.specs.Since.{agreed_files, files_along}
 use Rattle.nofs_history.specs.Next.{Learns}
 use Rattle.nofs_history.specs.declared.machine.history.Claims.{Claims}
 use Rattle.nofs_history.specs.declared.machine.history.Entry1.{Entry1}
@@ -37,7 +43,8 @@ use Rattle.nofs_crashlaw.specs.Histories.Stage.{AddsProper}
 use Rattle.nofs_state.specs.Books.Maps.{IsSafe, Says, knows_block, knows_inode}
 use Rattle.nofs_state.specs.Cores.Invariant.{IsOpen, Past}
 use Rattle.nofs_state.specs.declared.books.maps.Books.{Books}
-use Rattle.nofs_state.specs.Writes.Cells.{OneOf, WritesAll}
+use Rattle.nofs_disk.specs.Order.{OneOf}
+use Rattle.nofs_state.specs.Writes.Cells.{WritesAll}
 use Rattle.nofs_state.proofs.OnCores.Done.{IsDone, Adds-map, after_world}
 use Rattle.nofs_state.proofs.OnWrites.Numbered.{AddsNumbered}
 use Rattle.nofs_state.proofs.OnCores.Replies.{home-has}

@@ -1,10 +1,15 @@
 -- A Put below a block of pointers that holds: one block is claimed, its pointer is written, and the record.
 use Rattle.std.proofs.Common.{◌≡◌, ℕ, ◌+◌, ◌*◌, max, inl, inr, Bool, true, false, cond, List, [], ◌∷◌, length, Some}
-use Rattle.std.proofs.Common.{IsTrue, Result, refl, sym, ap}
-use Rattle.std.proofs.Common.{◌∙◌, subst, subst₂, arith}
+use Rattle.std.proofs.Common.{IsTrue, Result, refl, sym, ap, ◌∙◌, subst, subst₂, arith}
 use Rattle.nofs_disk.specs.Disk.{DiskState, IsDisk, StaysButFaults, cell_at}
-use Rattle.nofs_model.specs.Cells.{Cell, Pointer, Record, pointer_at, tag_of}
-use Rattle.nofs_model.specs.Image.{Image, Path, InRecord, Under, tag_for, find, pointer, IsAbove}
+use Rattle.nofs_disk.specs.declared.tag.Cell.{Cell}
+use Rattle.nofs_disk.specs.declared.tag.Pointer.{Pointer}
+use Rattle.nofs_inode.specs.declared.inode.Record.{Record}
+use Rattle.nofs_ptrs.specs.Cells.{pointer_at}
+use Rattle.nofs_disk.specs.Tag.{tag_of}
+use Rattle.nofs_model.specs.Geometry.{Image}
+use Rattle.nofs_ptrs.specs.Paths.{Path, InRecord, Under}
+use Rattle.nofs_model.specs.Slots.{tag_for, find, pointer, IsAbove}
 use Rattle.nofs_model.specs.declared.image.path.PathAnswer.TheVariants as answer
 use Rattle.nofs_model.proofs.OnSlots.Paths.{above-refl}
 use Rattle.nofs_history.specs.Machine.{same_path}
@@ -15,7 +20,8 @@ use Rattle.nofs_crashlaw.specs.Maps.Moves.{IsClaimed}
 use Rattle.nofs_agree.proofs.OnChain.{told-on}
 use Rattle.nofs_state.specs.Cores.Steps.{Goes}
 use Rattle.nofs_state.specs.declared.books.maps.Books.{Books}
-use Rattle.nofs_state.specs.Writes.Cells.{IsApart, Stores}
+use Rattle.nofs_disk.specs.Order.{IsApart}
+use Rattle.nofs_state.specs.Writes.Cells.{Stores}
 use Rattle.nofs_state.proofs.OnWrites.Tables.{table_block}
 use Rattle.nofs_files.proofs.OnPuts.Image.{Climbs}
 use Rattle.nofs_files.proofs.OnPuts.Claims.{above-held}

@@ -1,10 +1,16 @@
 -- A Put that claims blocks of pointers too: a leaf, a child, or a child and the top.
 use Rattle.std.proofs.Common.{◌≡◌, ◌≢◌, ℕ, ◌+◌, ◌*◌, ◌<◌, ◌⊎◌, max, inl, inr, true, false, eqb, ne_eqb, List, [], ◌∷◌}
-use Rattle.std.proofs.Common.{length, Some, IsTrue, Result}
-use Rattle.std.proofs.Common.{refl, sym, ap, ◌∙◌, subst, arith}
+use Rattle.std.proofs.Common.{length, Some, IsTrue, Result, refl, sym, ap, ◌∙◌, subst, arith}
 use Rattle.nofs_disk.specs.Disk.{DiskState, IsDisk, StaysButFaults, cell_at}
-use Rattle.nofs_model.specs.Cells.{Cell, Pointer, Record, is_null, pointer_at, tag_of}
-use Rattle.nofs_model.specs.Image.{Image, Path, InRecord, Under, find, inode, is_pointer_slot, record_pointer, tag_for}
+use Rattle.nofs_disk.specs.declared.tag.Cell.{Cell}
+use Rattle.nofs_disk.specs.declared.tag.Pointer.{Pointer}
+use Rattle.nofs_inode.specs.declared.inode.Record.{Record}
+use Rattle.nofs_disk.specs.Pointer.{is_null}
+use Rattle.nofs_ptrs.specs.Cells.{pointer_at}
+use Rattle.nofs_disk.specs.Tag.{tag_of}
+use Rattle.nofs_model.specs.Geometry.{Image, inode}
+use Rattle.nofs_ptrs.specs.Paths.{Path, InRecord, Under, is_pointer_slot}
+use Rattle.nofs_model.specs.Slots.{find, record_pointer, tag_for}
 use Rattle.nofs_model.specs.declared.image.path.PathAnswer.TheVariants as answer
 use Rattle.nofs_history.specs.Claims.{is_claimed}
 use Rattle.nofs_history.specs.declared.machine.history.Claims.{Claims}
@@ -17,8 +23,7 @@ use Rattle.nofs_state.proofs.OnWrites.Tables.{table_block}
 use Rattle.nofs_files.proofs.OnPuts.Image.{Climbs}
 use Rattle.nofs_files.proofs.OnPuts.Ways.{IsNew, IsOld, each-new, each-next}
 use Rattle.nofs_files.specs.Puts.{HasRoom, HeldAt, IsContent, IsFar, IsHole, IsRecordCell, IsUnder, OnePointer}
-use Rattle.nofs_files.specs.Puts.{put_answer, rooted, size_after}
-use Rattle.nofs_files.specs.Puts.{sized, step_of_put}
+use Rattle.nofs_files.specs.Puts.{put_answer, rooted, size_after, sized, step_of_put}
 use Rattle.nofs_files.specs.declared.puts.put.Put.{Put}
 use Rattle.nofs_files.proofs.OnPuts.Contract.{asked-ends}
 use Rattle.nofs_files.proofs.OnPuts.Cells.{ContentFacts, OtherPointer, content-facts, holds-nothing, new-tag}

@@ -4,9 +4,17 @@ use Rattle.std.proofs.Common.{eq-eqb, leb, ltb, ◌&&◌, not, List, [], ◌∷�
 use Rattle.std.proofs.Common.{refl, sym, ap, ◌∙◌, subst, subst₂, arith}
 use Rattle.nofs_disk.specs.Disk.{DiskState, IsDisk, Picks, cell_at}
 use Rattle.nofs_inode.specs.declared.inode.FileKind.TheVariants.{File}
-use Rattle.nofs_model.specs.Cells.{Cell, Pointer, Record, SuperBlock, tag_of, is_live}
-use Rattle.nofs_model.specs.Image.{Image, super_at, value, is_data_block, inode, Path, InRecord, Under, tag_for}
-use Rattle.nofs_model.specs.Image.{pointer, record_pointer, Files, is_folder, IsAbove, IsSlot, IsFree}
+use Rattle.nofs_disk.specs.declared.tag.Cell.{Cell}
+use Rattle.nofs_disk.specs.declared.tag.Pointer.{Pointer}
+use Rattle.nofs_inode.specs.declared.inode.Record.{Record}
+use Rattle.nofs_super.specs.declared.superblock.SuperBlock.{SuperBlock}
+use Rattle.nofs_disk.specs.Tag.{tag_of}
+use Rattle.nofs_inode.specs.InodeRecords.{is_live}
+use Rattle.nofs_model.specs.Geometry.{Image, super_at, is_data_block, inode}
+use Rattle.nofs_model.specs.Slots.{value, tag_for, pointer, record_pointer, IsAbove}
+use Rattle.nofs_ptrs.specs.Paths.{Path, InRecord, Under, IsSlot}
+use Rattle.nofs_model.specs.Files.{Files, is_folder}
+use Rattle.nofs_model.specs.Owners.{IsFree}
 use Rattle.nofs_model.specs.declared.image.value.Value.TheVariants.{Bytes}
 use Rattle.nofs_model.proofs.OnSlots.Paths.{above-refl, above-up}
 use Rattle.nofs_model.proofs.OnSound.Writes.{supers}
@@ -16,11 +24,12 @@ use Rattle.nofs_crashlaw.specs.Images.Reasons.{ReadsSince}
 use Rattle.nofs_crashlaw.proofs.OnImages.Moments.{law-images}
 use Rattle.nofs_history.specs.Steady.{SteadyRest}
 use Rattle.nofs_history.specs.Meta.{meta_of, Is}
-use Rattle.nofs_history.specs.Marks.{Mark}
+use Rattle.nofs_history.specs.Marks.{Mark, mark_at}
 use Rattle.nofs_history.specs.Machine.{gives, given_by, put_given, put_content, files_after}
 use Rattle.nofs_history.specs.World.{World, blocks_for}
 use Rattle.nofs_history.specs.Claims.{next_stamp, IsClaim}
-use Rattle.nofs_history.specs.History.{FilesMatch, agreed_files, files_along, mark_at}
+use Rattle.nofs_history.specs.History.{FilesMatch}
+use Rattle.nofs_history.specs.Since.{agreed_files, files_along}
 use Rattle.nofs_history.specs.declared.machine.history.Claims.{Claims}
 use Rattle.nofs_history.specs.declared.machine.history.Entry1.{Entry1}
 use Rattle.nofs_history.specs.declared.machine.steps.Step.TheVariants as step
@@ -34,15 +43,14 @@ use Rattle.nofs_crashlaw.proofs.OnFiles.Writes.{law-content, law-pointer-block, 
 use Rattle.nofs_state.specs.Books.Maps.{IsSafe}
 use Rattle.nofs_state.specs.Cores.Invariant.{IsOpen, Past}
 use Rattle.nofs_state.specs.declared.books.maps.Books.{Books}
-use Rattle.nofs_state.specs.Writes.Cells.{OneOf}
+use Rattle.nofs_disk.specs.Order.{OneOf}
 use Rattle.nofs_crashlaw.proofs.OnHistories.Entries.{now-picks}
 use Rattle.nofs_crashlaw.proofs.OnHistories.Resting.{law-rest}
 use Rattle.nofs_state.proofs.OnWrites.Tables.{table_block, table-records}
 use Rattle.nofs_files.proofs.OnPuts.Unchanged.{file-stays, not-leb}
 use Rattle.nofs_files.proofs.OnPuts.ClaimParts.{Takes}
 use Rattle.nofs_files.proofs.OnPuts.Ways.{IsNew, IsOld, IsChanged, way_writes, new-or-old, new-above}
-use Rattle.nofs_files.proofs.OnPuts.Ways.{old-up, changed-is}
-use Rattle.nofs_files.proofs.OnPuts.Ways.{way-changed, one-is}
+use Rattle.nofs_files.proofs.OnPuts.Ways.{old-up, changed-is, way-changed, one-is}
 use Rattle.nofs_files.proofs.OnPuts.Image.{Climbs}
 use Rattle.nofs_files.proofs.OnPuts.Image as image
 use Rattle.nofs_files.proofs.OnPuts.Slots as slots

@@ -9,8 +9,8 @@ use Rattle.nofs_bits.specs.Bits.{count_set}
 use Rattle.nofs_ptrs.specs.Paths.{slot_limit}
 use Rattle.nofs_disk.specs.Disk.{DiskState, IsDisk, StaysButFaults, Rose}
 use Rattle.nofs_disk.specs.Chains.{Rose-within, StaysButFaults-refl, StaysButFaults-trans}
-use Rattle.nofs_model.specs.Cells.{Record}
-use Rattle.nofs_model.specs.Image.{value}
+use Rattle.nofs_inode.specs.declared.inode.Record.{Record}
+use Rattle.nofs_model.specs.Slots.{value}
 use Rattle.nofs_history.specs.Meta.{is_bytes}
 use Rattle.nofs_history.specs.World.{blocks_for, free_blocks}
 use Rattle.nofs_history.specs.Claims.{no_claims}

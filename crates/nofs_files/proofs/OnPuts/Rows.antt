@@ -8,9 +8,12 @@ use Rattle.nofs_disk.specs.Disk.{DiskState, IsDisk, StaysButFaults}
 use Rattle.nofs_disk.specs.Chains.{StaysButFaults-refl, StaysButFaults-trans, Rose-within}
 use Rattle.nofs_disk.specs.declared.Failed.{Failed}
 use Rattle.nofs_inode.specs.declared.inode.FileKind.TheVariants.{Directory}
-use Rattle.nofs_model.specs.Cells.{Pointer, Record}
-use Rattle.nofs_model.specs.Image.{Image, inode, path_of, find, value_in, agreed, files_in}
-use Rattle.nofs_model.specs.Files.{is_kind}
+use Rattle.nofs_disk.specs.declared.tag.Pointer.{Pointer}
+use Rattle.nofs_inode.specs.declared.inode.Record.{Record}
+use Rattle.nofs_model.specs.Geometry.{Image, inode}
+use Rattle.nofs_ptrs.specs.Paths.{path_of}
+use Rattle.nofs_model.specs.Slots.{find, value_in}
+use Rattle.nofs_model.specs.Files.{agreed, files_in, is_kind}
 use Rattle.nofs_model.specs.declared.image.path.PathAnswer.{PathAnswer}
 use Rattle.nofs_model.specs.declared.image.path.PathAnswer.TheVariants as answer
 use Rattle.nofs_history.specs.Search.{first_of}
@@ -32,7 +35,7 @@ use Rattle.nofs_agree.specs.Path.{FindsSlot}
 use Rattle.nofs_agree.specs.declared.reads.LastRead.{LastRead}
 use Rattle.nofs_agree.proofs.OnChain.{told-on, record-of}
 use Rattle.nofs_crashlaw.proofs.OnUntouched.Matches.{matched-agreed}
-use Rattle.nofs_crashlaw.proofs.OnFiles.PutFile.{file-in}
+use Rattle.nofs_crashlaw.proofs.OnUntouched.Agreement.{file-in}
 use Rattle.nofs_state.specs.Books.Maps.{IsSafe}
 use Rattle.nofs_state.specs.Cores.Invariant.{IsOpen, Past}
 use Rattle.nofs_state.specs.Cores.Steps.{Goes}
@@ -47,7 +50,7 @@ use Rattle.nofs_files.specs.Puts.{RowsReach, is_bad_range, is_past_end, is_lost_
 use Rattle.nofs_files.proofs.OnPuts.LostBlocks.{held-sound}
 use Rattle.nofs_files.proofs.OnReads.Rows.{current-agreed, folder-is, goes-unfiled, large-none, large-some}
 use Rattle.nofs_files.proofs.OnReads.Rows.{slots-most, value-is}
-use Rattle.nofs_model.proofs.OnSlots.Paths.{path_of-slot}
+use Rattle.nofs_ptrs.specs.PathLaws.{path_of-slot}
 
 skip2 : (a b : Option Refusal) (os : List (Option Refusal)) → a ≡ None → b ≡ None → first_of (a ∷ b ∷ os) ≡ first_of os
 skip2 a b os ea eb = rw (ea, eb) refl

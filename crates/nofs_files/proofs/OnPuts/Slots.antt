@@ -1,16 +1,24 @@
 -- A Put at any depth: the slots of its way and those beside it, and the numbers that it writes.
 use Rattle.std.proofs.Common.{◌≡◌, ◌≢◌, ℕ, ◌+◌, ◌*◌, ◌/◌, ◌<◌, ◌⊎◌, max, inl, inr, true, false, eqb}
-use Rattle.std.proofs.Common.{leb, ltb, ◌&&◌, not, List, length, Some, IsTrue}
-use Rattle.std.proofs.Common.{refl, sym, ap, ◌∙◌, subst, subst₂}
-use Rattle.nofs_ptrs.specs.Paths.{slot_limit}
+use Rattle.std.proofs.Common.{leb, ltb, ◌&&◌, not, List, length, Some, IsTrue, refl, sym, ap, ◌∙◌, subst, subst₂}
+use Rattle.nofs_ptrs.specs.Paths.{slot_limit, Path, InRecord, Under, path_of, is_pointer_slot, IsSlot}
 use Rattle.nofs_disk.specs.Disk.{DiskState, IsDisk, cell_at}
-use Rattle.nofs_model.specs.Cells.{Cell, Pointer, Record, SuperBlock, is_null, pointer_at, tag_of, is_live}
-use Rattle.nofs_model.specs.Image.{Image, value, is_data_block, inode, Path, InRecord, Under, path_of, is_pointer_slot}
-use Rattle.nofs_model.specs.Image.{tag_for}
-use Rattle.nofs_model.specs.Image.{find, pointer, record_pointer, is_folder, IsAbove, IsSlot, IsFree}
+use Rattle.nofs_disk.specs.declared.tag.Cell.{Cell}
+use Rattle.nofs_disk.specs.declared.tag.Pointer.{Pointer}
+use Rattle.nofs_inode.specs.declared.inode.Record.{Record}
+use Rattle.nofs_super.specs.declared.superblock.SuperBlock.{SuperBlock}
+use Rattle.nofs_disk.specs.Pointer.{is_null}
+use Rattle.nofs_ptrs.specs.Cells.{pointer_at}
+use Rattle.nofs_disk.specs.Tag.{tag_of}
+use Rattle.nofs_inode.specs.InodeRecords.{is_live}
+use Rattle.nofs_model.specs.Geometry.{Image, is_data_block, inode}
+use Rattle.nofs_model.specs.Slots.{value, tag_for, find, pointer, record_pointer, IsAbove}
+use Rattle.nofs_model.specs.Files.{is_folder}
+use Rattle.nofs_model.specs.Owners.{IsFree}
 use Rattle.nofs_model.specs.declared.image.path.PathAnswer.TheVariants as answer
 use Rattle.nofs_model.proofs.OnSlots.Find.{find-held}
-use Rattle.nofs_model.proofs.OnSlots.Paths.{path_of-slot_of, path_of-content}
+use Rattle.nofs_ptrs.specs.PathLaws.{path_of-slot_of}
+use Rattle.nofs_model.proofs.OnSlots.Paths.{path_of-content}
 use Rattle.nofs_model.proofs.OnSound.Writes.{supers}
 use Rattle.nofs_history.specs.Machine.{put_given, put_content, files_after}
 use Rattle.nofs_history.specs.World.{World, blocks_for}
@@ -33,12 +41,11 @@ use Rattle.nofs_crashlaw.proofs.OnNumbers.Tables.{law-table-numbers}
 use Rattle.nofs_state.specs.Books.Maps.{IsSafe}
 use Rattle.nofs_state.specs.Cores.Invariant.{IsOpen, Past}
 use Rattle.nofs_state.specs.declared.books.maps.Books.{Books}
-use Rattle.nofs_state.specs.Writes.Cells.{OneOf}
+use Rattle.nofs_disk.specs.Order.{OneOf}
 use Rattle.nofs_state.proofs.OnWrites.Tables.{table_block, table-records}
 use Rattle.nofs_files.proofs.OnPuts.ClaimParts.{Takes}
 use Rattle.nofs_files.proofs.OnPuts.Ways.{IsNew, IsOld, IsChanged, way_writes, new-or-old, new-above, old-above}
-use Rattle.nofs_files.proofs.OnPuts.Ways.{old-up, old-ends, changed-is}
-use Rattle.nofs_files.proofs.OnPuts.Ways.{way-changed, up-changed, step-down, one-is}
+use Rattle.nofs_files.proofs.OnPuts.Ways.{old-up, old-ends, changed-is, way-changed, up-changed, step-down, one-is}
 use Rattle.nofs_files.proofs.OnPuts.Image.{Climbs}
 use Rattle.nofs_files.proofs.OnPuts.Image as image
 

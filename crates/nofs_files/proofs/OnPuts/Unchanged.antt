@@ -1,17 +1,16 @@
 -- What stays over a Put.
 use Rattle.std.proofs.Common.{◌≡◌, ℕ, ◌<◌, inl, inr, Bool, true, false, cond, eqb, leb, ltb, ◌&&◌, List, Option, Some}
-use Rattle.std.proofs.Common.{None, unwrap_or, refl, sym, ap, ◌∙◌}
-use Rattle.std.proofs.Common.{subst, arith, zero, suc, ◌-◌, ◌++◌, ◌∷◌, take}
+use Rattle.std.proofs.Common.{None, unwrap_or, refl, sym, ap, ◌∙◌, subst, arith, zero, suc, ◌-◌, ◌++◌, ◌∷◌, take}
 use Rattle.std.proofs.lemmas.Bool.{cases_eq}
 use Rattle.std.proofs.lemmas.Bool.Decides.{nat_tests}
-use Rattle.nofs_ptrs.specs.Paths.{slot_limit}
-use Rattle.nofs_model.specs.Image.{path_of, FileState, Files, is_folder, Home, NodeState, Present, Absent}
+use Rattle.nofs_ptrs.specs.Paths.{slot_limit, path_of}
+use Rattle.nofs_model.specs.Files.{FileState, Files, is_folder, NodeState, Present, Absent}
+use Rattle.nofs_model.specs.Owners.{Home}
 use Rattle.nofs_model.specs.declared.image.value.Value.{Value}
 use Rattle.nofs_model.specs.declared.image.value.Value.TheVariants.{Hole, Bytes, Lost}
 use Rattle.nofs_history.specs.Meta.{is_bytes}
 use Rattle.nofs_history.specs.Machine.{Given, put_given, put_content, files_after, value_of, size_of, filled}
-use Rattle.nofs_history.specs.Machine.{file_after, after_meta, born_file}
-use Rattle.nofs_history.specs.Machine.{is_at, lies_above, bytes_in, trimmed, cut_of}
+use Rattle.nofs_history.specs.Machine.{file_after, after_meta, born_file, is_at, lies_above, bytes_in, trimmed, cut_of}
 use Rattle.nofs_history.specs.Claims.{has_block, is_present}
 use Rattle.nofs_history.specs.Gives.{GivesNothing}
 use Rattle.nofs_crashlaw.proofs.OnFiles.PutFile.{put-made, put-new, put-gives}

@@ -5,11 +5,14 @@ use Rattle.std.specs.Prelude.{slice_set}
 use Rattle.std.proofs.lemmas.Bool.{cases_eq}
 use Rattle.std.proofs.lemmas.List.{get_or-set_same, get_or-set_other, length-set}
 use Rattle.nofs_disk.specs.Disk.{cell_at, no_cell}
-use Rattle.nofs_model.specs.Cells.{Cell, Pointer}
-use Rattle.nofs_model.specs.Image.{Image, Path, InRecord, Under, IsAbove}
+use Rattle.nofs_disk.specs.declared.tag.Cell.{Cell}
+use Rattle.nofs_disk.specs.declared.tag.Pointer.{Pointer}
+use Rattle.nofs_model.specs.Geometry.{Image}
+use Rattle.nofs_ptrs.specs.Paths.{Path, InRecord, Under}
+use Rattle.nofs_model.specs.Slots.{IsAbove}
 use Rattle.nofs_model.proofs.OnSlots.Paths.{above-refl, above-up}
-use Rattle.nofs_state.specs.Cores.Steps.{pointers_written}
-use Rattle.nofs_state.specs.Writes.Cells.{OneOf, IsApart, image_after}
+use Rattle.nofs_history.specs.Writes.{pointers_written}
+use Rattle.nofs_disk.specs.Order.{OneOf, IsApart, WritesOnce, image_after}
 
 -- so many slots of a way, counted from below, get a block
 abbrev pub IsNew : ℕ → Path → Path → Type 0
@@ -220,3 +223,24 @@ written-here (w ∷ ws) X b c low only h =
 pub are-apart : (ws : List (ℕ × Cell)) (b : ℕ) → ((c : Cell) → OneOf ws b c → ⊥) → IsApart ws b
 are-apart [] b none = tt
 are-apart (w ∷ ws) b none = ((λ e. none w.1 (inl (e, refl))), are-apart ws b (λ c o. none c (inr o)))
+
+-- no block is written twice: slots of the way that are written have different blocks, and none has the table's
+pub way-once : (at : Path → Pointer) (cells : Path → Cell) (t : ℕ × Cell) (m : ℕ) (way : Path)
+    → ((a b : Path) → IsChanged m way a → IsChanged m way b → (at a).block ≡ (at b).block → a ≡ b)
+    → ((a : Path) → IsChanged m way a → (at a).block ≢ t.0) → WritesOnce (way_writes at cells t m way)
+way-once at cells t zero way same off = ((off way refl, tt), (tt, tt))
+way-once at cells t (suc m) (InRecord n) same off = ((off (InRecord n) refl, tt), (tt, tt))
+way-once at cells t (suc m) (Under b n) same off = (
+  are-apart (way_writes at cells t m b) (at (Under b n)).block (λ c one. apart c (one-is at cells t m b _ c one)),
+  way-once at cells t m b (λ x y u v e. same x y (inr u) (inr v) e) (λ x u. off x (inr u)),
+)
+  where
+    above : (a : Path) → IsChanged m b a → IsAbove a b
+    above a u = elim (changed-is m b a u) [ inl q ↦ new-above m b a q | inr q ↦ old-above m b a q ]
+
+    apart : (c : Cell) → (((at (Under b n)).block ≡ t.0) × (c ≡ t.1))
+        ⊎ ((a : Path) × IsChanged m b a × ((at (Under b n)).block ≡ (at a).block) × (c ≡ cells a)) → ⊥
+    apart c (inl e) = off (Under b n) (inl refl) e.0
+    apart c (inr (a, u, eb, ec)) =
+        let s : Under b n ≡ a = same (Under b n) a (inl refl) (inr u) eb in
+        no-loop b n (subst (λ (q : Path). IsAbove q b) (sym s) (above a u))

@@ -1,10 +1,9 @@
 -- The exits of Flush.
 use Rattle.std.proofs.Common.{◌≡◌, ℕ, Bool, true, false, cond, not, eqb, ◌&&◌, is_some, List, [], ◌∷◌, Option, Some}
-use Rattle.std.proofs.Common.{None, IsTrue, Result, Ok, Err, refl}
-use Rattle.std.proofs.Common.{sym, ap, ◌∙◌, subst, subst₂}
+use Rattle.std.proofs.Common.{None, IsTrue, Result, Ok, Err, refl, sym, ap, ◌∙◌, subst, subst₂}
 use Rattle.std.specs.Prelude.{OnOk}
 use Rattle.nofs_disk.specs.Disk.{DiskState, IsDisk, IsSettled}
-use Rattle.nofs_model.specs.Image.{Image}
+use Rattle.nofs_model.specs.Geometry.{Image}
 use Rattle.nofs_agree.specs.Chain.{AreTrue}
 use Rattle.nofs_history.specs.Search.{first_of}
 use Rattle.nofs_history.specs.Machine.{generation_of}

@@ -1,12 +1,16 @@
 -- What Get answers.
 use Rattle.std.proofs.Common.{◌≡◌, ℕ, ◌<◌, ◌≤◌, false, not, eqb, ◌&&◌, is_some, List, [], ◌∷◌, Some, IsTrue, Result, Ok}
-use Rattle.std.proofs.Common.{Err, refl, sym, ap, ◌∙◌, subst}
-use Rattle.std.proofs.Common.{le_refl}
+use Rattle.std.proofs.Common.{Err, refl, sym, ap, ◌∙◌, subst, le_refl}
 use Rattle.nofs_disk.specs.Disk.{DiskState, IsDisk, StaysButFaults, cell_at}
 use Rattle.nofs_disk.specs.Chains.{StaysButFaults-refl, StaysButFaults-trans, Rose-within}
 use Rattle.nofs_disk.specs.declared.Failed.{Failed}
-use Rattle.nofs_model.specs.Cells.{Cell, Pointer, Record, SuperBlock}
-use Rattle.nofs_model.specs.Image.{Image, inode, path_of, find, value_in}
+use Rattle.nofs_disk.specs.declared.tag.Cell.{Cell}
+use Rattle.nofs_disk.specs.declared.tag.Pointer.{Pointer}
+use Rattle.nofs_inode.specs.declared.inode.Record.{Record}
+use Rattle.nofs_super.specs.declared.superblock.SuperBlock.{SuperBlock}
+use Rattle.nofs_model.specs.Geometry.{Image, inode}
+use Rattle.nofs_ptrs.specs.Paths.{path_of}
+use Rattle.nofs_model.specs.Slots.{find, value_in}
 use Rattle.nofs_model.specs.Files.{is_kind}
 use Rattle.nofs_inode.specs.declared.inode.FileKind.TheVariants.{File, Directory}
 use Rattle.nofs_model.specs.declared.image.path.PathAnswer.{PathAnswer}
@@ -27,7 +31,8 @@ use Rattle.nofs_agree.specs.declared.reads.LastRead.{LastRead}
 use Rattle.nofs_agree.proofs.OnChain.{told-on, record-of}
 use Rattle.nofs_state.specs.Books.Maps.{IsSafe}
 use Rattle.nofs_state.specs.Cores.Invariant.{IsOpen, Past}
-use Rattle.nofs_state.specs.Cores.Steps.{Goes, IsReading, makes_calls}
+use Rattle.nofs_history.specs.Writes.{makes_calls}
+use Rattle.nofs_state.specs.Cores.Steps.{Goes, IsReading}
 use Rattle.nofs_state.specs.declared.books.maps.Books.{Books}
 use Rattle.nofs_state.proofs.OnCores.Replies.{goes-row, goes-read, goes-answer, open-files}
 use Rattle.nofs_state.proofs.OnCores.Refusals.{IsLate, first-late, late-row}

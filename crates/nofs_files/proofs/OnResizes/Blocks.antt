@@ -7,8 +7,9 @@ use Rattle.nofs_bits.specs.Bits.{is_set}
 use Rattle.nofs_disk.specs.Chains.{StaysButFaults-trans}
 use Rattle.nofs_disk.specs.Disk.{DiskState, IsDisk, Writes}
 use Rattle.nofs_disk.specs.declared.Failed.{Failed}
-use Rattle.nofs_model.specs.Cells.{Cell, SuperBlock}
-use Rattle.nofs_model.specs.Image.{Image}
+use Rattle.nofs_disk.specs.declared.tag.Cell.{Cell}
+use Rattle.nofs_super.specs.declared.superblock.SuperBlock.{SuperBlock}
+use Rattle.nofs_model.specs.Geometry.{Image}
 use Rattle.nofs_agree.specs.declared.reads.LastRead.{LastRead}
 use Rattle.nofs_state.specs.Inodes.Blocks.{Marked, MarksAll}
 use Rattle.nofs_state.specs.Writes.Cells.{WritesAll}

@@ -2,7 +2,7 @@
 use Rattle.std.proofs.Common.{◌≡◌, ◌≢◌, ℕ, ◌+◌, ◌<◌, ◌≤◌, true, inl, inr, List, refl, ap, ◌∙◌, arith, le_refl}
 use Rattle.std.proofs.lemmas.Bool.{cases_eq}
 use Rattle.nofs_disk.specs.Pointer.{null, is_null}
-use Rattle.nofs_model.specs.Cells.{pointer_at}
+use Rattle.nofs_ptrs.specs.Cells.{pointer_at}
 
 -- so far up to a place
 pub record Cutting (from to : ℕ) (old now : List ℕ) : Type 0 where

@@ -1,12 +1,16 @@
 -- The contract of a Resize from the state before its writes.
 use Rattle.std.proofs.Common.{◌≡◌, ℕ, ◌+◌, ◌^◌, ◌≤◌, ◌⊎◌, Bool, true, false, List, [], ◌∷◌, length, Option, Some, None}
-use Rattle.std.proofs.Common.{IsTrue, Result, Ok, Err, refl, sym, ap, ◌∙◌}
-use Rattle.std.proofs.Common.{subst, subst₂, arith}
+use Rattle.std.proofs.Common.{IsTrue, Result, Ok, Err, refl, sym, ap, ◌∙◌, subst, subst₂, arith}
 use Rattle.std.specs.Prelude.{IfSome}
-use Rattle.nofs_ptrs.specs.Paths.{slot_limit}
+use Rattle.nofs_ptrs.specs.Paths.{slot_limit, path_of}
 use Rattle.nofs_disk.specs.Disk.{DiskState, IsDisk, Rose, StaysButFaults, cell_at}
-use Rattle.nofs_model.specs.Cells.{Cell, Record, SuperBlock, tag_of}
-use Rattle.nofs_model.specs.Image.{Image, files_in, agreed, find, path_of}
+use Rattle.nofs_disk.specs.declared.tag.Cell.{Cell}
+use Rattle.nofs_inode.specs.declared.inode.Record.{Record}
+use Rattle.nofs_super.specs.declared.superblock.SuperBlock.{SuperBlock}
+use Rattle.nofs_disk.specs.Tag.{tag_of}
+use Rattle.nofs_model.specs.Geometry.{Image}
+use Rattle.nofs_model.specs.Files.{files_in, agreed}
+use Rattle.nofs_model.specs.Slots.{find}
 use Rattle.nofs_history.specs.Machine.{gives}
 use Rattle.nofs_history.specs.Claims.{no_claims}
 use Rattle.nofs_history.specs.declared.machine.history.Entry1.{Entry1}
@@ -18,11 +22,12 @@ use Rattle.nofs_agree.specs.Chain.{AreTrue}
 use Rattle.nofs_agree.proofs.OnChain.{KnowsInode-on}
 use Rattle.nofs_crashlaw.specs.Numbers.Cells.{table_tag}
 use Rattle.nofs_state.specs.Cores.Invariant.{IsOpen, Past}
-use Rattle.nofs_state.specs.Cores.Steps.{Goes, WritesAlone, entry}
+use Rattle.nofs_state.specs.Cores.Steps.{Goes, IsRow, WritesAlone, entry}
 use Rattle.nofs_state.specs.Inodes.Opened.{is_current}
 use Rattle.nofs_state.specs.Inodes.Blocks.{BlocksFreed, IsBlockAmong}
 use Rattle.nofs_state.specs.declared.books.maps.Books.{Books}
-use Rattle.nofs_state.specs.Writes.Cells.{HasOneEach, IsApart, Stores, Stored, NotStored}
+use Rattle.nofs_disk.specs.Order.{IsApart}
+use Rattle.nofs_state.specs.Writes.Cells.{Stores, Stored, NotStored}
 use Rattle.nofs_state.specs.Writes.Premises.{RecordIn}
 use Rattle.nofs_files.specs.Puts.{IsRecordCell}
 use Rattle.nofs_state.proofs.OnCores.Done.{goes-done}
@@ -35,12 +40,12 @@ use Rattle.nofs_state.proofs.OnWrites.Tables.{table_block}
 use Rattle.nofs_state.proofs.OnWrites.TwoWrites.{safe-writes, writes-cells}
 use Rattle.nofs_files.proofs.OnReads.Rows.{current-agreed}
 use Rattle.nofs_files.specs.Resizes.{CellInData, IsCutMap, IsEdge, IsTail, MayCut, cut_record, cut_writes, first_cut}
-use Rattle.nofs_files.specs.Resizes.{kept_slots, maybe}
-use Rattle.nofs_files.specs.Resizes.{resize_answer}
+use Rattle.nofs_files.specs.Resizes.{kept_slots, maybe, resize_answer}
 use Rattle.nofs_files.specs.declared.resizes.cuts.NewCell.{NewCell}
 use Rattle.nofs_files.specs.declared.resizes.cuts.Edge.{Edge}
 use Rattle.nofs_files.proofs.OnResizes.Writes.{Cuts}
-use Rattle.nofs_files.proofs.OnResizes.Image.{cut-each}
+use Rattle.nofs_files.proofs.OnResizes.Image.{cut-once}
+use Rattle.nofs_files.proofs.OnResizes.Counts.{cut-exact}
 use Rattle.nofs_files.proofs.OnResizes.Maps.{safe-freed}
 use Rattle.nofs_files.proofs.OnResizes.Proper.{claim}
 use Rattle.nofs_files.proofs.OnResizes.Mount.{resize-done, resize-numbered, resize-proper}
@@ -92,9 +97,12 @@ module _ (d new : DiskState) (k : Books) (i g size : ℕ) (r : Record) (tail : O
       agrees : agreed (files_in d.now) i ≡ true
       agrees = current-agreed d.now i g (ready.current tells (are-agreed d k H p ready.safe o))
 
-  each : IsTrue d.tells → (H : List Entry1) (p : Past) → IsOpen d k H p
-      → HasOneEach (cut_writes tail edge (table_block i) c2)
-  each tells H p o = cut-each d k H p i g size r tail edge c2 is_d tells o (cuts H p tells o)
+  owes : IsTrue d.tells → (H : List Entry1) (p : Past) → IsOpen d k H p
+      → IsRow p.world.files (step.Resize i g size) no_claims (cut_writes tail edge (table_block i) c2)
+  owes tells H p o = let c = cuts H p tells o in record {
+    once = cut-once d k H p i g size r tail edge c2 is_d tells o c;
+    exact = cut-exact d k H p i g size r tail edge c2 is_d tells o c;
+  }
 
   pub resized-goes : (l m : Books) (result : Result (Unit {0}) Refusal)
       → Stores d k new m (cut_writes tail edge (table_block i) c2) result
@@ -113,7 +121,7 @@ module _ (d new : DiskState) (k : Books) (i g size : ℕ) (r : Record) (tail : O
       (Ok tt) k.stopped writes apart ready.safe) a ready.map.size
       ready.map.in_area) refl writes.adds.disk writes.adds.past writes.later
       (WritesAlone refl (writes-cells k (step.Resize i g size) no_claims writes
-      (cut-count tail edge (table_block i) c2) each)) ready.safe
+      (cut-count tail edge (table_block i) c2) owes)) ready.safe
       (λ tells H p o. resize-done d k H p i g size r tail edge c2 is_d tells o
       (cuts H p tells o) new l freed ready.map a writes (ready.rows tells H p o)))
   resized-goes l m result (NotStored f writes same e) ok err = subst₂
@@ -122,7 +130,7 @@ module _ (d new : DiskState) (k : Books) (i g size : ℕ) (r : Record) (tail : O
       (goes-fault d new k (stopped_books k)
       (step.Resize i g size) no_claims is_d ready.going refl refl refl writes.adds.disk writes.adds.past writes.cause
       writes.later (WritesAlone refl (writes-cells k (step.Resize i g size) no_claims writes
-      (cut-count tail edge (table_block i) c2) each)) ready.safe
+      (cut-count tail edge (table_block i) c2) owes)) ready.safe
       (safe-writes d new k (cut_writes tail edge (table_block i) c2) (Err f) true writes apart ready.safe)
       (λ tells H p o. resize-numbered d k H p i g size r tail edge c2 is_d tells o (cuts H p tells o) new writes.adds)
       (λ tells caller H p o. (

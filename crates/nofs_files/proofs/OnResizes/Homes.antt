@@ -5,13 +5,16 @@ use Rattle.std.proofs.Common.{◌||◌, not, List, Option, Some, None, is_some, 
 use Rattle.std.proofs.lemmas.Bool.{cases_eq, cases_lt, le-leb, and_parts}
 use Rattle.std.proofs.lemmas.Bool.Decides.{nat_tests}
 use Rattle.std.proofs.lemmas.List.{get_or_past}
-use Rattle.nofs_ptrs.specs.Paths.{slot_limit}
+use Rattle.nofs_ptrs.specs.Paths.{slot_limit, Path, path_of, is_pointer_slot, is_slot, IsSlot}
 use Rattle.nofs_bits.specs.Bits.{is_set}
 use Rattle.nofs_disk.specs.Disk.{DiskState, IsDisk}
-use Rattle.nofs_model.specs.Cells.{Cell, Pointer, Record}
-use Rattle.nofs_model.specs.Image.{Image, Path, path_of, is_pointer_slot, is_slot, IsSlot, find, value_in, node_in}
-use Rattle.nofs_model.specs.Image.{FileState, Files, Absent, Home}
-use Rattle.nofs_model.specs.Image.{home_at, owner}
+use Rattle.nofs_disk.specs.declared.tag.Cell.{Cell}
+use Rattle.nofs_disk.specs.declared.tag.Pointer.{Pointer}
+use Rattle.nofs_inode.specs.declared.inode.Record.{Record}
+use Rattle.nofs_model.specs.Geometry.{Image}
+use Rattle.nofs_model.specs.Slots.{find, value_in}
+use Rattle.nofs_model.specs.Files.{node_in, FileState, Files, Absent}
+use Rattle.nofs_model.specs.Owners.{Home, home_at, owner}
 use Rattle.nofs_model.specs.declared.image.path.PathAnswer.{PathAnswer}
 use Rattle.nofs_model.specs.declared.image.path.PathAnswer.TheVariants as answer
 use Rattle.nofs_model.specs.declared.image.value.Value.TheVariants.{Hole}
@@ -29,7 +32,7 @@ use Rattle.nofs_state.specs.Cores.Invariant.{IsOpen, Past}
 use Rattle.nofs_state.specs.declared.books.maps.Books.{Books}
 use Rattle.nofs_crashlaw.proofs.OnFiles.Resizes.{cut-slot, found, resize-made, resize-new, resize-gives}
 use Rattle.nofs_crashlaw.proofs.OnFiles.Resizes.{law-resize-files}
-use Rattle.nofs_crashlaw.proofs.OnFiles.PutFile.{file-in}
+use Rattle.nofs_crashlaw.proofs.OnUntouched.Agreement.{file-in}
 use Rattle.nofs_state.proofs.OnCores.Replies.{home-has}
 use Rattle.nofs_files.specs.Resizes.{IsCutMap, first_cut, kept_slots}
 use Rattle.nofs_files.specs.declared.resizes.cuts.NewCell.{NewCell}

@@ -1,17 +1,22 @@
 -- The image after the writes of a Resize: what stays.
 use Rattle.std.proofs.Common.{◌≡◌, ◌≢◌, ℕ, ◌+◌, ◌-◌, ◌/◌, ◌%◌, ◌<◌, ◌≤◌, ◌⊎◌, min, inl, inr, Bool, true, false, cond}
 use Rattle.std.proofs.Common.{eqb, eq-eqb, ne_eqb, leb, ltb}
-use Rattle.std.proofs.Common.{leb-true, ltb-true, ◌&&◌, not, List, ◌++◌, length, take, Option, Some, None, IsTrue, refl}
-use Rattle.std.proofs.Common.{sym, ap, ◌∙◌, subst}
-use Rattle.std.proofs.Common.{arith}
+use Rattle.std.proofs.Common.{leb-true, ltb-true, ◌&&◌, not, List, ◌++◌, [], ◌∷◌, length, take, Option, Some, None}
+use Rattle.std.proofs.Common.{IsTrue, refl, sym, ap, ◌∙◌, subst, arith}
 use Rattle.std.proofs.lemmas.Bool.{cases_eq, cases_lt, le-leb}
-use Rattle.nofs_ptrs.specs.Paths.{slot_limit}
+use Rattle.nofs_ptrs.specs.Paths.{slot_limit, Path, IsSlot, InRecord, path_of}
 use Rattle.nofs_disk.specs.Disk.{DiskState, IsDisk, cell_at}
 use Rattle.nofs_super.specs.Geometry.{IsGeometry}
 use Rattle.nofs_inode.specs.declared.inode.FileKind.TheVariants.{File}
-use Rattle.nofs_model.specs.Cells.{Cell, Pointer, Record, tag_of, is_live}
-use Rattle.nofs_model.specs.Image.{Image, super_at, file_from, is_data_block, inode, Path}
-use Rattle.nofs_model.specs.Image.{IsSlot, find, Files, is_folder, IsBelow}
+use Rattle.nofs_disk.specs.declared.tag.Cell.{Cell}
+use Rattle.nofs_disk.specs.declared.tag.Pointer.{Pointer}
+use Rattle.nofs_inode.specs.declared.inode.Record.{Record}
+use Rattle.nofs_disk.specs.Tag.{tag_of}
+use Rattle.nofs_inode.specs.InodeRecords.{is_live}
+use Rattle.nofs_model.specs.Geometry.{Image, super_at, is_data_block, inode}
+use Rattle.nofs_model.specs.Files.{file_from, Files, is_folder}
+use Rattle.nofs_model.specs.Slots.{find}
+use Rattle.nofs_model.specs.Sound.{IsBelow}
 use Rattle.nofs_model.specs.declared.image.path.PathAnswer.TheVariants as answer
 use Rattle.nofs_model.specs.declared.image.value.Value.{Value}
 use Rattle.nofs_model.specs.declared.image.value.Value.TheVariants.{Hole, Bytes}
@@ -30,20 +35,20 @@ use Rattle.nofs_crashlaw.specs.Files.Resizes.{is_cut, cut_at}
 use Rattle.nofs_crashlaw.specs.Numbers.Cells.{OldNumbers}
 use Rattle.nofs_state.specs.Cores.Invariant.{IsOpen, Past}
 use Rattle.nofs_state.specs.declared.books.maps.Books.{Books}
-use Rattle.nofs_state.specs.Writes.Cells.{HasOneEach, image_after}
-use Rattle.nofs_crashlaw.proofs.OnFiles.PutFile.{file-in}
+use Rattle.nofs_disk.specs.Order.{IsApart, WritesOnce, image_after}
+use Rattle.nofs_crashlaw.proofs.OnUntouched.Agreement.{file-in}
 use Rattle.nofs_state.proofs.OnCores.Replies.{open-files}
 use Rattle.nofs_state.proofs.OnBooks.Machine.{agreed-live}
 use Rattle.nofs_state.proofs.OnWrites.Tables.{table_block, record-here, record-other}
-use Rattle.nofs_files.specs.Resizes.{kept_slots, cut_record, cut_writes}
+use Rattle.nofs_files.specs.Resizes.{kept_slots, cut_record, cut_writes, maybe}
 use Rattle.nofs_files.specs.declared.resizes.cuts.NewCell.{NewCell}
 use Rattle.nofs_files.specs.declared.resizes.cuts.Edge.{Edge}
-use Rattle.nofs_state.proofs.OnWrites.TwoWrites.{one-each}
 use Rattle.nofs_files.proofs.OnPuts.Ways.{written-apart, written-here}
-use Rattle.nofs_files.proofs.OnResizes.Slots.{lt-leb}
-use Rattle.nofs_files.proofs.OnResizes.Writes.{Cuts, IsAt, Held, one-is, at-one, table-one}
+use Rattle.nofs_files.proofs.OnResizes.Slots.{below_path, lt-leb}
+use Rattle.nofs_files.proofs.OnResizes.Writes.{Cuts, IsAt, AtTail, AtBelow, AtAbove, Held, one-is, at-one, table-one}
 use Rattle.nofs_files.proofs.OnResizes.Writes.{meets}
-use Rattle.nofs_files.proofs.OnResizes.Writes.{held-at, same-slot, same-at}
+use Rattle.nofs_files.proofs.OnResizes.Writes.{apart-maybe, below-apart, below-at, content-apart, held-at, once-maybe}
+use Rattle.nofs_files.proofs.OnResizes.Writes.{same-slot, same-at}
 
 -- what a Resize gives to a slot, by the size and the value before
 abbrev pub slot_by : ℕ → Value → ℕ → ℕ → Option Value
@@ -191,12 +196,15 @@ module _ (old : DiskState) (k : Books) (H : List Entry1) (p : Past) (i g size : 
   low-stays b low ne =
       stays b ne (λ a it at e. let d = data-range it.block (area-of a it at) in omega (arith, d, e, low))
 
+  one-slot : (a b : Path) (it w : NewCell) → At a it → At b w → it.block ≡ w.block → a ≡ b
+  one-slot a b it w at bt e =
+      let q = held-of a it at in let t = held-of b w bt in
+      same-slot X i g size r tail edge c2 h a b q.pointer t.pointer q.slot t.slot q.held t.held
+      (sym q.block ∙ e ∙ t.block)
+
   slots-same : (a b : Path) (it w : NewCell) → At a it → At b w → it.block ≡ w.block → it ≡ w
   slots-same a b it w at bt e =
-      let q = held-of a it at in let t = held-of b w bt in
-      same-at X i g size r tail edge c2 h a b it w at bt
-      (same-slot X i g size r tail edge c2 h a b q.pointer t.pointer q.slot t.slot q.held t.held
-      (sym q.block ∙ e ∙ t.block))
+      same-at X i g size r tail edge c2 h a b it w at bt (one-slot a b it w at bt e)
 
   pub cell-here : (a : Path) (it : NewCell) → At a it → cell_at Y it.block ≡ it.cell
   cell-here a it at = written-here ws X it.block it.cell
@@ -214,13 +222,34 @@ module _ (old : DiskState) (k : Books) (H : List Entry1) (p : Past) (i g size : 
         | inr (a, it, at, eb, ec) ↦ absurd (off-table it.block (area-of a it at) (sym eb))
       ]) (inl (table-one r.size m tail edge (table_block i) c2))
 
-  -- each block gets one cell
-  pub cut-each : HasOneEach (cut_writes tail edge (table_block i) c2)
-  cut-each = one-each (cut_writes tail edge (table_block i) c2) Y
-      (λ b q one. elim (one-is r.size m tail edge (table_block i) c2 b q one) [
-        | inl e ↦ e.1 ∙ sym table-here ∙ ap (cell_at Y) (sym e.0)
-        | inr (a, it, at, eb, ec) ↦ ec ∙ sym (cell-here a it at) ∙ ap (cell_at Y) (sym eb)
-      ])
+  -- no block is written twice
+  pub cut-once : WritesOnce (cut_writes tail edge (table_block i) c2)
+  cut-once = once-maybe tail _ from-tail
+      (once-maybe edge.below _ from-below (once-maybe edge.above _ from-above (tt, tt)))
+    where
+      off : (a : Path) (it : NewCell) → At a it → IsApart ((table_block i, c2) ∷ []) it.block
+      off a it at = (off-table it.block (area-of a it at), tt)
+
+      from-above : (it : NewCell) → edge.above ≡ Some it → IsApart ((table_block i, c2) ∷ []) it.block
+      from-above it e = off (InRecord 9) it (AtAbove e refl)
+
+      from-below : (it : NewCell) → edge.below ≡ Some it
+          → IsApart (maybe edge.above ((table_block i, c2) ∷ [])) it.block
+      from-below it e = apart-maybe edge.above _ it.block
+          (λ w f s. below-apart X i g size r tail edge c2 h it w e f
+          (one-slot (below_path m) (InRecord 9) it w (AtBelow e refl) (AtAbove f refl) s))
+          (off (below_path m) it (AtBelow e refl))
+
+      from-tail : (it : NewCell) → tail ≡ Some it
+          → IsApart (maybe edge.below (maybe edge.above ((table_block i, c2) ∷ []))) it.block
+      from-tail it e = apart-maybe edge.below _ it.block
+          (λ w f s. content-apart X i g size r tail edge c2 h it (below_path m) e
+          (below-at X i g size r tail edge c2 h w f).points
+          (one-slot (path_of (r.size / 1024)) (below_path m) it w (AtTail e refl) (AtBelow f refl) s))
+          (apart-maybe edge.above _ it.block
+          (λ w f s. content-apart X i g size r tail edge c2 h it (InRecord 9) e refl
+          (one-slot (path_of (r.size / 1024)) (InRecord 9) it w (AtTail e refl) (AtAbove f refl) s))
+          (off (path_of (r.size / 1024)) it (AtTail e refl)))
 
   pub super-stays : cell_at Y 0 ≡ cell_at X 0
   super-stays = low-stays 0 (omega arith) (λ e. omega (arith, e))

@@ -1,15 +1,14 @@
 -- What the maps say after blocks were freed: which are known, which are free.
 use Rattle.std.proofs.Common.{◌≡◌, ◌≢◌, ℕ, ◌+◌, ◌-◌, ◌/◌, ◌<◌, ◌≤◌, ◌⊎◌, inl, inr, Bool, true, false, leb, ltb, lt-ltb}
-use Rattle.std.proofs.Common.{◌&&◌, ◌||◌, not, List, length, None}
-use Rattle.std.proofs.Common.{is_some, refl, sym, ap, ◌∙◌, subst, arith}
+use Rattle.std.proofs.Common.{◌&&◌, ◌||◌, not, List, length, None, is_some, refl, sym, ap, ◌∙◌, subst, arith}
 use Rattle.nofs_agree.specs.Chain.{known_agreement}
 use Rattle.std.proofs.lemmas.Bool.{cases_lt}
 use Rattle.std.proofs.lemmas.Bool.Decides.{nat_tests}
 use Rattle.std.proofs.Math.Bool.{or-false, or-true}
 use Rattle.std.proofs.lemmas.List.{get_or_past}
 use Rattle.nofs_bits.specs.Bits.{is_set}
-use Rattle.nofs_model.specs.Cells.{SuperBlock}
-use Rattle.nofs_model.specs.Image.{is_special}
+use Rattle.nofs_super.specs.declared.superblock.SuperBlock.{SuperBlock}
+use Rattle.nofs_model.specs.Files.{is_special}
 use Rattle.nofs_history.specs.World.{World, is_fixed, uses_inode, uses_block, is_free_block}
 use Rattle.nofs_history.specs.Next.{Learns, sees_inode, sees_block}
 use Rattle.nofs_history.specs.declared.machine.steps.Step.{Step}

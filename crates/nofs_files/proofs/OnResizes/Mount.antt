@@ -3,20 +3,22 @@ use Rattle.std.proofs.Common.{◌≡◌, ℕ, ◌+◌, Bool, true, false, eqb, e
 use Rattle.std.proofs.Common.{Option, Some, None, is_some, IsTrue, Ok, refl, sym, ap, ◌∙◌, subst, arith}
 use Rattle.nofs_disk.specs.Disk.{DiskState, IsDisk, cell_at}
 use Rattle.nofs_disk.specs.Adds.{Adds}
-use Rattle.nofs_model.specs.Cells.{Cell, Record}
-use Rattle.nofs_model.specs.Image.{Image, inode}
-use Rattle.nofs_model.specs.Image.{FileState, Files}
+use Rattle.nofs_disk.specs.declared.tag.Cell.{Cell}
+use Rattle.nofs_inode.specs.declared.inode.Record.{Record}
+use Rattle.nofs_model.specs.Geometry.{Image, inode}
+use Rattle.nofs_model.specs.Files.{FileState, Files}
 use Rattle.nofs_model.specs.declared.image.path.PathAnswer.TheVariants as answer
 use Rattle.nofs_crashlaw.specs.Images.Proper.{Proper}
 use Rattle.nofs_crashlaw.specs.Images.Moments.{during}
 use Rattle.nofs_history.specs.Steady.{SteadyRest}
-use Rattle.nofs_history.specs.Marks.{Mark}
+use Rattle.nofs_history.specs.Marks.{Mark, mark_at}
 use Rattle.nofs_history.specs.Search.{first_of}
 use Rattle.nofs_history.specs.Machine.{Given, gives, given_by, resize_given, files_after}
 use Rattle.nofs_history.specs.World.{World}
 use Rattle.nofs_history.specs.Claims.{no_claims, next_stamp, IsClaim}
 use Rattle.nofs_history.specs.Refusals.{rows}
-use Rattle.nofs_history.specs.History.{FilesMatch, agreed_files, files_along, mark_at}
+use Rattle.nofs_history.specs.History.{FilesMatch}
+use Rattle.nofs_history.specs.Since.{agreed_files, files_along}
 use Rattle.nofs_history.specs.Next.{Learns}
 use Rattle.nofs_history.specs.declared.machine.history.Entry1.{Entry1}
 use Rattle.nofs_history.specs.declared.machine.steps.Step.TheVariants as step
@@ -30,9 +32,9 @@ use Rattle.nofs_state.specs.Books.Maps.{Says}
 use Rattle.nofs_state.specs.Cores.Invariant.{IsOpen, Past}
 use Rattle.nofs_state.specs.Inodes.Blocks.{BlocksFreed}
 use Rattle.nofs_state.specs.declared.books.maps.Books.{Books}
-use Rattle.nofs_state.specs.Writes.Cells.{OneOf, WritesAll}
-use Rattle.nofs_crashlaw.proofs.OnFiles.Resizes.{law-resize-homes, as-before}
-use Rattle.nofs_crashlaw.proofs.OnFiles.Resizes.{resize-gives, resize-made}
+use Rattle.nofs_disk.specs.Order.{OneOf}
+use Rattle.nofs_state.specs.Writes.Cells.{WritesAll}
+use Rattle.nofs_crashlaw.proofs.OnFiles.Resizes.{law-resize-homes, as-before, resize-gives, resize-made}
 use Rattle.nofs_crashlaw.proofs.OnFiles.OneFile.{GivesFile}
 use Rattle.nofs_state.proofs.OnCores.Done.{IsDone, Adds-map, after_world}
 use Rattle.nofs_crashlaw.proofs.OnHistories.Resting.{law-rest}

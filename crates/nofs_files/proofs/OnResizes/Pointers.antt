@@ -3,18 +3,24 @@ use Rattle.std.proofs.Common.{◌≡◌, ◌≢◌, ℕ, ◌+◌, ◌-◌, ◌*�
 use Rattle.std.proofs.Common.{leb-true, not, List, length, Option, Some, unwrap_or, IsTrue, refl, sym, ap, ◌∙◌, subst}
 use Rattle.std.proofs.Common.{arith}
 use Rattle.std.proofs.lemmas.Bool.{cases_eq, cases_lt}
-use Rattle.nofs_ptrs.specs.Paths.{slot_limit}
+use Rattle.nofs_ptrs.specs.Paths.{slot_limit, Path, InRecord, Under, path_of, slot_of, is_pointer_slot, IsSlot}
 use Rattle.nofs_disk.specs.Disk.{DiskState, IsDisk, cell_at}
-use Rattle.nofs_model.specs.Cells.{Cell, Pointer, Record, is_null, pointer_at, is_live}
-use Rattle.nofs_model.specs.Image.{Image, super_at, value_in, is_data_block, inode, Path, InRecord, Under, path_of}
-use Rattle.nofs_model.specs.Image.{slot_of}
-use Rattle.nofs_model.specs.Image.{is_pointer_slot, IsSlot, find, record_pointer, is_folder}
+use Rattle.nofs_disk.specs.declared.tag.Cell.{Cell}
+use Rattle.nofs_disk.specs.declared.tag.Pointer.{Pointer}
+use Rattle.nofs_inode.specs.declared.inode.Record.{Record}
+use Rattle.nofs_disk.specs.Pointer.{is_null}
+use Rattle.nofs_ptrs.specs.Cells.{pointer_at}
+use Rattle.nofs_inode.specs.InodeRecords.{is_live}
+use Rattle.nofs_model.specs.Geometry.{Image, super_at, is_data_block, inode}
+use Rattle.nofs_model.specs.Slots.{value_in, find, record_pointer}
+use Rattle.nofs_model.specs.Files.{is_folder}
 use Rattle.nofs_model.specs.declared.image.path.PathAnswer.{PathAnswer}
 use Rattle.nofs_model.specs.declared.image.path.PathAnswer.TheVariants as answer
 use Rattle.nofs_model.specs.declared.image.value.Value.{Value}
 use Rattle.nofs_model.specs.declared.image.value.Value.TheVariants.{Bytes}
 use Rattle.nofs_model.proofs.OnSlots.Find.{find-held}
-use Rattle.nofs_model.proofs.OnSlots.Paths.{path_of-slot, path_of-content, slot_of-path_of}
+use Rattle.nofs_ptrs.specs.PathLaws.{path_of-slot, slot_of-path_of}
+use Rattle.nofs_model.proofs.OnSlots.Paths.{path_of-content}
 use Rattle.nofs_history.specs.Machine.{resize_slot, size_of, slots_in, trimmed, value_of}
 use Rattle.nofs_history.specs.World.{World}
 use Rattle.nofs_history.specs.Claims.{next_stamp}
@@ -31,11 +37,9 @@ use Rattle.nofs_files.specs.Resizes.{kept_slots, IsCutBlock, IsCutCell, last_chi
 use Rattle.nofs_files.specs.declared.resizes.cuts.NewCell.{NewCell}
 use Rattle.nofs_files.specs.declared.resizes.cuts.Edge.{Edge}
 use Rattle.nofs_files.proofs.OnResizes.Slots.{Inside, above-cases, below_path, near-path, far-path, leaf-inside}
-use Rattle.nofs_files.proofs.OnResizes.Slots.{top-inside, child-inside, only-child}
-use Rattle.nofs_files.proofs.OnResizes.Slots.{leb-lt, or-one, or-parts}
+use Rattle.nofs_files.proofs.OnResizes.Slots.{top-inside, child-inside, only-child, leb-lt, or-one, or-parts}
 use Rattle.nofs_files.proofs.OnResizes.Records.{record-cut, record-stays}
-use Rattle.nofs_files.proofs.OnResizes.Writes.{Cuts, AtTail, AtBelow, AtAbove, Held}
-use Rattle.nofs_files.proofs.OnResizes.Writes.{meets, tail-at, at-tail, below-at}
+use Rattle.nofs_files.proofs.OnResizes.Writes.{Cuts, AtTail, AtBelow, AtAbove, Held, meets, tail-at, at-tail, below-at}
 use Rattle.nofs_files.proofs.OnResizes.Writes.{above-at, same-slot, content-apart, tail-low}
 use Rattle.nofs_files.proofs.OnResizes.Image.{slot_by, slot-by, slot-end, slot-none}
 use Rattle.nofs_files.proofs.OnResizes.Image as image

@@ -2,12 +2,19 @@
 use Rattle.std.proofs.Common.{◌≡◌, ℕ, ◌+◌, ◌/◌, ◌<◌, ◌≤◌, ◌⊎◌, inl, inr, Bool, true, false, cond, leb, ltb, ◌&&◌, List}
 use Rattle.std.proofs.Common.{length, Option, Some, None, IsTrue, refl, sym, ap, ◌∙◌, subst, subst₂, arith}
 use Rattle.std.proofs.lemmas.Bool.{cases_lt}
-use Rattle.nofs_ptrs.specs.Paths.{slot_limit}
+use Rattle.nofs_ptrs.specs.Paths.{slot_limit, Path, InRecord, Under, path_of, IsSlot}
 use Rattle.nofs_disk.specs.Disk.{DiskState, IsDisk, cell_at, Picks}
-use Rattle.nofs_model.specs.Cells.{Cell, Leaf, Pointer, Record, SuperBlock, is_null, pointer_at, tag_of}
-use Rattle.nofs_model.specs.Image.{Image, super_at, is_data_block, inode, Path, InRecord, Under, path_of, IsSlot}
-use Rattle.nofs_model.specs.Image.{kind_in, tag_for, find, pointer}
-use Rattle.nofs_model.specs.Image.{record_pointer, FileState, Files}
+use Rattle.nofs_disk.specs.declared.tag.Cell.{Cell}
+use Rattle.nofs_disk.specs.declared.tag.Kind.TheVariants.{Leaf}
+use Rattle.nofs_disk.specs.declared.tag.Pointer.{Pointer}
+use Rattle.nofs_inode.specs.declared.inode.Record.{Record}
+use Rattle.nofs_super.specs.declared.superblock.SuperBlock.{SuperBlock}
+use Rattle.nofs_disk.specs.Pointer.{is_null}
+use Rattle.nofs_ptrs.specs.Cells.{pointer_at}
+use Rattle.nofs_disk.specs.Tag.{tag_of}
+use Rattle.nofs_model.specs.Geometry.{Image, super_at, is_data_block, inode}
+use Rattle.nofs_model.specs.Slots.{kind_in, tag_for, find, pointer, record_pointer}
+use Rattle.nofs_model.specs.Files.{FileState, Files}
 use Rattle.nofs_model.specs.declared.image.path.PathAnswer.TheVariants as answer
 use Rattle.nofs_model.specs.declared.image.value.Value.TheVariants.{Bytes}
 use Rattle.nofs_model.proofs.OnSlots.Find.{HoldsAt, find-held}
@@ -18,11 +25,12 @@ use Rattle.nofs_crashlaw.specs.Images.Moments.{during}
 use Rattle.nofs_crashlaw.specs.Images.Reasons.{ReadsSince, Holes}
 use Rattle.nofs_crashlaw.proofs.OnImages.Moments.{law-images}
 use Rattle.nofs_history.specs.Meta.{meta_of, Is}
-use Rattle.nofs_history.specs.Marks.{Mark}
+use Rattle.nofs_history.specs.Marks.{Mark, mark_at}
 use Rattle.nofs_history.specs.Machine.{Given, gives, resize_given, resize_slot, files_after}
 use Rattle.nofs_history.specs.World.{World}
 use Rattle.nofs_history.specs.Claims.{no_claims, next_stamp, IsClaim, Unclaimed, NoInode}
-use Rattle.nofs_history.specs.History.{FilesMatch, agreed_files, files_along, mark_at}
+use Rattle.nofs_history.specs.History.{FilesMatch}
+use Rattle.nofs_history.specs.Since.{agreed_files, files_along}
 use Rattle.nofs_history.specs.declared.machine.history.Entry1.{Entry1}
 use Rattle.nofs_history.specs.declared.machine.steps.Step.TheVariants as step
 use Rattle.nofs_crashlaw.proofs.OnFiles.Given.{at-itself}
@@ -31,9 +39,8 @@ use Rattle.nofs_crashlaw.specs.Files.Resizes.{is_cut}
 use Rattle.nofs_crashlaw.specs.Numbers.Cells.{RecordWritten, AsBefore}
 use Rattle.nofs_state.specs.Cores.Invariant.{IsOpen, Past}
 use Rattle.nofs_state.specs.declared.books.maps.Books.{Books}
-use Rattle.nofs_state.specs.Writes.Cells.{OneOf, image_after}
-use Rattle.nofs_crashlaw.proofs.OnFiles.Resizes.{law-resize-files, law-resize-holes}
-use Rattle.nofs_crashlaw.proofs.OnFiles.Resizes.{meta-here}
+use Rattle.nofs_disk.specs.Order.{OneOf, image_after}
+use Rattle.nofs_crashlaw.proofs.OnFiles.Resizes.{law-resize-files, law-resize-holes, meta-here}
 use Rattle.nofs_crashlaw.proofs.OnFiles.Writes.{law-content, law-record}
 use Rattle.nofs_crashlaw.proofs.OnNumbers.Files.{law-resize-cells, law-resize-record, tag-same}
 use Rattle.nofs_crashlaw.proofs.OnNumbers.Tables.{law-table-numbers}

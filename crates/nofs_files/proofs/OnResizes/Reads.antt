@@ -6,8 +6,9 @@ use Rattle.nofs_inode.specs.InodeRecords.{largest_size}
 use Rattle.nofs_disk.specs.Disk.{DiskState, IsDisk, StaysButFaults}
 use Rattle.nofs_disk.specs.Chains.{StaysButFaults-trans, Rose-within}
 use Rattle.nofs_disk.specs.declared.Failed.{Failed}
-use Rattle.nofs_model.specs.Cells.{Record, SuperBlock}
-use Rattle.nofs_model.specs.Image.{Image}
+use Rattle.nofs_inode.specs.declared.inode.Record.{Record}
+use Rattle.nofs_super.specs.declared.superblock.SuperBlock.{SuperBlock}
+use Rattle.nofs_model.specs.Geometry.{Image}
 use Rattle.nofs_history.specs.Claims.{no_claims}
 use Rattle.nofs_history.specs.declared.machine.steps.Step.TheVariants as step
 use Rattle.nofs_history.specs.declared.machine.replies.Reply.TheVariants as reply

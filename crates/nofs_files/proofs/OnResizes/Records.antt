@@ -1,15 +1,15 @@
 -- The pointers of a record from which some are cut off.
 use Rattle.std.proofs.Common.{◌≡◌, ℕ, ◌-◌, ◌<◌, ◌≤◌, min, inl, inr, Bool, true, false, leb, ltb, leb-true, List, ◌++◌}
-use Rattle.std.proofs.Common.{length, take, replicate, refl, sym, ap}
-use Rattle.std.proofs.Common.{◌∙◌, subst, arith, ne_eqb, get_or}
+use Rattle.std.proofs.Common.{length, take, replicate, refl, sym, ap, ◌∙◌, subst, arith, ne_eqb, get_or}
 use Rattle.std.proofs.lemmas.Bool.{cases_lt, cases_eq}
 use Rattle.std.proofs.lemmas.Bool.Decides.{nat_tests}
 use Rattle.std.proofs.lemmas.List.{get_or_append_left, get_or-append_right, get_or-take, get_or-replicate, get_or_past}
-use Rattle.std.proofs.lemmas.List.{length-take-le, length-append}
-use Rattle.std.proofs.lemmas.List.{length-replicate}
+use Rattle.std.proofs.lemmas.List.{length-take-le, length-append, length-replicate}
 use Rattle.nofs_disk.specs.Pointer.{null, is_null}
-use Rattle.nofs_model.specs.Cells.{Pointer, Record}
-use Rattle.nofs_model.specs.Image.{InRecord, record_pointer}
+use Rattle.nofs_disk.specs.declared.tag.Pointer.{Pointer}
+use Rattle.nofs_inode.specs.declared.inode.Record.{Record}
+use Rattle.nofs_ptrs.specs.Paths.{InRecord}
+use Rattle.nofs_model.specs.Slots.{record_pointer}
 use Rattle.nofs_crashlaw.specs.Files.Resizes.{is_cut}
 use Rattle.nofs_files.specs.Resizes.{cut_record, kept_pointer}
 use Rattle.nofs_files.proofs.OnResizes.Slots.{leb-lt}

@@ -1,11 +1,9 @@
 -- Which slots are cut, by their places and by their numbers.
 use Rattle.std.proofs.Common.{◌≡◌, ℕ, ◌+◌, ◌-◌, ◌*◌, ◌/◌, ◌^◌, ◌<◌, ◌≤◌, ◌⊎◌, inl, inr, Bool, true, false, cond}
-use Rattle.std.proofs.Common.{eqb-true, leb, leb-true, ◌||◌, refl, sym, ap}
-use Rattle.std.proofs.Common.{◌∙◌, arith}
+use Rattle.std.proofs.Common.{eqb-true, leb, leb-true, ◌||◌, refl, sym, ap, ◌∙◌, arith}
 use Rattle.std.proofs.lemmas.Bool.{cases_lt, le-leb}
 use Rattle.std.proofs.lemmas.Bool.Decides.{nat_tests}
-use Rattle.nofs_ptrs.specs.Paths.{slot_limit}
-use Rattle.nofs_model.specs.Image.{Path, InRecord, Under, path_of, IsSlot}
+use Rattle.nofs_ptrs.specs.Paths.{slot_limit, Path, InRecord, Under, path_of, IsSlot}
 use Rattle.nofs_model.proofs.OnSlots.Paths.{path-record, path-child}
 use Rattle.nofs_crashlaw.specs.Files.Resizes.{is_cut}
 use Rattle.nofs_files.specs.Resizes.{first_cut, last_child}

@@ -1,22 +1,26 @@
 -- What a Resize writes: the cells of some slots, each with its block, and the record.
 use Rattle.std.proofs.Common.{◌≡◌, ◌≢◌, ℕ, ◌+◌, ◌-◌, ◌*◌, ◌/◌, ◌%◌, ◌<◌, ◌≤◌, ◌⊎◌, inl, inr, true, List, [], ◌∷◌}
-use Rattle.std.proofs.Common.{length, Option, Some, None, refl, sym, ap}
-use Rattle.std.proofs.Common.{◌∙◌, subst, arith}
+use Rattle.std.proofs.Common.{length, Option, Some, None, refl, sym, ap, ◌∙◌, subst, arith}
 use Rattle.std.proofs.lemmas.Bool.{cases_eq, cases_lt}
-use Rattle.nofs_ptrs.specs.Paths.{slot_limit}
+use Rattle.nofs_ptrs.specs.Paths.{slot_limit, Path, InRecord, Under, path_of, is_pointer_slot, IsSlot}
 use Rattle.nofs_disk.specs.Disk.{cell_at}
 use Rattle.nofs_inode.specs.InodeRecords.{largest_size}
 use Rattle.nofs_inode.specs.declared.inode.FileKind.TheVariants.{File}
-use Rattle.nofs_model.specs.Cells.{Cell, Pointer, Record, tag_of}
-use Rattle.nofs_model.specs.Image.{Image, inode, Path, InRecord, Under, path_of, is_pointer_slot, IsSlot, find}
-use Rattle.nofs_model.specs.Image.{files_in, agreed}
+use Rattle.nofs_disk.specs.declared.tag.Cell.{Cell}
+use Rattle.nofs_disk.specs.declared.tag.Pointer.{Pointer}
+use Rattle.nofs_inode.specs.declared.inode.Record.{Record}
+use Rattle.nofs_disk.specs.Tag.{tag_of}
+use Rattle.nofs_model.specs.Geometry.{Image, inode}
+use Rattle.nofs_model.specs.Slots.{find}
+use Rattle.nofs_model.specs.Files.{files_in, agreed}
 use Rattle.nofs_model.specs.declared.image.path.PathAnswer.{PathAnswer}
 use Rattle.nofs_model.specs.declared.image.path.PathAnswer.TheVariants as answer
-use Rattle.nofs_model.proofs.OnSlots.Paths.{path_of-slot, path_of-slot_of, path_of-content}
+use Rattle.nofs_ptrs.specs.PathLaws.{path_of-slot, path_of-slot_of}
+use Rattle.nofs_model.proofs.OnSlots.Paths.{path_of-content}
 use Rattle.nofs_history.specs.Machine.{trimmed}
 use Rattle.nofs_crashlaw.proofs.OnUntouched.Inodes.{one-owner}
 use Rattle.nofs_crashlaw.specs.Numbers.Cells.{table_tag}
-use Rattle.nofs_state.specs.Writes.Cells.{OneOf}
+use Rattle.nofs_disk.specs.Order.{IsApart, OneOf, WritesOnce}
 use Rattle.nofs_state.proofs.OnWrites.Tables.{HasRecord, table_block}
 use Rattle.nofs_files.specs.Resizes.{kept_slots, cut_record, maybe, cut_writes, IsCutCell, IsCutBlock, IsTail}
 use Rattle.nofs_files.specs.Resizes.{IsTailOf, IsEdge, last_child}
@@ -91,6 +95,16 @@ maybe-meets (Some w) b = elim (cases_eq b w.block) [
   | inl e ↦ inl (w, refl, e)
   | inr ne ↦ inr (λ it e eb. ne (let s : w ≡ it = cc e in eb ∙ ap (λ (q : NewCell). q.block) (sym s)))
 ]
+
+pub apart-maybe : (o : Option NewCell) (ws : List (ℕ × Cell)) (b : ℕ) → ((it : NewCell) → o ≡ Some it → b ≢ it.block)
+    → IsApart ws b → IsApart (maybe o ws) b
+apart-maybe None ws b differ rest = rest
+apart-maybe (Some it) ws b differ rest = (differ it refl, rest)
+
+pub once-maybe : (o : Option NewCell) (ws : List (ℕ × Cell)) → ((it : NewCell) → o ≡ Some it → IsApart ws it.block)
+    → WritesOnce ws → WritesOnce (maybe o ws)
+once-maybe None ws apart once = once
+once-maybe (Some it) ws apart once = (apart it refl, once)
 
 same-some : (o : Option NewCell) (it w : NewCell) → o ≡ Some it → o ≡ Some w → it ≡ w
 same-some o it w e f = cc (e, f)
@@ -286,7 +300,7 @@ module _ (X : Image) (i g size : ℕ) (r : Record) (tail : Option NewCell) (edge
       let z : is_pointer_slot
       (path_of (r.size / 1024)) ≡ true = ap is_pointer_slot s ∙ points in cc (c, z)
 
-  below-apart : (it w : NewCell) → edge.below ≡ Some it → edge.above ≡ Some w
+  pub below-apart : (it w : NewCell) → edge.below ≡ Some it → edge.above ≡ Some w
       → below_path (kept_slots r.size size) ≡ InRecord 9 → ⊥
   below-apart it w e f s = let z : Under (InRecord 9) (last_child (kept_slots r.size size)) ≡ InRecord 9 = sym
       (far-path (kept_slots r.size size) (above-at w f).0) ∙ s in cc z

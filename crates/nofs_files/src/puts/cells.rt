@@ -5,8 +5,8 @@ ghost use Rattle.nofs_disk.specs.Number.{zeros};
 ghost use Rattle.nofs_disk.specs.Tag.{HasTagSpelling, tag_of};
 ghost use Rattle.nofs_ptrs.specs.Paths.{slot_limit};
 ghost use Rattle.nofs_inode.specs.InodeRecords.{HasRecordSpelling};
+ghost use Rattle.nofs_ptrs.specs.Paths as paths;
 ghost use Rattle.nofs_model.specs.Places.{IsPlace, place_path};
-ghost use Rattle.nofs_model.specs.Slots as slots;
 ghost use Rattle.nofs_agree.specs.Reads.{IsLast};
 ghost use Rattle.nofs_crashlaw.specs.Numbers.Cells.{table_tag};
 ghost use Rattle.nofs_state.specs.Writes.Premises.{RowsPass};
@@ -145,7 +145,7 @@ pub(crate) fn put_in_place<D: Disk + Drop>(
 ) -> Ended
     requires may { MayPut (D.state core.old.disk) core.old.books put.now it.now last.old 2 }
     requires slot { put.now.slot < slot_limit }
-    requires held { HeldAt (D.state core.old.disk) core.old.books put.now.inode (slots.path_of put.now.slot) pointer }
+    requires held { HeldAt (D.state core.old.disk) core.old.books put.now.inode (paths.path_of put.now.slot) pointer }
     requires cell { IsTrue (D.state core.old.disk).tells
         → last.old.cell ≡ cell_at (D.state core.old.disk).now pointer.block }
     requires rows { RowsPass (D.state core.old.disk) core.old.books (step_of_put put.now) }

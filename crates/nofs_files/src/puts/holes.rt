@@ -1,7 +1,7 @@
 //! A Put into a slot that is a hole: a block is claimed for it, and the blocks of pointers above it that are missing.
 ghost use Rattle.std.specs.Prelude.{◌≡◌, ◌<◌, length};
+ghost use Rattle.nofs_ptrs.specs.Paths as paths;
 ghost use Rattle.nofs_model.specs.Places.{place_path};
-ghost use Rattle.nofs_model.specs.Slots as slots;
 ghost use Rattle.nofs_files.specs.Puts.{HeldAt, IsEmptySlot, IsFar, IsHole, IsUnder, MayPut, PutGoes, RowsLead};
 ghost use Rattle.nofs_files.specs.Puts.{pointed, rooted, step_of_put};
 
@@ -145,8 +145,8 @@ pub(crate) fn put_with_leaf<D: Disk + Drop>(
     last: &mut LastRead,
 ) -> Ended
     requires may { MayPut (D.state core.old.disk) core.old.books put.now it.now last.old 3 }
-    requires path { IsUnder put.now.slot (slots.InRecord 8) place }
-    requires hole { IsHole (D.state core.old.disk) put.now.inode (slots.InRecord 8) }
+    requires path { IsUnder put.now.slot (paths.InRecord 8) place }
+    requires hole { IsHole (D.state core.old.disk) put.now.inode (paths.InRecord 8) }
     requires empty { IsEmptySlot (D.state core.old.disk) put.now }
     requires rows { RowsLead (D.state core.old.disk) core.old.books (step_of_put put.now) }
     ensures { PutGoes (D.state core.old.disk) core.old.books (D.state core.new.disk) core.new.books put.now result }
@@ -190,10 +190,10 @@ pub(crate) fn put_with_child<D: Disk + Drop>(
     place: u32,
     last: &mut LastRead,
 ) -> Ended
-    requires top { HeldAt (D.state core.old.disk) core.old.books put.now.inode (slots.InRecord 9) top }
+    requires top { HeldAt (D.state core.old.disk) core.old.books put.now.inode (paths.InRecord 9) top }
     requires may { MayPut (D.state core.old.disk) core.old.books put.now it.now last.old 4 }
     requires path { IsFar put.now.slot child place }
-    requires hole { IsHole (D.state core.old.disk) put.now.inode (slots.Under (slots.InRecord 9) child) }
+    requires hole { IsHole (D.state core.old.disk) put.now.inode (paths.Under (paths.InRecord 9) child) }
     requires empty { IsEmptySlot (D.state core.old.disk) put.now }
     requires rows { RowsLead (D.state core.old.disk) core.old.books (step_of_put put.now) }
     ensures { PutGoes (D.state core.old.disk) core.old.books (D.state core.new.disk) core.new.books put.now result }
@@ -248,7 +248,7 @@ pub(crate) fn put_with_top<D: Disk + Drop>(
 ) -> Ended
     requires may { MayPut (D.state core.old.disk) core.old.books put.now it.now last.old 4 }
     requires path { IsFar put.now.slot child place }
-    requires hole { IsHole (D.state core.old.disk) put.now.inode (slots.InRecord 9) }
+    requires hole { IsHole (D.state core.old.disk) put.now.inode (paths.InRecord 9) }
     requires empty { IsEmptySlot (D.state core.old.disk) put.now }
     requires rows { RowsLead (D.state core.old.disk) core.old.books (step_of_put put.now) }
     ensures { PutGoes (D.state core.old.disk) core.old.books (D.state core.new.disk) core.new.books put.now result }

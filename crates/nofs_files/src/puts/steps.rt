@@ -2,7 +2,7 @@
 ghost use Rattle.std.specs.Prelude.{◌≡◌, ◌<◌, ◌≤◌, ◌^◌};
 ghost use Rattle.nofs_ptrs.specs.Paths.{slot_limit};
 ghost use Rattle.nofs_inode.specs.InodeRecords.{largest_size};
-ghost use Rattle.nofs_model.specs.Slots as slots;
+ghost use Rattle.nofs_ptrs.specs.Paths as paths;
 ghost use Rattle.nofs_history.specs.declared.machine.steps.Step.TheVariants as step;
 ghost use Rattle.nofs_state.specs.Books.Maps.{IsSafe};
 ghost use Rattle.nofs_state.specs.Cores.Steps.{Goes};
@@ -211,7 +211,7 @@ fn put_under_child<D: Disk + Drop>(
 ) -> Ended
     requires may { MayPut (D.state core.old.disk) core.old.books put.now it.now last.old 4 }
     requires path { IsFar put.now.slot child place }
-    requires top { HeldAt (D.state core.old.disk) core.old.books put.now.inode (slots.InRecord 9) top }
+    requires top { HeldAt (D.state core.old.disk) core.old.books put.now.inode (paths.InRecord 9) top }
     requires empty { IsEmptySlot (D.state core.old.disk) put.now }
     requires rows { RowsReachOf (D.state core.old.disk) core.old.books put.now }
     ensures { PutGoes (D.state core.old.disk) core.old.books (D.state core.new.disk) core.new.books put.now result }

@@ -2,6 +2,7 @@
 ghost use Rattle.std.specs.Prelude.{◌≡◌, ◌<◌, ◌≤◌, Some, length};
 ghost use Rattle.nofs_ptrs.specs.Paths.{slot_limit};
 ghost use Rattle.nofs_inode.specs.InodeRecords.{HasRecordSpelling, largest_size};
+ghost use Rattle.nofs_ptrs.specs.Paths as paths;
 ghost use Rattle.nofs_model.specs.Slots as slots;
 ghost use Rattle.nofs_model.specs.Files.{is_folder};
 ghost use Rattle.nofs_agree.specs.Reads.{IsLast, KnowsInode};
@@ -85,7 +86,7 @@ pub(crate) fn find_content<D: Disk>(
     requires slot { slot < slot_limit }
     requires last { IsLast (D.state disk.old) last.old }
     ensures { FindsSlot (D.state disk.old) (D.state disk.new) at.now
-        (λ X. slots.find X inode (slots.path_of slot)) last.new result }
+        (λ X. slots.find X inode (paths.path_of slot)) last.new result }
 {
     find_slot(disk, at, inode, it, place_of(slot), last)
 }

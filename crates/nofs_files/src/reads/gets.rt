@@ -1,5 +1,7 @@
 //! The content of a slot.
+ghost use Rattle.std.specs.Prelude.{◌≡◌, false};
 ghost use Rattle.nofs_history.specs.Claims.{no_claims};
+ghost use Rattle.nofs_history.specs.Steps.{is_out_of_memory};
 ghost use Rattle.nofs_history.specs.declared.machine.steps.Step.TheVariants as step;
 ghost use Rattle.nofs_history.specs.declared.machine.replies.Refusal.TheVariants as refusal;
 ghost use Rattle.nofs_history.specs.declared.machine.replies.Reply.TheVariants as reply;
@@ -24,9 +26,8 @@ pub enum Got {
     Lost,
 }
 
-/// Reads a slot of a file, whatever the size. Where there are bytes, `into` has them. It has only read, so its caller
-/// may still
-/// find no memory for them.
+/// Reads a slot of a file, whatever the size. Where there are bytes, `into` has them. It takes no memory, and has only
+/// read, so its caller may still find none for them.
 pub fn get<D: Disk + Drop>(
     core: &mut Core<D>,
     inode: u32,
@@ -39,6 +40,7 @@ pub fn get<D: Disk + Drop>(
         (step.Get inode generation slot) no_claims (got_answer into.new result) }
     ensures memory { Goes (D.state core.old.disk) core.old.books (D.state core.new.disk) core.new.books
         (step.Get inode generation slot) no_claims (reply.Refused refusal.OutOfMemory) }
+    ensures no_memory { is_out_of_memory (got_answer into.new result) ≡ false }
 {
     if core.books.stopped {
         return Err(Refusal::Stopped);

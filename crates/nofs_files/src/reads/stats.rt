@@ -1,6 +1,7 @@
 //! Kind, size and number of names of a file or directory.
-ghost use Rattle.std.specs.Prelude.{◌≡◌, length};
+ghost use Rattle.std.specs.Prelude.{◌≡◌, false, length};
 ghost use Rattle.nofs_history.specs.Claims.{no_claims};
+ghost use Rattle.nofs_history.specs.Steps.{is_out_of_memory};
 ghost use Rattle.nofs_history.specs.declared.machine.steps.Step.TheVariants as step;
 ghost use Rattle.nofs_agree.specs.Reads.{IsLast, KnowsInode};
 ghost use Rattle.nofs_state.specs.Books.Maps.{IsSafe};
@@ -13,15 +14,16 @@ use nofs_history::{Refusal, Stat};
 use nofs_inode::Record;
 use nofs_state::{Books, Core, open_inode};
 
-/// The kind, the size and the number of names of a file or directory.
+/// The kind, the size and the number of names of a file or directory. It takes no memory.
 pub fn stat<D: Disk + Drop>(
     core: &mut Core<D>,
     inode: u32,
     generation: u64,
 ) -> Result<Stat, Refusal>
     requires { IsSafe (D.state core.old.disk) core.old.books }
-    ensures { Goes (D.state core.old.disk) core.old.books (D.state core.new.disk) core.new.books
+    ensures goes { Goes (D.state core.old.disk) core.old.books (D.state core.new.disk) core.new.books
         (step.Stat inode generation) no_claims (stat_answer result) }
+    ensures no_memory { is_out_of_memory (stat_answer result) ≡ false }
 {
     if core.books.stopped {
         return Err(Refusal::Stopped);

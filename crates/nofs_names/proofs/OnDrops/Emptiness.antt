@@ -1,13 +1,18 @@
 -- Whether a directory has a name of a file, place by place and slot by slot.
 use Rattle.std.proofs.Common.{◌≡◌, ℕ, ◌+◌, ◌*◌, ◌<◌, inl, inr, Bool, true, false, List, [], Option, Some, None, IsTrue}
-use Rattle.std.proofs.Common.{Result, Ok, refl, sym, ap, ◌∙◌, subst}
-use Rattle.std.proofs.Common.{arith}
+use Rattle.std.proofs.Common.{Result, Ok, refl, sym, ap, ◌∙◌, subst, arith}
 use Rattle.std.proofs.lemmas.Bool.{cases_lt}
 use Rattle.nofs_disk.specs.Disk.{DiskState, StaysButFaults}
 use Rattle.nofs_disk.specs.Chains.{StaysButFaults-trans}
 use Rattle.nofs_disk.specs.declared.Failed.{Failed}
-use Rattle.nofs_model.specs.Cells.{Entry, Record, SuperBlock, entry_in}
-use Rattle.nofs_model.specs.Image.{Image, inode, Path, path_of, find, Files, entry_at, entry_held, value, value_in}
+use Rattle.nofs_dirent.specs.declared.entry.Entry.{Entry}
+use Rattle.nofs_inode.specs.declared.inode.Record.{Record}
+use Rattle.nofs_super.specs.declared.superblock.SuperBlock.{SuperBlock}
+use Rattle.nofs_dirent.specs.Entries.{entry_in}
+use Rattle.nofs_model.specs.Geometry.{Image, inode}
+use Rattle.nofs_ptrs.specs.Paths.{Path, path_of}
+use Rattle.nofs_model.specs.Slots.{find, value, value_in}
+use Rattle.nofs_model.specs.Files.{Files, entry_at, entry_held}
 use Rattle.nofs_model.specs.declared.image.path.PathAnswer.{PathAnswer}
 use Rattle.nofs_model.specs.declared.image.value.Value.TheVariants.{Bytes}
 use Rattle.nofs_history.specs.Machine.{link_to, is_paired}

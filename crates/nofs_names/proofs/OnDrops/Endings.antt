@@ -5,22 +5,29 @@ use Rattle.std.proofs.Common.{arith}
 use Rattle.std.proofs.lemmas.Bool.{cases_lt, lt-leb}
 use Rattle.std.specs.List.{list_any}
 use Rattle.nofs_disk.specs.Disk.{DiskState, IsDisk, cell_at}
-use Rattle.nofs_model.specs.Cells.{Cell, Entry, Pointer, Record, SuperBlock, is_live}
-use Rattle.nofs_model.specs.Image.{Image, super_at, is_data_block, inode, path_of, find, record_pointer, is_special}
-use Rattle.nofs_model.specs.Image.{FileState, Home, is_pair}
+use Rattle.nofs_disk.specs.declared.tag.Cell.{Cell}
+use Rattle.nofs_dirent.specs.declared.entry.Entry.{Entry}
+use Rattle.nofs_disk.specs.declared.tag.Pointer.{Pointer}
+use Rattle.nofs_inode.specs.declared.inode.Record.{Record}
+use Rattle.nofs_super.specs.declared.superblock.SuperBlock.{SuperBlock}
+use Rattle.nofs_inode.specs.InodeRecords.{is_live}
+use Rattle.nofs_model.specs.Geometry.{Image, super_at, is_data_block, inode}
+use Rattle.nofs_ptrs.specs.Paths.{path_of}
+use Rattle.nofs_model.specs.Slots.{find, record_pointer}
+use Rattle.nofs_model.specs.Files.{is_special, FileState, is_pair}
+use Rattle.nofs_model.specs.Owners.{Home}
 use Rattle.nofs_model.proofs.OnSlots.Find.{and-both, find-held}
 use Rattle.nofs_model.proofs.OnOwners.Slots.{owner-holds}
 use Rattle.nofs_crashlaw.specs.Images.Proper.{Proper}
 use Rattle.nofs_crashlaw.specs.Images.Moments.{during}
 use Rattle.nofs_history.specs.Meta.{Meta, Gone, Is, is_gone}
-use Rattle.nofs_history.specs.Marks.{Mark}
+use Rattle.nofs_history.specs.Marks.{Mark, mark_at}
 use Rattle.nofs_history.specs.Machine as machine
 use Rattle.nofs_history.specs.Machine.{Given, gives, drop_given, drop_meta, meta_given, without_link, link_to}
-use Rattle.nofs_history.specs.Machine.{zero_bytes}
-use Rattle.nofs_history.specs.Machine.{files_after, value_of, with_entry}
+use Rattle.nofs_history.specs.Machine.{zero_bytes, files_after, value_of, with_entry}
 use Rattle.nofs_history.specs.World.{World, is_fixed}
 use Rattle.nofs_history.specs.Claims.{no_claims, next_stamp, IsClaim, has_block}
-use Rattle.nofs_history.specs.History.{FilesMatch, mark_at}
+use Rattle.nofs_history.specs.History.{FilesMatch}
 use Rattle.nofs_history.specs.declared.machine.history.Entry1.{Entry1}
 use Rattle.nofs_history.specs.declared.machine.steps.Step.TheVariants as step
 use Rattle.nofs_history.specs.declared.machine.replies.Reply.TheVariants as reply

@@ -3,8 +3,14 @@ use Rattle.std.proofs.Common.{◌≡◌, ℕ, ◌*◌, ◌/◌, ◌%◌, ◌<◌
 use Rattle.std.proofs.Common.{subst, arith}
 use Rattle.nofs_disk.specs.Disk.{DiskState, StaysButFaults, cell_at}
 use Rattle.nofs_disk.specs.Number.{put_bytes, zeros}
-use Rattle.nofs_model.specs.Cells.{Cell, Pointer, Record, tag_of}
-use Rattle.nofs_model.specs.Image.{Image, files_in, find, path_of, agreed, Files}
+use Rattle.nofs_disk.specs.declared.tag.Cell.{Cell}
+use Rattle.nofs_disk.specs.declared.tag.Pointer.{Pointer}
+use Rattle.nofs_inode.specs.declared.inode.Record.{Record}
+use Rattle.nofs_disk.specs.Tag.{tag_of}
+use Rattle.nofs_model.specs.Geometry.{Image}
+use Rattle.nofs_model.specs.Files.{files_in, agreed, Files}
+use Rattle.nofs_model.specs.Slots.{find}
+use Rattle.nofs_ptrs.specs.Paths.{path_of}
 use Rattle.nofs_model.specs.declared.image.path.PathAnswer.TheVariants as answer
 use Rattle.nofs_history.specs.History.{FilesMatch}
 use Rattle.nofs_history.specs.declared.machine.history.Entry1.{Entry1}
@@ -15,7 +21,7 @@ use Rattle.nofs_state.specs.Books.Maps.{IsSafe}
 use Rattle.nofs_state.specs.Cores.Invariant.{IsOpen, Past}
 use Rattle.nofs_state.specs.declared.books.maps.Books.{Books}
 use Rattle.nofs_state.specs.Writes.Premises.{RecordIn}
-use Rattle.nofs_state.specs.Writes.Cells.{IsApart}
+use Rattle.nofs_disk.specs.Order.{IsApart}
 use Rattle.nofs_names.specs.Searches.Slots.{IsFoundEntry}
 use Rattle.nofs_names.specs.Searches.Refusals.{IsThere, KnownTrue}
 use Rattle.nofs_names.specs.declared.searches.slots.Paired.{Paired}

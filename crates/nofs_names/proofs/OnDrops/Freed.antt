@@ -1,20 +1,21 @@
 -- A step with which one inode goes: what it used is free, and known to be.
 use Rattle.std.proofs.Common.{◌≡◌, ◌≢◌, ℕ, ◌+◌, ◌-◌, ◌<◌, ◌≤◌, ◌⊎◌, Bool, true, false, cond, ltb, eqb, eq-eqb, ◌&&◌}
-use Rattle.std.proofs.Common.{◌||◌, not, Option, Some, None, is_some}
-use Rattle.std.proofs.Common.{inl, inr, refl, sym, ap, ◌∙◌, subst, arith}
+use Rattle.std.proofs.Common.{◌||◌, not, Option, Some, None, is_some, inl, inr, refl, sym, ap, ◌∙◌, subst, arith}
 use Rattle.nofs_agree.specs.Chain.{known_agreement}
 use Rattle.std.proofs.lemmas.Bool.{cases_eq, ne_eqb}
 use Rattle.std.proofs.Math.Bool.{or-false, or-true}
 use Rattle.nofs_ptrs.specs.Paths.{slot_limit}
 use Rattle.nofs_bits.specs.Bits.{is_set}
-use Rattle.nofs_model.specs.Cells.{SuperBlock, null}
-use Rattle.nofs_model.specs.Image.{Image, is_special, FileState, Files, Home}
+use Rattle.nofs_super.specs.declared.superblock.SuperBlock.{SuperBlock}
+use Rattle.nofs_disk.specs.Pointer.{null}
+use Rattle.nofs_model.specs.Geometry.{Image}
+use Rattle.nofs_model.specs.Files.{is_special, FileState, Files}
+use Rattle.nofs_model.specs.Owners.{Home}
 use Rattle.nofs_history.specs.Machine.{gives, files_after}
 use Rattle.nofs_history.specs.World.{World, is_fixed, blocks_needed, inodes_needed, uses_inode, uses_block}
 use Rattle.nofs_history.specs.World.{is_free_block}
 use Rattle.nofs_history.specs.Claims.{no_claims, IsBlockClaim, next_stamp, has_block, homes_after, claimed_home}
-use Rattle.nofs_history.specs.Claims.{IsClaim, IsInodeClaim, Unclaimed}
-use Rattle.nofs_history.specs.Claims.{NoInode}
+use Rattle.nofs_history.specs.Claims.{IsClaim, IsInodeClaim, Unclaimed, NoInode}
 use Rattle.nofs_history.specs.History.{FilesMatch}
 use Rattle.nofs_history.specs.Next.{Learns, sees_inode, sees_block}
 use Rattle.nofs_history.specs.declared.machine.steps.Step.{Step}

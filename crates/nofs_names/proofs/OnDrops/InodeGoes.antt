@@ -1,11 +1,19 @@
 -- The contract of the writes of Drop where the inode goes.
 use Rattle.std.proofs.Common.{◌≡◌, ℕ, ◌+◌, ◌-◌, ◌/◌, ◌%◌, ◌^◌, ◌<◌, ◌≤◌, ◌||◌, inl, inr, Bool, true, false, List, []}
-use Rattle.std.proofs.Common.{◌∷◌, length, Some, IsTrue, Result, Ok}
-use Rattle.std.proofs.Common.{Err, refl, sym, ap, ◌∙◌, subst, subst₂, None}
+use Rattle.std.proofs.Common.{◌∷◌, length, Some, IsTrue, Result, Ok, Err, refl, sym, ap, ◌∙◌, subst, subst₂, None}
 use Rattle.std.proofs.lemmas.List.{length-set}
 use Rattle.nofs_disk.specs.Disk.{DiskState, IsDisk, StaysButFaults, cell_at}
-use Rattle.nofs_model.specs.Cells.{Cell, Pointer, Record, SuperBlock, tag_of, is_live, free_record}
-use Rattle.nofs_model.specs.Image.{Image, path_of, find, files_in, agreed, owner}
+use Rattle.nofs_disk.specs.declared.tag.Cell.{Cell}
+use Rattle.nofs_disk.specs.declared.tag.Pointer.{Pointer}
+use Rattle.nofs_inode.specs.declared.inode.Record.{Record}
+use Rattle.nofs_super.specs.declared.superblock.SuperBlock.{SuperBlock}
+use Rattle.nofs_disk.specs.Tag.{tag_of}
+use Rattle.nofs_inode.specs.InodeRecords.{is_live, free_record}
+use Rattle.nofs_model.specs.Geometry.{Image}
+use Rattle.nofs_ptrs.specs.Paths.{path_of}
+use Rattle.nofs_model.specs.Slots.{find}
+use Rattle.nofs_model.specs.Files.{files_in, agreed}
+use Rattle.nofs_model.specs.Owners.{owner}
 use Rattle.nofs_model.specs.declared.image.path.PathAnswer.TheVariants as answer
 use Rattle.nofs_history.specs.Meta.{Meta, Gone, Is, is_gone}
 use Rattle.nofs_history.specs.Machine.{drop_meta, link_to}
@@ -22,7 +30,8 @@ use Rattle.nofs_state.specs.Books.Maps.{IsSafe}
 use Rattle.nofs_state.specs.Cores.Invariant.{IsOpen, Past}
 use Rattle.nofs_state.specs.Cores.Steps.{Goes, entry}
 use Rattle.nofs_state.specs.declared.books.maps.Books.{Books}
-use Rattle.nofs_state.specs.Writes.Cells.{IsApart, Stores, Stored, NotStored}
+use Rattle.nofs_disk.specs.Order.{IsApart}
+use Rattle.nofs_state.specs.Writes.Cells.{Stores, Stored, NotStored}
 use Rattle.nofs_names.specs.Searches.Refusals.{IsThere, KnownTrue}
 use Rattle.nofs_state.specs.Writes.Premises.{RowsPass, RecordIn}
 use Rattle.nofs_names.specs.declared.searches.slots.Paired.{Paired}

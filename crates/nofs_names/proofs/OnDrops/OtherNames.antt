@@ -5,8 +5,11 @@ use Rattle.std.specs.List.{list_any}
 use Rattle.std.proofs.lemmas.List.{get_or_default}
 use Rattle.std.proofs.lemmas.List.Folds.{list_any_none}
 use Rattle.nofs_disk.specs.Disk.{DiskState}
-use Rattle.nofs_model.specs.Cells.{BackLink, Record, no_link}
-use Rattle.nofs_model.specs.Image.{Image, files_in, agreed, is_special, is_pair, FileState, Files}
+use Rattle.nofs_inode.specs.declared.inode.BackLink.{BackLink}
+use Rattle.nofs_inode.specs.declared.inode.Record.{Record}
+use Rattle.nofs_inode.specs.InodeRecords.{no_link}
+use Rattle.nofs_model.specs.Geometry.{Image}
+use Rattle.nofs_model.specs.Files.{files_in, agreed, is_special, is_pair, FileState, Files}
 use Rattle.nofs_model.proofs.OnFiles.Chains.{any-same}
 use Rattle.nofs_history.specs.Meta.{Gone, Is, is_gone}
 use Rattle.nofs_history.specs.Machine.{drop_meta, without_link}

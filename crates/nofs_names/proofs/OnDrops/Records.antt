@@ -6,7 +6,9 @@ use Rattle.std.proofs.lemmas.List.Sums.{sum_by-cons}
 use Rattle.nofs_inode.specs.InodeRecords.{AllowsKind, AllowsRecord, HasRecordSpelling, IsTidyLink, is_empty_link}
 use Rattle.nofs_inode.specs.InodeRecords.{link_count}
 use Rattle.nofs_inode.specs.declared.inode.FileKind.TheVariants.{File, Directory}
-use Rattle.nofs_model.specs.Cells.{BackLink, FileKind, Record}
+use Rattle.nofs_inode.specs.declared.inode.BackLink.{BackLink}
+use Rattle.nofs_inode.specs.declared.inode.FileKind.{FileKind}
+use Rattle.nofs_inode.specs.declared.inode.Record.{Record}
 use Rattle.nofs_history.specs.Machine.{link_to, same_link, without_link}
 use Rattle.nofs_names.specs.Drops.Parts.{relinked}
 

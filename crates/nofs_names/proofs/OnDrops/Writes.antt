@@ -8,9 +8,16 @@ use Rattle.nofs_disk.specs.Disk.{DiskState, IsDisk, cell_at}
 use Rattle.nofs_disk.specs.Number.{put_bytes}
 use Rattle.nofs_disk.specs.Number as number
 use Rattle.nofs_inode.specs.declared.inode.FileKind.TheVariants.{Directory as Folder}
-use Rattle.nofs_model.specs.Cells.{Cell, Entry, Pointer, Record, tag_of, is_live}
-use Rattle.nofs_model.specs.Image.{Image, super_at, is_data_block, inode, path_of, find, files_in, agreed, is_folder}
-use Rattle.nofs_model.specs.Image.{Files}
+use Rattle.nofs_disk.specs.declared.tag.Cell.{Cell}
+use Rattle.nofs_dirent.specs.declared.entry.Entry.{Entry}
+use Rattle.nofs_disk.specs.declared.tag.Pointer.{Pointer}
+use Rattle.nofs_inode.specs.declared.inode.Record.{Record}
+use Rattle.nofs_disk.specs.Tag.{tag_of}
+use Rattle.nofs_inode.specs.InodeRecords.{is_live}
+use Rattle.nofs_model.specs.Geometry.{Image, super_at, is_data_block, inode}
+use Rattle.nofs_ptrs.specs.Paths.{path_of}
+use Rattle.nofs_model.specs.Slots.{find}
+use Rattle.nofs_model.specs.Files.{files_in, agreed, is_folder, Files}
 use Rattle.nofs_model.specs.declared.image.path.PathAnswer.TheVariants as answer
 use Rattle.nofs_model.specs.declared.image.value.Value.{Value}
 use Rattle.nofs_model.specs.declared.image.value.Value.TheVariants.{Bytes}
@@ -26,7 +33,8 @@ use Rattle.nofs_history.specs.Machine.{files_after, value_of, with_entry, found,
 use Rattle.nofs_history.specs.World.{World}
 use Rattle.nofs_history.specs.Claims.{no_claims, next_stamp, IsClaim}
 use Rattle.nofs_history.specs.Answers.{dropped_reply, dropped_entry}
-use Rattle.nofs_history.specs.History.{FilesMatch, mark_at}
+use Rattle.nofs_history.specs.History.{FilesMatch}
+use Rattle.nofs_history.specs.Marks.{mark_at}
 use Rattle.nofs_history.specs.declared.machine.history.Entry1.{Entry1}
 use Rattle.nofs_history.specs.declared.machine.steps.Step.TheVariants as step
 use Rattle.nofs_history.specs.declared.machine.replies.Reply.TheVariants as reply
@@ -45,7 +53,7 @@ use Rattle.nofs_state.proofs.OnWrites.Tables.{HasRecord, table_block, table-reco
 use Rattle.nofs_crashlaw.specs.Numbers.Cells.{RecordWritten, AsBefore, table_tag}
 use Rattle.nofs_state.specs.Cores.Invariant.{IsOpen, Past}
 use Rattle.nofs_state.specs.declared.books.maps.Books.{Books}
-use Rattle.nofs_state.specs.Writes.Cells.{OneOf, image_after}
+use Rattle.nofs_disk.specs.Order.{OneOf, image_after}
 use Rattle.nofs_names.specs.Searches.Slots.{IsFoundEntry}
 use Rattle.nofs_names.specs.declared.searches.slots.Paired.{Paired}
 use Rattle.nofs_names.proofs.OnSteps.CellAndRecord as write
@@ -254,11 +262,6 @@ module _ (old : DiskState) (k : Books) (H : List Entry1) (p : Past) (d g : ℕ) 
         ]))
     numbers b cell (inr (inr none)) = absurd none
 
-    last : (b : ℕ) (cell : Cell) → OneOf ((x.block, c1) ∷ (table_block q.inode, c2) ∷ []) b cell → cell ≡ cell_at Y b
-    last b cell (inl one) = one.1 ∙ sym (ap (cell_at Y) one.0 ∙ in-slot)
-    last b cell (inr (inl one)) = one.1 ∙ sym (ap (cell_at Y) one.0 ∙ in-table)
-    last b cell (inr (inr none)) = absurd none
-
     nothing-else : (j : ℕ) → j ≢ d → j ≢ it.inode → GivesNothing (drop_given W.files d g q.entry) j
     nothing-else j nd ni = subst (λ (z : Given). GivesNothing z j) (sym cell-is)
         (cell-elsewhere d g (q.entry / 16) (with_entry (value_of W.files d (q.entry / 16)) q.entry (zero_bytes 64))
@@ -284,7 +287,10 @@ module _ (old : DiskState) (k : Books) (H : List Entry1) (p : Past) (d g : ℕ) 
         files = w.files;
         move = w.move;
         writes = in-place-writes (next_stamp W) d it.inode (q.entry / 16) X Y x drops.held in-place;
-        last = last;
+      };
+      row = record {
+        once = write.once X q.inode x c1 c2 r' on.geometry.fits on.geometry.table on.geometry.multiple area drops.has;
+        exact = refl;
       };
     }
 

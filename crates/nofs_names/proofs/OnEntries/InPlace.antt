@@ -8,14 +8,20 @@ use Rattle.std.proofs.lemmas.Bool.Decides.{nat_tests}
 use Rattle.std.proofs.lemmas.List.{get_or-set_same, get_or-set_other}
 use Rattle.nofs_disk.specs.Disk.{cell_at, no_cell}
 use Rattle.nofs_disk.specs.Number.{zeros}
-use Rattle.nofs_inode.specs.InodeRecords.{record_or_free}
+use Rattle.nofs_inode.specs.InodeRecords.{record_or_free, record_at, record_of, fields_in, free_record}
 use Rattle.nofs_inode.specs.declared.inode.FileKind.TheVariants.{Directory as Folder}
-use Rattle.nofs_model.specs.Cells.{Cell, Directory, Entry, Leaf, Pointer, Record, null, SuperBlock, tag_of, record_at}
-use Rattle.nofs_model.specs.Cells.{record_of, fields_in}
-use Rattle.nofs_model.specs.Cells.{free_record, spelled_entry}
-use Rattle.nofs_model.specs.Image.{Image, super_at, is_inode, inode, InRecord, leaf, path_of, tag_for, kind_in, slot_of}
-use Rattle.nofs_model.specs.Image.{is_pointer_slot}
-use Rattle.nofs_model.specs.Image.{record_pointer}
+use Rattle.nofs_disk.specs.declared.tag.Cell.{Cell}
+use Rattle.nofs_disk.specs.declared.tag.Kind.TheVariants.{Directory, Leaf}
+use Rattle.nofs_dirent.specs.declared.entry.Entry.{Entry}
+use Rattle.nofs_disk.specs.declared.tag.Pointer.{Pointer}
+use Rattle.nofs_inode.specs.declared.inode.Record.{Record}
+use Rattle.nofs_disk.specs.Pointer.{null}
+use Rattle.nofs_super.specs.declared.superblock.SuperBlock.{SuperBlock}
+use Rattle.nofs_disk.specs.Tag.{tag_of}
+use Rattle.nofs_dirent.specs.Entries.{spelled_entry}
+use Rattle.nofs_model.specs.Geometry.{Image, super_at, is_inode, inode}
+use Rattle.nofs_ptrs.specs.Paths.{InRecord, leaf, path_of, slot_of, is_pointer_slot}
+use Rattle.nofs_model.specs.Slots.{tag_for, kind_in, record_pointer}
 use Rattle.nofs_model.specs.declared.image.value.Value.TheVariants.{Bytes, Hole}
 use Rattle.nofs_model.proofs.OnSlots.Find.{and-both}
 use Rattle.nofs_model.proofs.OnSound.Writes.{supers}
@@ -23,7 +29,7 @@ use Rattle.nofs_ptrs.specs.PathLaws.{path-direct, path-leaf, slot_of-path_of}
 use Rattle.nofs_history.specs.Machine.{with_entry}
 use Rattle.nofs_history.proofs.EntryPut.{with-entry-put, zeros-are}
 use Rattle.nofs_crashlaw.specs.Numbers.Cells.{table_tag}
-use Rattle.nofs_state.specs.Writes.Cells.{IsApart, image_after}
+use Rattle.nofs_disk.specs.Order.{IsApart, image_after}
 use Rattle.nofs_names.specs.Entries.Tables.{IsTable, table_block}
 use Rattle.nofs_state.proofs.OnWrites.Tables.{HasRecord, record-here, record-other}
 use Rattle.nofs_names.specs.Entries.Writes.{AreTables, entered, with_direct, with_leaf}

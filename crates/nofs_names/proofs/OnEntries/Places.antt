@@ -6,8 +6,10 @@ use Rattle.nofs_bits.specs.Bits.{count_set}
 use Rattle.std.proofs.lemmas.List.Sums.{count_by-le-length}
 use Rattle.nofs_disk.specs.Disk.{DiskState}
 use Rattle.nofs_disk.specs.declared.Failed.{Failed}
-use Rattle.nofs_model.specs.Cells.{SuperBlock}
-use Rattle.nofs_model.specs.Image.{Image, find, leaf, path_of, Path, Under}
+use Rattle.nofs_super.specs.declared.superblock.SuperBlock.{SuperBlock}
+use Rattle.nofs_model.specs.Geometry.{Image}
+use Rattle.nofs_model.specs.Slots.{find}
+use Rattle.nofs_ptrs.specs.Paths.{leaf, path_of, Path, Under}
 use Rattle.nofs_model.specs.declared.image.path.PathAnswer.{PathAnswer}
 use Rattle.nofs_model.specs.declared.image.path.PathAnswer.TheVariants as answer
 use Rattle.nofs_ptrs.specs.PathLaws.{path-leaf}

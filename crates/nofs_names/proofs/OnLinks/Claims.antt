@@ -1,14 +1,16 @@
 -- How many blocks a new entry asks for, and what a Link claims.
 use Rattle.std.proofs.Common.{◌≡◌, ◌≢◌, ℕ, zero, suc, ◌+◌, ◌*◌, ◌^◌, ◌<◌, ◌≤◌, inl, inr, Bool, true, false, cond, eqb}
-use Rattle.std.proofs.Common.{ne_eqb, ltb, not, List, [], ◌∷◌, ◌++◌, length}
-use Rattle.std.proofs.Common.{refl, sym, ap, ◌∙◌, subst, arith, Contains}
+use Rattle.std.proofs.Common.{ne_eqb, ltb, not, List, [], ◌∷◌, ◌++◌, length, refl, sym, ap, ◌∙◌, subst, arith, Contains}
 use Rattle.std.specs.Prelude.{slice_set}
 use Rattle.std.proofs.lemmas.Bool.{cases_eq}
 use Rattle.nofs_bits.specs.Bits.{is_set}
 use Rattle.nofs_disk.specs.Disk.{DiskState}
-use Rattle.nofs_model.specs.Cells.{Pointer, null}
-use Rattle.nofs_model.specs.Image.{Image, leaf, path_of, find, files_in, agreed, Files, Absent, Present, node_in}
-use Rattle.nofs_model.specs.Image.{value_in}
+use Rattle.nofs_disk.specs.declared.tag.Pointer.{Pointer}
+use Rattle.nofs_disk.specs.Pointer.{null}
+use Rattle.nofs_model.specs.Geometry.{Image}
+use Rattle.nofs_ptrs.specs.Paths.{leaf, path_of}
+use Rattle.nofs_model.specs.Slots.{find, value_in}
+use Rattle.nofs_model.specs.Files.{files_in, agreed, Files, Absent, Present, node_in}
 use Rattle.nofs_model.specs.declared.image.path.PathAnswer.TheVariants as answer
 use Rattle.nofs_ptrs.specs.PathLaws.{path-direct, path-leaf}
 use Rattle.nofs_history.specs.Meta.{is_bytes}
@@ -20,7 +22,7 @@ use Rattle.nofs_history.specs.History.{FilesMatch}
 use Rattle.nofs_history.specs.declared.machine.history.Claims.{Claims}
 use Rattle.nofs_history.specs.declared.machine.history.Entry1.{Entry1}
 use Rattle.nofs_history.specs.declared.machine.steps.Step.TheVariants as step
-use Rattle.nofs_crashlaw.proofs.OnFiles.PutFile.{file-in}
+use Rattle.nofs_crashlaw.proofs.OnUntouched.Agreement.{file-in}
 use Rattle.nofs_state.proofs.OnBooks.Machine.{agreed-live, world-numbers}
 use Rattle.nofs_state.proofs.OnBooks.Bits.{set-here, set-length, set-other}
 use Rattle.nofs_state.proofs.OnCores.Replies.{open-files}
@@ -76,19 +78,6 @@ module _ (F : Files) (X : Image) (d k : ℕ) (match : FilesMatch F X) (agrees : 
 
 abbrev pub claims_of : Pointer → Pointer → Claims
 claims_of x y = record no_claims { cell = x; leaf = y }
-
--- two cells, and one more for each block that is claimed
-pub count-one : (c : Claims)
-    → 0 < c.cell.block → is_claimed c.leaf ≡ false → is_claimed c.top ≡ false → 3 ≡ 2 + length (claimed_blocks c)
-count-one c low b d = let a : eqb c.cell.block 0 ≡ false = ne_eqb c.cell.block 0 (λ e. omega (arith, low, e)) in
-    rw (a, b, d) refl
-
-pub count-two : (c : Claims)
-    → 0 < c.cell.block → 0 < c.leaf.block → is_claimed c.top ≡ false → 4 ≡ 2 + length (claimed_blocks c)
-count-two c low low2 d =
-    let a : eqb c.cell.block 0 ≡ false = ne_eqb c.cell.block 0 (λ e. omega (arith, low, e)) in
-    let b : eqb c.leaf.block 0 ≡ false = ne_eqb c.leaf.block 0 (λ e. omega (arith, low2, e)) in
-    rw (a, b, d) refl
 
 pub claimed-first : (x y : Pointer) → is_claimed x ≡ true → Contains (claimed_blocks (claims_of x y)) x
 claimed-first x y t = rw t (0, omega arith, refl)

@@ -6,10 +6,14 @@ use Rattle.std.proofs.lemmas.Bool.{cases_lt}
 use Rattle.nofs_disk.specs.Disk.{DiskState, StaysButFaults}
 use Rattle.nofs_disk.specs.Chains.{StaysButFaults-refl, StaysButFaults-trans, Rose-within}
 use Rattle.nofs_disk.specs.declared.Failed.{Failed}
-use Rattle.nofs_inode.specs.InodeRecords.{is_empty_link}
+use Rattle.nofs_inode.specs.InodeRecords.{is_empty_link, no_link}
 use Rattle.nofs_inode.specs.declared.inode.FileKind.TheVariants.{File, Directory}
-use Rattle.nofs_model.specs.Cells.{BackLink, FileKind, Record, SuperBlock, no_link}
-use Rattle.nofs_model.specs.Image.{Image, inode, Files, files_in, agreed, is_folder, is_pair, links_of, links_in_file}
+use Rattle.nofs_inode.specs.declared.inode.BackLink.{BackLink}
+use Rattle.nofs_inode.specs.declared.inode.FileKind.{FileKind}
+use Rattle.nofs_inode.specs.declared.inode.Record.{Record}
+use Rattle.nofs_super.specs.declared.superblock.SuperBlock.{SuperBlock}
+use Rattle.nofs_model.specs.Geometry.{Image, inode}
+use Rattle.nofs_model.specs.Files.{Files, files_in, agreed, is_folder, is_pair, links_of, links_in_file}
 use Rattle.nofs_history.specs.Search.{first_of}
 use Rattle.nofs_history.specs.Machine.{is_folder_at, link_place, place_for_link}
 use Rattle.nofs_history.specs.World.{World}

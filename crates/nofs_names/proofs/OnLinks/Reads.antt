@@ -4,7 +4,8 @@ use Rattle.std.proofs.Common.{Option, Some, None, IsTrue, sym, ◌∙◌, subst,
 use Rattle.std.specs.Prelude.{IfSome}
 use Rattle.nofs_dirent.specs.Entries.{entry_limit}
 use Rattle.nofs_disk.specs.Disk.{DiskState, StaysButFaults}
-use Rattle.nofs_model.specs.Image.{Image, Files}
+use Rattle.nofs_model.specs.Geometry.{Image}
+use Rattle.nofs_model.specs.Files.{Files}
 use Rattle.nofs_history.specs.Search.{first_of, least_from}
 use Rattle.nofs_history.specs.World.{World}
 use Rattle.nofs_history.specs.declared.machine.history.Entry1.{Entry1}
@@ -20,8 +21,7 @@ use Rattle.nofs_names.specs.Searches.Slots.{Passed}
 use Rattle.nofs_names.specs.Searches.Refusals.{IsThere, KnownTrue}
 use Rattle.nofs_names.specs.Entries.Places.{LiesInside}
 use Rattle.nofs_names.specs.declared.searches.slots.Unfound.{Unfound}
-use Rattle.nofs_names.specs.Links.{AreBoth, Leads, PlaceIs, SpotIs}
-use Rattle.nofs_names.specs.Links.{StandsLink}
+use Rattle.nofs_names.specs.Links.{AreBoth, Leads, PlaceIs, SpotIs, StandsLink}
 use Rattle.nofs_names.specs.declared.links.new_name.Both.{Both}
 
 -- What was seen of a directory lies in it

@@ -2,14 +2,15 @@
 use Rattle.std.proofs.Common.{◌≡◌, ℕ, ◌+◌, ◌/◌, ◌^◌, ◌<◌, inl, inr, Bool, true, false, not, eqb, ◌&&◌, is_some, ltb}
 use Rattle.std.proofs.Common.{List, [], ◌∷◌, ◌++◌}
 use Rattle.std.proofs.Common.{Option, Some, None, IsTrue, Result, Ok, Err, IfErr, refl, sym, ap, ◌∙◌, subst, arith}
-use Rattle.nofs_dirent.specs.Entries.{entry_limit}
-use Rattle.nofs_disk.specs.Disk.{DiskState, IsDisk, StaysButFaults, Rose}
-use Rattle.nofs_disk.specs.Disk.{cell_at}
+use Rattle.nofs_dirent.specs.Entries.{entry_limit, spelled_entry}
+use Rattle.nofs_disk.specs.Disk.{DiskState, IsDisk, StaysButFaults, Rose, cell_at}
 use Rattle.nofs_disk.specs.Chains.{StaysButFaults-refl, StaysButFaults-trans}
 use Rattle.nofs_dirent.specs.Names.{is_name}
 use Rattle.nofs_dirent.specs.EntryLaws.{Spells}
-use Rattle.nofs_model.specs.Cells.{Cell, Entry, Record, spelled_entry}
-use Rattle.nofs_model.specs.Image.{Image}
+use Rattle.nofs_disk.specs.declared.tag.Cell.{Cell}
+use Rattle.nofs_dirent.specs.declared.entry.Entry.{Entry}
+use Rattle.nofs_inode.specs.declared.inode.Record.{Record}
+use Rattle.nofs_model.specs.Geometry.{Image}
 use Rattle.nofs_history.specs.Search.{first_of}
 use Rattle.nofs_history.specs.Machine.{generation_of, is_folder_at, found, link_place, link_to, place_for}
 use Rattle.nofs_history.specs.World.{World, blocks_needed, free_blocks, next_block, unverified_blocks}
@@ -44,8 +45,7 @@ use Rattle.nofs_state.specs.Writes.Premises.{RowsPass}
 use Rattle.nofs_names.specs.Entries.Tables.{table_block}
 use Rattle.nofs_state.specs.declared.writes.ends.Ended.{Ended}
 use Rattle.nofs_names.specs.Entries.Places.{FindsEntrySlot, FitsSlot, IsEntrySlot, IsSlotCell, IsPlaceOf}
-use Rattle.nofs_names.specs.Entries.Places.{SlotFails, TakesBlocks, slot_blocks}
-use Rattle.nofs_names.specs.Entries.Places.{place_or_full, room_rows}
+use Rattle.nofs_names.specs.Entries.Places.{SlotFails, TakesBlocks, slot_blocks, place_or_full, room_rows}
 use Rattle.nofs_names.specs.declared.entries.places.EntryBlocks.{EntryBlocks}
 use Rattle.nofs_names.specs.declared.entries.places.EntrySlot.{EntrySlot}
 use Rattle.nofs_names.specs.declared.searches.slots.Unfound.{Unfound}
@@ -359,11 +359,16 @@ pub link-ends : (old mid new : DiskState) (k l : Books) (d g : ℕ) (both : Both
     → Goes mid k new l (step.Link d g it.name it.inode it.generation) ended.claims
     (done_answer reply.Linked ended.result)
 link-ends old mid new k l d g both p it spot t ended r last_read is_mid is_new safe going may before enters reads e w =
-    enters-goes old mid new k l d g both p it spot t ended is_mid is_new
-    (safe-keeps old mid (reads-keep old mid reads.stays) k safe) going
-    (may-link-on old mid k d g both p it spot reads.stays may) before enters
-    (λ z. reads.directory (back z) ∙ ap (λ (X : Image). cell_at X (table_block d)) (sym reads.stays.cells.now))
-    (λ z. reads.inode (back z) ∙ ap (λ (X : Image). cell_at X (table_block it.inode)) (sym reads.stays.cells.now))
+    enters-goes old mid new k l d g both p it spot t ended before (record {
+      disk = is_mid;
+      safe = safe-keeps old mid (reads-keep old mid reads.stays) k safe;
+      may = may-link-on old mid k d g both p it spot reads.stays may;
+      enters = enters;
+      at_d = λ z. reads.directory (back z)
+          ∙ ap (λ (X : Image). cell_at X (table_block d)) (sym reads.stays.cells.now);
+      at_i = λ z. reads.inode (back z)
+          ∙ ap (λ (X : Image). cell_at X (table_block it.inode)) (sym reads.stays.cells.now);
+    }) is_new going
     (subst (λ (q : Record). Enters mid k new l d both.directory p it q t p.slot ended) e w)
   where
     back : IsTrue mid.tells → IsTrue old.tells

@@ -4,29 +4,36 @@ use Rattle.std.proofs.Common.{cond, ne_eqb, leb, leb-true, ◌&&◌, List}
 use Rattle.std.proofs.Common.{[], ◌∷◌, length, Option, Some, None, is_some, IsTrue, refl, sym, ap, ◌∙◌, subst, arith}
 use Rattle.std.proofs.Common.{Contains}
 use Rattle.std.specs.Prelude.{slice_set}
-use Rattle.nofs_dirent.specs.Entries.{entry_limit}
+use Rattle.nofs_dirent.specs.Entries.{entry_limit, spelled_entry}
 use Rattle.nofs_disk.specs.Disk.{DiskState, IsDisk, cell_at}
 use Rattle.nofs_dirent.specs.EntryLaws.{Spells}
 use Rattle.nofs_inode.specs.declared.inode.FileKind.TheVariants.{Directory as Folder, File}
-use Rattle.nofs_model.specs.Cells.{BackLink, Cell, FileKind, Pointer, Record, SuperBlock, tag_of, record_at}
-use Rattle.nofs_model.specs.Cells.{spelled_entry}
-use Rattle.nofs_model.specs.Image.{Image, super_at, is_data_block, is_inode, inode, leaf, path_of, find, files_in}
-use Rattle.nofs_model.specs.Image.{agreed, is_folder, FileState}
-use Rattle.nofs_model.specs.Image.{Files, Home, home_at, links_of, links_in_file, record_pointer}
+use Rattle.nofs_inode.specs.declared.inode.BackLink.{BackLink}
+use Rattle.nofs_disk.specs.declared.tag.Cell.{Cell}
+use Rattle.nofs_inode.specs.declared.inode.FileKind.{FileKind}
+use Rattle.nofs_disk.specs.declared.tag.Pointer.{Pointer}
+use Rattle.nofs_inode.specs.declared.inode.Record.{Record}
+use Rattle.nofs_super.specs.declared.superblock.SuperBlock.{SuperBlock}
+use Rattle.nofs_disk.specs.Tag.{tag_of}
+use Rattle.nofs_inode.specs.InodeRecords.{record_at}
+use Rattle.nofs_model.specs.Geometry.{Image, super_at, is_data_block, is_inode, inode}
+use Rattle.nofs_ptrs.specs.Paths.{leaf, path_of}
+use Rattle.nofs_model.specs.Slots.{find, record_pointer}
+use Rattle.nofs_model.specs.Files.{files_in, agreed, is_folder, FileState, Files, links_of, links_in_file}
+use Rattle.nofs_model.specs.Owners.{Home, home_at}
 use Rattle.nofs_model.specs.declared.image.path.PathAnswer.TheVariants as answer
 use Rattle.nofs_model.specs.declared.image.value.Value.{Value}
 use Rattle.nofs_model.proofs.OnSlots.Find.{and-both, find-held}
 use Rattle.nofs_model.proofs.OnSound.Writes.{supers}
 use Rattle.nofs_crashlaw.specs.Images.Proper.{Proper}
 use Rattle.nofs_crashlaw.specs.Images.Moments.{during}
-use Rattle.nofs_history.specs.Marks.{Mark}
+use Rattle.nofs_history.specs.Marks.{Mark, mark_at}
 use Rattle.nofs_history.specs.Meta.{Meta, Gone, Is, is_bytes, meta_of}
 use Rattle.nofs_history.specs.Machine.{Given, link_given, link_place, link_to, set_link, cell_given, entry_given}
-use Rattle.nofs_history.specs.Machine.{meta_given, files_after, is_at}
-use Rattle.nofs_history.specs.Machine.{is_paired, value_of, with_entry, place_for}
+use Rattle.nofs_history.specs.Machine.{meta_given, files_after, is_at, is_paired, value_of, with_entry, place_for}
 use Rattle.nofs_history.specs.World.{World, blocks_needed}
 use Rattle.nofs_history.specs.Claims.{has_block, next_stamp, IsClaim}
-use Rattle.nofs_history.specs.History.{FilesMatch, mark_at}
+use Rattle.nofs_history.specs.History.{FilesMatch}
 use Rattle.nofs_history.specs.declared.machine.history.Claims.{Claims}
 use Rattle.nofs_history.specs.declared.machine.history.Entry1.{Entry1}
 use Rattle.nofs_history.specs.declared.machine.steps.Step.TheVariants as step
@@ -42,7 +49,7 @@ use Rattle.nofs_crashlaw.specs.Homes.Entries.{EntryClaims}
 use Rattle.nofs_crashlaw.specs.Numbers.Cells.{RecordWritten, table_tag}
 use Rattle.nofs_state.specs.Cores.Invariant.{IsOpen, Past}
 use Rattle.nofs_state.specs.declared.books.maps.Books.{Books}
-use Rattle.nofs_state.specs.Writes.Cells.{OneOf, image_after}
+use Rattle.nofs_disk.specs.Order.{OneOf, image_after}
 use Rattle.nofs_crashlaw.proofs.OnNames.Holes.{hole-cell, hole-leaf-proper, hole-writes}
 use Rattle.nofs_crashlaw.proofs.OnNames.Premises.{link-gives, link-place-parts, link-plain}
 use Rattle.nofs_crashlaw.proofs.OnNames.NewLaws.{law-link-in-place, law-link-in-hole}
@@ -264,7 +271,6 @@ module _ (old : DiskState) (k : Books) (H : List Entry1) (p : Past) (d g : ℕ) 
     move = law-link-in-place-homes W X Y d g e i of spot
         (next_stamp W) name own.file his.file x c lies h.entry it.place it.claim;
     writes = in-place-writes (next_stamp W) d i (e / 16) X Y x h.entry.held h.entry.writes;
-    last = λ b cell one. (h.each b cell one).0;
   }
     where
       law : ((m : Mark) → is_data_block m.image x.block ≡ true
@@ -315,7 +321,6 @@ module _ (old : DiskState) (k : Books) (H : List Entry1) (p : Past) (d g : ℕ) 
     move = law-link-in-hole-homes W X Y d g e i of spot
         (next_stamp W) name own.file his.file x y c lies h.entry h.claims it.claim;
     writes = writes;
-    last = λ b cell one. (h.each b cell one).0;
   }
     where
       writes : NameWrites (next_stamp W) d i X Y

@@ -1,12 +1,13 @@
 -- What List answers.
 use Rattle.std.proofs.Common.{◌≡◌, ℕ, ◌-◌, ◌<◌, ◌≤◌, false, cond, not, eqb, ◌&&◌, is_some, List, Some, None, IsTrue}
-use Rattle.std.proofs.Common.{Result, Ok, Err, IfErr, inl, inr, refl}
-use Rattle.std.proofs.Common.{sym, ap, ◌∙◌, subst, arith, le_refl}
+use Rattle.std.proofs.Common.{Result, Ok, Err, IfErr, inl, inr, refl, sym, ap, ◌∙◌, subst, arith, le_refl}
 use Rattle.nofs_disk.specs.Disk.{DiskState, IsDisk, StaysButFaults}
 use Rattle.nofs_disk.specs.Chains.{StaysButFaults-trans, Rose-within}
 use Rattle.nofs_disk.specs.declared.Failed.{Failed}
-use Rattle.nofs_model.specs.Cells.{Record}
-use Rattle.nofs_model.specs.Image.{Image, Files, value}
+use Rattle.nofs_inode.specs.declared.inode.Record.{Record}
+use Rattle.nofs_model.specs.Geometry.{Image}
+use Rattle.nofs_model.specs.Files.{Files}
+use Rattle.nofs_model.specs.Slots.{value}
 use Rattle.nofs_model.specs.declared.image.value.Value.{Value}
 use Rattle.nofs_model.specs.declared.image.value.Value.TheVariants.{Hole, Bytes, Lost}
 use Rattle.nofs_history.specs.Search.{first_of, least_from}
@@ -25,7 +26,8 @@ use Rattle.nofs_history.specs.declared.machine.replies.Refusal.TheVariants as re
 use Rattle.nofs_agree.specs.declared.reads.LastRead.{LastRead}
 use Rattle.nofs_agree.proofs.OnChain.{told-on, record-of}
 use Rattle.nofs_state.specs.Books.Maps.{IsSafe}
-use Rattle.nofs_state.specs.Cores.Steps.{Goes, IsReading, makes_calls}
+use Rattle.nofs_history.specs.Writes.{makes_calls}
+use Rattle.nofs_state.specs.Cores.Steps.{Goes, IsReading}
 use Rattle.nofs_state.specs.declared.books.maps.Books.{Books}
 use Rattle.nofs_state.specs.Inodes.Blocks.{MarkFails}
 use Rattle.nofs_state.proofs.OnCores.Unchanged.{goes-memory, reads-keep}

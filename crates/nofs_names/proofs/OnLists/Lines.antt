@@ -10,8 +10,14 @@ use Rattle.nofs_dirent.specs.NameLaws.{is_name-Decides}
 use Rattle.nofs_disk.specs.Disk.{DiskState, StaysButFaults}
 use Rattle.nofs_disk.specs.Chains.{StaysButFaults-trans}
 use Rattle.nofs_inode.specs.declared.inode.FileKind.TheVariants.{File, Directory}
-use Rattle.nofs_model.specs.Cells.{Entry, FileKind, Record, SuperBlock, entry_in}
-use Rattle.nofs_model.specs.Image.{Image, inode, Files, files_in, agreed, is_folder, entry_at, value}
+use Rattle.nofs_dirent.specs.declared.entry.Entry.{Entry}
+use Rattle.nofs_inode.specs.declared.inode.FileKind.{FileKind}
+use Rattle.nofs_inode.specs.declared.inode.Record.{Record}
+use Rattle.nofs_super.specs.declared.superblock.SuperBlock.{SuperBlock}
+use Rattle.nofs_dirent.specs.Entries.{entry_in}
+use Rattle.nofs_model.specs.Geometry.{Image, inode}
+use Rattle.nofs_model.specs.Files.{Files, files_in, agreed, is_folder, entry_at}
+use Rattle.nofs_model.specs.Slots.{value}
 use Rattle.nofs_model.specs.declared.image.value.Value.TheVariants.{Bytes}
 use Rattle.nofs_history.specs.Machine.{link_to, is_paired, is_folder_at}
 use Rattle.nofs_history.specs.Answers.{line_of, lines_from, lines_in_slot}

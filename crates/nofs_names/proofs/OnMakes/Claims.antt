@@ -8,17 +8,21 @@ use Rattle.std.proofs.lemmas.Bool.{cases_eq}
 use Rattle.nofs_dirent.specs.Entries.{entry_limit}
 use Rattle.nofs_bits.specs.Bits.{is_set}
 use Rattle.nofs_disk.specs.Disk.{DiskState}
-use Rattle.nofs_model.specs.Cells.{FileKind, Pointer, SuperBlock, null}
-use Rattle.nofs_model.specs.Image.{Image, value_in, leaf, path_of, find, files_in, agreed, Files, NodeState, Absent}
-use Rattle.nofs_model.specs.Image.{Present, Damaged, node_in}
+use Rattle.nofs_inode.specs.declared.inode.FileKind.{FileKind}
+use Rattle.nofs_disk.specs.declared.tag.Pointer.{Pointer}
+use Rattle.nofs_super.specs.declared.superblock.SuperBlock.{SuperBlock}
+use Rattle.nofs_disk.specs.Pointer.{null}
+use Rattle.nofs_model.specs.Geometry.{Image}
+use Rattle.nofs_model.specs.Slots.{value_in, find}
+use Rattle.nofs_ptrs.specs.Paths.{leaf, path_of}
+use Rattle.nofs_model.specs.Files.{files_in, agreed, Files, NodeState, Absent, Present, Damaged, node_in}
 use Rattle.nofs_model.specs.declared.image.path.PathAnswer.TheVariants as answer
-use Rattle.nofs_model.proofs.OnSlots.Paths.{path-direct, path-leaf}
+use Rattle.nofs_ptrs.specs.PathLaws.{path-direct, path-leaf}
 use Rattle.nofs_history.specs.Meta.{is_bytes}
 use Rattle.nofs_history.specs.Machine.{value_of, node_of, place_for}
 use Rattle.nofs_history.specs.World.{World, blocks_at, blocks_for, blocks_needed, is_free_block}
 use Rattle.nofs_history.specs.Claims.{IsClaim, IsBlockClaim, IsInodeClaim, Claimed, Unclaimed, ClaimedInode, Apart}
-use Rattle.nofs_history.specs.Claims.{claimed_blocks, is_claimed}
-use Rattle.nofs_history.specs.Claims.{next_stamp}
+use Rattle.nofs_history.specs.Claims.{claimed_blocks, is_claimed, next_stamp}
 use Rattle.nofs_history.specs.History.{FilesMatch}
 use Rattle.nofs_history.specs.declared.machine.history.Claims.{Claims}
 use Rattle.nofs_history.specs.declared.machine.history.Entry1.{Entry1}
@@ -31,8 +35,7 @@ use Rattle.nofs_state.specs.declared.books.maps.Books.{Books}
 use Rattle.nofs_names.specs.Entries.Places.{FitsSlot, IsEntrySlot, slot_blocks}
 use Rattle.nofs_names.specs.declared.entries.places.EntrySlot.{EntrySlot}
 use Rattle.nofs_names.specs.declared.entries.places.EntrySlot.TheVariants.{Held as HeldSlot, Direct as DirectHole}
-use Rattle.nofs_names.specs.declared.entries.places.EntrySlot.TheVariants.{UnderLeaf as HoleUnder}
-use Rattle.nofs_names.specs.declared.entries.places.EntrySlot.TheVariants.{WithLeaf as HoleWith}
+use Rattle.nofs_names.specs.declared.entries.places.EntrySlot.TheVariants.{UnderLeaf as HoleUnder, WithLeaf as HoleWith}
 use Rattle.nofs_state.proofs.OnBooks.Machine.{agreed-live}
 use Rattle.nofs_state.proofs.OnBooks.Bits.{set-here, set-other, set-length}
 use Rattle.nofs_names.proofs.OnSteps.Claims.{TakenBoth, TakenInode}

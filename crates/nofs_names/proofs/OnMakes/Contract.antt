@@ -1,9 +1,13 @@
 -- The contract of Make, from what it writes.
-use Rattle.std.proofs.Common.{◌≡◌, ℕ, ◌+◌, false, List, length, Result, Ok, Err, IsTrue, refl, subst}
+use Rattle.std.proofs.Common.{◌≡◌, ℕ, ◌+◌, ◌/◌, false, List, length, Option, Result, Ok, Err, IsTrue, refl, sym, ap}
+use Rattle.std.proofs.Common.{◌∙◌, subst}
 use Rattle.nofs_disk.specs.Disk.{DiskState, IsDisk}
-use Rattle.nofs_model.specs.Cells.{Cell, FileKind}
+use Rattle.nofs_disk.specs.declared.tag.Cell.{Cell}
+use Rattle.nofs_inode.specs.declared.inode.FileKind.{FileKind}
+use Rattle.nofs_ptrs.specs.Paths.{path_of}
 use Rattle.nofs_history.specs.World.{blocks_needed}
 use Rattle.nofs_history.specs.Claims.{claimed_blocks}
+use Rattle.nofs_history.specs.Writes.{name_cells, name_cells_at}
 use Rattle.nofs_history.specs.declared.machine.history.Claims.{Claims}
 use Rattle.nofs_history.specs.declared.machine.history.Entry1.{Entry1}
 use Rattle.nofs_history.specs.declared.machine.steps.Step.TheVariants as step
@@ -13,7 +17,8 @@ use Rattle.nofs_state.specs.Books.Maps.{IsSafe}
 use Rattle.nofs_state.specs.Cores.Invariant.{IsOpen, Past}
 use Rattle.nofs_state.specs.Cores.Steps.{Goes}
 use Rattle.nofs_state.specs.declared.books.maps.Books.{Books}
-use Rattle.nofs_state.specs.Writes.Cells.{IsApart, Stores, image_after}
+use Rattle.nofs_disk.specs.Order.{IsApart, WritesOnce, image_after}
+use Rattle.nofs_state.specs.Writes.Cells.{Stores}
 use Rattle.nofs_state.specs.Writes.Premises.{RowsPass}
 use Rattle.nofs_names.specs.Renames.Parts.{done_answer}
 use Rattle.nofs_names.specs.Makes.{made_answer}
@@ -29,6 +34,7 @@ pub record IsMade (b : DiskState) (H : List Entry1) (p : Past) (d g : ℕ) (name
     Type 0 where
   pub it : Makes b.now (image_after ws b.now) p.world d g name kind e c
   pub ends : WritesName b H p (step.Make d g name kind) c (make_given p.world.files d g name kind c e) d c.inode ws
+  pub once : WritesOnce ws
   pub needs : blocks_needed p.world.files (step.Make d g name kind) ≡ m
 
 -- the answer of a Make
@@ -42,13 +48,14 @@ pub made-goes : (b new : DiskState) (k q l : Books) (d g : ℕ) (name : List ℕ
     (result : Result (Unit {0}) Refusal) → IsDisk b → IsDisk new → IsSafe b k → IsSafe b q
     → k.stopped ≡ false → IsApart ws 0 → TakenBoth k q c m
     → ((tells : IsTrue b.tells) (H : List Entry1) (p : Past) → IsOpen b k H p → IsMade b H p d g name kind e c ws m)
-    → RowsPass b k (step.Make d g name kind) → Stores b q new l ws result → length ws ≡ 2 + length (claimed_blocks c)
+    → RowsPass b k (step.Make d g name kind) → Stores b q new l ws result
+    → length ws ≡ name_cells (length (claimed_blocks c)) d c.inode (path_of (e / 16))
     → Goes b k new l (step.Make d g name kind) c (made_answer c result)
 made-goes b new k q l d g name kind e c ws m result is_b is_new safe claimed going apart taken made pass stores count =
     subst (Goes b k new l (step.Make d g name kind) c) (answer-is c result)
     (stores-goes b new k q l (step.Make d g name kind) c
     (reply.Made c.inode c.generation) ws result is_b is_new safe going claimed
-    (taken-same k q c (1 + m) taken.all) apart refl count refl refl refl
+    (taken-same k q c (1 + m) taken.all) apart refl (path_of (e / 16), count) refl refl refl
     (λ tells H p o. let f = made tells H p o in record {
       step = record {
         given = make_given p.world.files d g name kind c e;
@@ -56,6 +63,11 @@ made-goes b new k q l d g name kind e c ws m result is_b is_new safe claimed goi
         file = c.inode;
         gives = make-gives b k H p d g name kind e c ws is_b tells o f.it;
         ends = f.ends;
+        row = record {
+          once = f.once;
+          exact = count
+              ∙ sym (ap (λ (at : Option ℕ). name_cells_at at (length (claimed_blocks c)) d c.inode) f.it.place);
+        };
       };
       follows = make-follows b k H p d g name kind e c ws is_b tells o f.it q m taken f.needs;
       answer = refl;

@@ -3,7 +3,8 @@ use Rattle.std.proofs.Common.{◌≡◌, ℕ, ◌/◌, ◌^◌, ◌<◌, ◌≤�
 use Rattle.std.proofs.Common.{sym, ap, subst, arith}
 use Rattle.nofs_bits.specs.Bits.{is_set}
 use Rattle.nofs_disk.specs.Disk.{DiskState, IsDisk, cell_at}
-use Rattle.nofs_model.specs.Cells.{FileKind, Record}
+use Rattle.nofs_inode.specs.declared.inode.FileKind.{FileKind}
+use Rattle.nofs_inode.specs.declared.inode.Record.{Record}
 use Rattle.nofs_history.specs.Machine.{link_to}
 use Rattle.nofs_history.specs.Claims.{is_claimed}
 use Rattle.nofs_history.specs.declared.machine.history.Claims.{Claims}
@@ -20,17 +21,17 @@ use Rattle.nofs_names.specs.declared.entries.writes.EntryPlace.{EntryPlace}
 use Rattle.nofs_names.specs.declared.entries.writes.Tables.{Tables}
 use Rattle.nofs_names.specs.declared.entries.places.EntrySlot.{EntrySlot}
 use Rattle.nofs_names.specs.declared.entries.places.EntrySlot.TheVariants.{Held as HeldSlot, Direct as DirectHole}
-use Rattle.nofs_names.specs.declared.entries.places.EntrySlot.TheVariants.{UnderLeaf as HoleUnder}
-use Rattle.nofs_names.specs.declared.entries.places.EntrySlot.TheVariants.{WithLeaf as HoleWith}
+use Rattle.nofs_names.specs.declared.entries.places.EntrySlot.TheVariants.{UnderLeaf as HoleUnder, WithLeaf as HoleWith}
 use Rattle.nofs_names.specs.Makes.{MayMake, made_answer, made_record}
-use Rattle.nofs_model.specs.Cells.{null}
+use Rattle.nofs_disk.specs.Pointer.{null}
 use Rattle.nofs_names.proofs.OnMakes.Claims.{make_claims, taken-none, taken-one, taken-two}
-use Rattle.nofs_names.proofs.OnLinks.Claims.{count-one, count-two}
+use Rattle.nofs_names.proofs.OnEntries.Counts.{count-direct, count-under, count-with}
+use Rattle.nofs_names.proofs.OnEntries.TableWrites.{tables-above}
 use Rattle.nofs_names.proofs.OnMakes.Contract.{made-goes}
 use Rattle.nofs_names.proofs.OnMakes.Entries.{next_of, held-made}
 use Rattle.nofs_names.proofs.OnMakes.InHole.{direct-made, under-made, with-made}
 use Rattle.nofs_state.proofs.OnBooks.Claims.{claimed-safe, made-safe}
-use Rattle.nofs_names.proofs.OnMakes.Places.{in-data, free-above, no-table}
+use Rattle.nofs_names.proofs.OnMakes.Places.{in-data, free-above, free-positive, no-table}
 
 module _ (b new : DiskState) (k l : Books) (d g : ℕ) (name : List ℕ) (kind : FileKind) (dr : Record)
     (place : EntryPlace) (i : ℕ) (t : Tables) (ended : Ended)
@@ -75,7 +76,13 @@ module _ (b new : DiskState) (k l : Books) (d g : ℕ) (name : List ℕ) (kind :
         (let s = may.stamps in let e = blocks-are in omega (arith, s, e, one)) first-safe
 
   positive : (n : ℕ) → is_set k.free_blocks n ≡ true → 0 < n
-  positive n free = let a = safe.in_area n free in omega (arith, a)
+  positive n free = free-positive b k n safe free
+
+  fits-slot : (s : EntrySlot) → place.slot ≡ s → FitsSlot k.at (place.entry / 16) s
+  fits-slot s e = subst (λ (q : EntrySlot). FitsSlot k.at (place.entry / 16) q) e may.fits
+
+  below : place.entry / 16 < 72
+  below = let r = may.range in omega (arith, r)
 
   pub entered-goes : (s : EntrySlot) → place.slot ≡ s
       → Enters b (made_books k i) new l d dr place (record { inode = i; generation = next_of k; name = name })
@@ -85,7 +92,7 @@ module _ (b new : DiskState) (k l : Books) (d g : ℕ) (name : List ℕ) (kind :
   entered-goes (HeldSlot x) is w = subst IsEnd (sym w.claims)
       (made-goes b new k
       (made_books k i) l d g name kind place.entry _ _ 0 ended.result is_b is_new safe first-safe going
-      (in-data k.at x (subst (λ (q : EntrySlot). FitsSlot k.at (place.entry / 16) q) is may.fits), (no-table i, tt))
+      (in-data k.at x (fits-slot (HeldSlot x) is), (no-table i, tt))
       (taken-none k i (next_of k) may.above high)
       (λ tells H p o. held-made b k H p d g name kind dr place i tells safe o may is_b x is w.whole w.cell w.table
       t.inode w.payload w.tag (was_i tells)
@@ -96,22 +103,24 @@ module _ (b new : DiskState) (k l : Books) (d g : ℕ) (name : List ℕ) (kind :
       (claimed_books (made_books k i) place.blocks.cell) l d g name kind place.entry _ _ 1 ended.result is_b is_new safe
       (cell-safe 1 (ap slot_blocks is) (omega arith)) going (
         free-above b k place.blocks.cell safe (cell-free 1 (ap slot_blocks is) (omega arith)),
-        (no-table d, (no-table i, tt)),
+        tables-above d i w.after,
       )
       (taken-one k i (next_of k) may.above high (claimed_pointer (made_books k i) place.blocks.cell)
       (cell-range 1 (ap slot_blocks is) (omega arith))
       (cell-named 1 (ap slot_blocks is) (omega arith)))
       (λ tells H p o. direct-made b k H p d g name kind dr place i tells safe o may is_b w.cell w.filled is t w.after
       w.tables (was_d tells) (was_i tells))
-      pass w.stores (count-one (make_claims i (next_of k) (claimed_pointer (made_books k i) place.blocks.cell) null)
-      (positive place.blocks.cell (cell-free 1 (ap slot_blocks is) (omega arith))) refl refl))
+      pass w.stores
+      (count-direct (make_claims i (next_of k) (claimed_pointer (made_books k i) place.blocks.cell) null)
+      (place.entry / 16) d i refl (positive place.blocks.cell (cell-free 1 (ap slot_blocks is) (omega arith)))
+      place.blocks.cell w.cell w.after refl (fits-slot DirectHole is)))
   entered-goes (HoleUnder y) is w = subst IsEnd (sym w.claims)
       (made-goes b new k
       (claimed_books (made_books k i) place.blocks.cell) l d g name kind place.entry _ _ 1 ended.result is_b is_new safe
       (cell-safe 1 (ap slot_blocks is) (omega arith)) going (
         free-above b k place.blocks.cell safe (cell-free 1 (ap slot_blocks is) (omega arith)),
         (
-          in-data k.at y (subst (λ (q : EntrySlot). FitsSlot k.at (place.entry / 16) q) is may.fits).1,
+          in-data k.at y (fits-slot (HoleUnder y) is).1,
           (no-table i, tt),
         ),
       )
@@ -121,8 +130,9 @@ module _ (b new : DiskState) (k l : Books) (d g : ℕ) (name : List ℕ) (kind :
       (λ tells H p o. under-made b k H p d g name kind dr place i tells safe o may is_b w.cell w.filled y is w.leaf
       w.table t.inode w.above w.written
       (was_i tells)) pass w.stores
-      (count-one (make_claims i (next_of k) (claimed_pointer (made_books k i) place.blocks.cell) null)
-      (positive place.blocks.cell (cell-free 1 (ap slot_blocks is) (omega arith))) refl refl))
+      (count-under (make_claims i (next_of k) (claimed_pointer (made_books k i) place.blocks.cell) null)
+      (place.entry / 16) d i refl (positive place.blocks.cell (cell-free 1 (ap slot_blocks is) (omega arith))) refl
+      (fits-slot (HoleUnder y) is).0 below))
   entered-goes HoleWith is w =
       let f = may.blocks.leaf (let e = ap slot_blocks is in omega (arith, e)) in
       let n : place.blocks.leaf < k.at.blocks = (let r = f.1 in let m = safe.free_blocks in omega (arith, r, m)) in
@@ -136,7 +146,7 @@ module _ (b new : DiskState) (k l : Books) (d g : ℕ) (name : List ℕ) (kind :
       (let s = may.stamps in let e = ap slot_blocks is in omega (arith, s, e))
       (cell-safe 2 (ap slot_blocks is) (omega arith))) going (
         free-above b k place.blocks.cell safe (cell-free 2 (ap slot_blocks is) (omega arith)),
-        (free-above b k place.blocks.leaf safe f.0, (no-table d, (no-table i, tt))),
+        (free-above b k place.blocks.leaf safe f.0, tables-above d i w.after),
       )
       (taken-two k i (next_of k) may.above high (claimed_pointer (made_books k i) place.blocks.cell)
       (claimed_pointer (claimed_books (made_books k i) place.blocks.cell) place.blocks.leaf)
@@ -144,10 +154,11 @@ module _ (b new : DiskState) (k l : Books) (d g : ℕ) (name : List ℕ) (kind :
       (λ tells H p o. with-made b k H p d g name kind dr place i tells safe o may is_b w.cell w.filled is w.leaf t
       w.after w.above w.tables (was_d tells)
       (was_i tells)) pass w.stores
-      (count-two (make_claims i (next_of k) (claimed_pointer (made_books k i) place.blocks.cell)
-      (claimed_pointer (claimed_books (made_books k i) place.blocks.cell) place.blocks.leaf))
-      (positive place.blocks.cell (cell-free 2 (ap slot_blocks is) (omega arith)))
-      (positive place.blocks.leaf f.0) refl))
+      (count-with (make_claims i (next_of k) (claimed_pointer (made_books k i) place.blocks.cell)
+      (claimed_pointer (claimed_books (made_books k i) place.blocks.cell) place.blocks.leaf)) (place.entry / 16) d i
+      refl (positive place.blocks.cell (cell-free 2 (ap slot_blocks is) (omega arith)))
+      place.blocks.cell place.blocks.leaf w.cell w.leaf w.after
+      (positive place.blocks.leaf f.0) (fits-slot HoleWith is) below))
 
 -- the entry that was written, by the claim's numbers
 pub enters-as : (b new : DiskState) (k m l : Books) (d g : ℕ) (name : List ℕ) (kind : FileKind) (dr : Record)

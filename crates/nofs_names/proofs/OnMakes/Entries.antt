@@ -1,16 +1,24 @@
 -- Make, by what stands in the slot of its entry.
 use Rattle.std.proofs.Common.{◌≡◌, ℕ, zero, suc, ◌+◌, ◌*◌, ◌/◌, ◌%◌, ◌^◌, ◌<◌, ◌≤◌, ◌⊎◌, inl, inr, true, leb, le-leb}
-use Rattle.std.proofs.Common.{List, [], ◌∷◌, length, Some, IsTrue, refl}
-use Rattle.std.proofs.Common.{sym, ap, ◌∙◌, subst, arith}
+use Rattle.std.proofs.Common.{List, [], ◌∷◌, length, Some, IsTrue, refl, sym, ap, ◌∙◌, subst, arith}
 use Rattle.nofs_disk.specs.Disk.{DiskState, IsDisk, cell_at}
 use Rattle.nofs_disk.specs.Number.{put_bytes}
 use Rattle.nofs_dirent.specs.Entries.{spelled_entry}
 use Rattle.nofs_dirent.specs.EntryLaws.{Spells, spelled_entry-spells}
 use Rattle.nofs_super.specs.Geometry.{IsGeometry}
-use Rattle.nofs_model.specs.Cells.{Cell, FileKind, Pointer, Record, SuperBlock, is_null, null, tag_of, BackLink}
-use Rattle.nofs_model.specs.Cells.{record_of}
-use Rattle.nofs_model.specs.Image.{Image, super_at, is_data_block, is_inode, inode, path_of, find, files_in, agreed}
-use Rattle.nofs_model.specs.Image.{record_pointer}
+use Rattle.nofs_disk.specs.declared.tag.Cell.{Cell}
+use Rattle.nofs_inode.specs.declared.inode.FileKind.{FileKind}
+use Rattle.nofs_disk.specs.declared.tag.Pointer.{Pointer}
+use Rattle.nofs_inode.specs.declared.inode.Record.{Record}
+use Rattle.nofs_super.specs.declared.superblock.SuperBlock.{SuperBlock}
+use Rattle.nofs_disk.specs.Pointer.{is_null, null}
+use Rattle.nofs_disk.specs.Tag.{tag_of}
+use Rattle.nofs_inode.specs.declared.inode.BackLink.{BackLink}
+use Rattle.nofs_inode.specs.InodeRecords.{record_of}
+use Rattle.nofs_model.specs.Geometry.{Image, super_at, is_data_block, is_inode, inode}
+use Rattle.nofs_ptrs.specs.Paths.{path_of}
+use Rattle.nofs_model.specs.Slots.{find, record_pointer}
+use Rattle.nofs_model.specs.Files.{files_in, agreed}
 use Rattle.nofs_model.specs.declared.image.path.PathAnswer.TheVariants as answer
 use Rattle.nofs_model.specs.declared.image.value.Value.TheVariants.{Bytes}
 use Rattle.nofs_model.proofs.OnSlots.Find.{find-held}
@@ -25,7 +33,7 @@ use Rattle.nofs_crashlaw.specs.Names.NewEntries.{IsNewRecord, first_links}
 use Rattle.nofs_state.specs.Books.Maps.{IsSafe}
 use Rattle.nofs_state.specs.Cores.Invariant.{IsOpen, Past}
 use Rattle.nofs_state.specs.declared.books.maps.Books.{Books}
-use Rattle.nofs_state.specs.Writes.Cells.{OneOf, image_after}
+use Rattle.nofs_disk.specs.Order.{OneOf, image_after}
 use Rattle.nofs_names.specs.Entries.Tables.{IsTable}
 use Rattle.nofs_names.specs.Entries.Places.{slot_blocks, IsEntrySlot, IsSlotCell}
 use Rattle.nofs_names.specs.declared.entries.places.EntrySlot.TheVariants.{Held as HeldSlot}
@@ -34,7 +42,7 @@ use Rattle.nofs_state.proofs.OnBooks.Machine.{are-agreed}
 use Rattle.nofs_state.proofs.OnCores.Replies.{open-files}
 use Rattle.nofs_state.proofs.OnWrites.Tables.{HasRecord, table_block}
 use Rattle.nofs_names.proofs.OnSteps.CellAndRecord.{in-slot as write-in-slot, in-table as write-in-table}
-use Rattle.nofs_names.proofs.OnSteps.CellAndRecord.{record-new as write-record-new}
+use Rattle.nofs_names.proofs.OnSteps.CellAndRecord.{once as write-once, record-new as write-record-new}
 use Rattle.nofs_names.proofs.OnSteps.CellAndRecord.{super-stays as write-super-stays, data-stays as write-data-stays}
 use Rattle.nofs_names.proofs.OnSteps.CellAndRecord.{record-old as write-record-old}
 use Rattle.nofs_names.specs.Entries.Writes.{entered}
@@ -213,5 +221,6 @@ module _ (b : DiskState) (k : Books) (H : List Entry1) (p : Past) (d g : ℕ) (n
       it = made-held;
       ends = in-place-ends b k H p d g name kind place.entry (make_claims i (next_of k) null null)
           ((x.block, cell) ∷ (table_block i, table) ∷ []) is_b tells o made-held x writes-held;
+      once = write-once b.now i x cell table _ geometry.fits geometry.table geometry.multiple area has;
       needs = needs-are ∙ ap slot_blocks slot-is;
     }

@@ -1,106 +1,229 @@
 -- Make, where the slot of its entry is a hole: a block is claimed for it, and a leaf where there is none.
-use Rattle.std.proofs.Common.{◌≡◌, ◌≢◌, ℕ, ◌+◌, ◌-◌, ◌/◌, ◌<◌, ◌≤◌, inl, inr, true, List, [], ◌∷◌, length}
-use Rattle.std.proofs.Common.{IsTrue, refl, ap, ◌∙◌, subst, arith}
+use Rattle.std.proofs.Common.{◌≡◌, ◌≢◌, ℕ, ◌+◌, ◌-◌, ◌/◌, ◌%◌, ◌<◌, ◌≤◌, inl, inr, Bool, true, false, leb, ◌&&◌, ◌||◌}
+use Rattle.std.proofs.Common.{not, is_some, List, length, IsTrue, sym, ap, ◌∙◌, subst, arith, [], ◌∷◌, refl, ◌⊎◌}
 use Rattle.nofs_bits.specs.Bits.{is_set}
-use Rattle.nofs_disk.specs.Disk.{DiskState, IsDisk, cell_at}
-use Rattle.nofs_model.specs.Cells.{Cell, Entry, FileKind, Pointer, Record, null, spelled_entry}
-use Rattle.nofs_model.specs.Image.{Image, inode, leaf, find, files_in, agreed}
-use Rattle.nofs_model.specs.declared.image.path.PathAnswer.TheVariants as answer
-use Rattle.nofs_history.specs.Machine.{link_to}
-use Rattle.nofs_history.specs.World.{blocks_needed}
-use Rattle.nofs_history.specs.Claims.{IsClaim, next_stamp}
+use Rattle.nofs_disk.specs.Disk.{DiskState, cell_at, IsDisk}
+use Rattle.nofs_disk.specs.declared.tag.Cell.{Cell}
+use Rattle.nofs_inode.specs.declared.inode.FileKind.{FileKind}
+use Rattle.nofs_disk.specs.declared.tag.Pointer.{Pointer}
+use Rattle.nofs_inode.specs.declared.inode.Record.{Record}
+use Rattle.nofs_super.specs.declared.superblock.SuperBlock.{SuperBlock}
+use Rattle.nofs_inode.specs.InodeRecords.{record_at}
+use Rattle.nofs_dirent.specs.Entries.{spelled_entry}
+use Rattle.nofs_dirent.specs.declared.entry.Entry.{Entry}
+use Rattle.nofs_disk.specs.Pointer.{null}
+use Rattle.nofs_model.specs.Geometry.{Image, inode}
+use Rattle.nofs_model.specs.Files.{files_in, agreed, is_special}
+use Rattle.nofs_ptrs.specs.Paths.{leaf, path_of}
+use Rattle.nofs_model.specs.Slots.{find}
+use Rattle.nofs_model.proofs.OnSound.Writes.{supers}
+use Rattle.nofs_history.specs.World.{World, uses_inode, uses_block, blocks_needed}
+use Rattle.nofs_history.specs.Claims.{IsClaim, is_claimed, next_stamp}
 use Rattle.nofs_history.specs.declared.machine.history.Entry1.{Entry1}
 use Rattle.nofs_history.specs.declared.machine.history.Claims.{Claims}
 use Rattle.nofs_history.specs.declared.machine.steps.Step.TheVariants as step
+use Rattle.nofs_crashlaw.proofs.OnUntouched.Matches.{Matched, matched-agreed}
+use Rattle.nofs_crashlaw.specs.Maps.Homes.{ClaimsFree}
 use Rattle.nofs_crashlaw.specs.Maps.Moves.{IsClaimed}
-use Rattle.nofs_crashlaw.specs.Names.NewEntries.{EntryInHole}
-use Rattle.nofs_state.specs.Books.Maps.{IsSafe, claimed_books, claimed_pointer, made_books}
+use Rattle.nofs_crashlaw.proofs.OnMaps.Good.{law-claims}
+use Rattle.nofs_crashlaw.proofs.OnMaps.Homes.{law-good}
+use Rattle.nofs_crashlaw.proofs.OnNames.Links.{record-in}
+use Rattle.nofs_state.specs.Books.Maps.{IsSafe, claimed_pointer, made_books, claimed_books}
 use Rattle.nofs_state.specs.Cores.Invariant.{IsOpen, Past}
 use Rattle.nofs_state.specs.declared.books.maps.Books.{Books}
-use Rattle.nofs_state.specs.Writes.Cells.{image_after}
-use Rattle.nofs_names.specs.Entries.Writes.{AreTables, IsMoreLeaf, IsNewCell, IsNewLeaf, with_direct, with_leaf}
-use Rattle.nofs_names.specs.Entries.Tables.{IsTable, table_block}
-use Rattle.nofs_names.specs.Entries.Places.{FitsSlot, IsEntrySlot, IsSlotCell, slot_blocks}
+use Rattle.nofs_names.specs.Entries.Places.{FitsSlot, IsEntrySlot, slot_blocks, IsSlotCell}
 use Rattle.nofs_names.specs.declared.entries.writes.EntryPlace.{EntryPlace}
-use Rattle.nofs_names.specs.declared.entries.writes.Tables.{Tables}
 use Rattle.nofs_names.specs.declared.entries.places.EntrySlot.{EntrySlot}
-use Rattle.nofs_names.specs.declared.entries.places.EntrySlot.TheVariants.{Direct as DirectHole}
-use Rattle.nofs_names.specs.declared.entries.places.EntrySlot.TheVariants.{UnderLeaf as HoleUnder}
-use Rattle.nofs_names.specs.declared.entries.places.EntrySlot.TheVariants.{WithLeaf as HoleWith}
-use Rattle.nofs_names.proofs.OnEntries.HoleCells.{IsReady, IsNewBlock, IsWritten}
-use Rattle.nofs_names.proofs.OnEntries.InHole.{direct-hole, direct-inode, direct-enters, direct-each}
-use Rattle.nofs_names.proofs.OnEntries.UnderLeaf.{under-hole}
-use Rattle.nofs_names.proofs.OnEntries.UnderLeaf.{under-inode, under-enters, under-each}
-use Rattle.nofs_names.proofs.OnEntries.WithLeaf.{with-hole, with-inode, with-enters, with-each}
+use Rattle.nofs_crashlaw.proofs.OnNumbers.Files.{listed}
+use Rattle.nofs_crashlaw.proofs.OnImages.Below.{live-stands}
+use Rattle.nofs_state.proofs.OnBooks.Machine.{agreed-live, world-numbers}
+use Rattle.nofs_state.proofs.OnCores.Replies.{open-files}
+use Rattle.nofs_state.proofs.OnBooks.ClaimedBlocks.{claim-was}
+use Rattle.nofs_names.proofs.OnEntries.InPlace.{eight-direct}
+use Rattle.nofs_names.proofs.OnEntries.HoleCells.{EntersHole, IsReady, IsNewBlock, IsWritten}
 use Rattle.nofs_names.specs.Makes.{MayMake, made_record}
-use Rattle.nofs_names.proofs.OnMakes.Claims.{make_claims, IsPicked, block-picked, claims-one, claims-two}
-use Rattle.nofs_names.proofs.OnMakes.Premises.{Makes, WritesInHole, IsHoleWrite}
+use Rattle.nofs_names.proofs.OnMakes.Claims.{IsPicked, block-picked, make_claims, claims-one, claims-two}
+use Rattle.nofs_names.proofs.OnMakes.Premises.{IsHoleWrite, OfEntry, OfLeaf, OfTable, Makes, WritesInHole}
+use Rattle.nofs_names.proofs.OnMakes.Entries.{next_of, agrees, rec, spelled, in-table, geometry, place-here}
+use Rattle.nofs_names.proofs.OnMakes.Entries.{inode-claim, needs-are, makes-from}
+use Rattle.nofs_model.specs.declared.image.path.PathAnswer.TheVariants as answer
+use Rattle.nofs_history.specs.Machine.{link_to}
+use Rattle.nofs_disk.specs.Order.{image_after}
+use Rattle.nofs_names.specs.Entries.Writes.{AreTables, IsMoreLeaf, IsNewCell, IsNewLeaf, table_writes}
+use Rattle.nofs_names.specs.Entries.Writes.{with_direct, with_leaf}
+use Rattle.nofs_names.specs.Entries.Tables.{IsTable, table_block}
+use Rattle.nofs_names.specs.declared.entries.writes.Tables.{Tables}
+use Rattle.nofs_names.specs.declared.entries.places.EntrySlot.TheVariants.{Direct as DirectHole, UnderLeaf as HoleUnder}
+use Rattle.nofs_names.specs.declared.entries.places.EntrySlot.TheVariants.{WithLeaf as HoleWith}
 use Rattle.nofs_names.proofs.OnMakes.Writes.{in-hole-ends}
 use Rattle.nofs_names.proofs.OnMakes.Contract.{IsMade}
-use Rattle.nofs_names.proofs.OnMakes.Entries.{next_of, agrees, place-here, inode-claim, needs-are}
-use Rattle.nofs_names.proofs.OnMakes.Entries.{makes-from}
-use Rattle.nofs_names.proofs.OnMakes.HoleCells as hole_cells
+use Rattle.nofs_names.proofs.OnEntries.InHole.{direct-enters}
+use Rattle.nofs_names.proofs.OnEntries.UnderLeaf.{under-enters}
+use Rattle.nofs_names.proofs.OnEntries.WithLeaf.{with-enters}
 
 module _ (b : DiskState) (k : Books) (H : List Entry1) (p : Past) (d g : ℕ) (name : List ℕ) (kind : FileKind)
     (dr : Record) (place : EntryPlace) (i : ℕ)
     (tells : IsTrue b.tells) (safe : IsSafe b k) (o : IsOpen b k H p) (may : MayMake b k d g name dr place i) where
-  -- what was shown of them before
-  abbrev agrees-here : agreed (files_in b.now) d ≡ true
-  agrees-here = hole_cells.agrees-here b k H p d g name kind dr place i tells safe o may
+  abbrev W : World
+  W = p.world
 
-  abbrev new-block : (c : Claims) (x : Pointer) → IsClaim p.world (step.Make d g name kind) c → IsClaimed c x
+  abbrev X : Image
+  X = b.now
+
+  agrees-here : agreed (files_in b.now) d ≡ true
+  agrees-here = agrees b k H p d g name kind dr place i tells safe o may
+
+  claims-free : (c : Claims) → IsClaim p.world (step.Make d g name kind) c → ClaimsFree p.world c b.now
+  claims-free c claim = law-claims W (step.Make d g name kind) c W.known_inodes
+      (λ j. not (uses_inode W j)) W.known_blocks (λ q. not (uses_block W q)) X
+      (law-good W X (world-numbers b k H p o) (open-files b k H p o) o.homes) claim
+
+  -- a claimed block
+  new-block : (c : Claims) (x : Pointer) → IsClaim p.world (step.Make d g name kind) c → IsClaimed c x
       → IsNewBlock (next_stamp p.world) b.now x
-  new-block = hole_cells.new-block b k H p d g name kind dr place i tells safe o may
+  new-block c x claim named = record {
+    free = (claims-free c claim).block_free x (listed c x named);
+    area = (claims-free c claim).block_data x (listed c x named);
+    fresh = (claim-was W (step.Make d g name kind) c x claim named).1;
+  }
 
-  abbrev newer-than : (c : Claims) (x : Pointer) → IsClaim p.world (step.Make d g name kind) c → IsClaimed c x
+  -- the mark's stamps are older than those of what is claimed
+  newer-than : (c : Claims) (x : Pointer) → IsClaim p.world (step.Make d g name kind) c → IsClaimed c x
       → p.stamps ≤ x.stamp
-  newer-than = hole_cells.newer-than b k H p d g name kind dr place i tells safe o may
+  newer-than c x claim named = let q = o.older in
+      let s = (claim-was p.world (step.Make d g name kind) c x claim named).1 in omega (arith, q, s)
 
-  abbrev ready : IsReady b.now d i place.entry dr
-  ready = hole_cells.ready b k H p d g name kind dr place i tells safe o may
+  -- the claimed inode is not the directory
+  inode-apart : d ≢ i
+  inode-apart e = no-file (W.known_inodes i) (is_special i) (is_some (W.files i))
+      (sym (o.says.free_inodes i may.above may.within) ∙ may.free)
+      (ap (λ (q : ℕ). is_some (W.files q)) (sym e) ∙ ap is_some own.is)
+    where
+      own : Matched W.files X d
+      own = matched-agreed W.files X d (open-files b k H p o) (agreed-live X d agrees-here) agrees-here
 
-  abbrev short : length (spelled_entry i (next_of k) name) ≡ 64
-  short = hole_cells.short b k H p d g name kind dr place i tells safe o may
+      no-file : (a s f : Bool) → (a && not (s || f)) ≡ true → f ≡ true → ⊥
+      no-file true true f h e = cc h
+      no-file true false true h e = cc h
+      no-file true false false h e = cc e
+      no-file false s f h e = cc h
 
-  abbrev sort : (Y : Image) (c : Claims) (y : Pointer) (n : ℕ) (z : Cell) → cell_at Y 0 ≡ cell_at b.now 0
+  ready : IsReady b.now d i place.entry dr
+  ready = record {
+    whole = (geometry b k H p d g name kind dr place i tells safe o may).fits;
+    room = (geometry b k H p d g name kind dr place i tells safe o may).table;
+    quarters = (geometry b k H p d g name kind dr place i tells safe o may).multiple;
+    d_range = (live-stands X d (agreed-live X d agrees-here)).range;
+    i_range = in-table b k H p d g name kind dr place i tells safe o may;
+    apart = inode-apart;
+    directory = rec b k H p d g name kind dr place i tells safe o may;
+    kind = may.directory.kind;
+    eight = subst (λ (r : Record). length r.direct ≡ 8) (rec b k H p d g name kind dr place i tells safe o may)
+        (eight-direct b.now d);
+    range = may.range;
+  }
+
+  short : length (spelled_entry i (next_of k) name) ≡ 64
+  short = (spelled b k H p d g name kind dr place i tells safe o may).short
+
+  -- a cell that was written is one of the entry, the leaf or the table
+  sort : (Y : Image) (c : Claims) (y : Pointer) (n : ℕ) (z : Cell) → cell_at Y 0 ≡ cell_at b.now 0
       → IsWritten b.now Y place.entry c.cell y n z
       → (z ≡ cell_at Y n) × IsHoleWrite b.now Y place.entry c y n z
-  sort = hole_cells.sort b k H p d g name kind dr place i tells safe o may
+  sort Y c y n z super (is, inl h) = (is, OfEntry h (is ∙ ap (cell_at Y) h))
+  sort Y c y n z super (is, inr (inl h)) = (is, OfLeaf h.0 h.1 (is ∙ ap (cell_at Y) h.1))
+  sort Y c y n z super (is, inr (inr h)) = (
+    is,
+    OfTable h.0 h.1 h.2 (λ j range same.
+        inr (ap (λ (q : Cell). record_at q.payload ((j - 1) % 4)) (is ∙ ap (cell_at Y) (sym same))
+        ∙ record-in Y j (ap (λ (q : SuperBlock). leb 1 j && leb j q.inodes) (supers b.now Y super) ∙ range))),
+  )
 
-  abbrev empty-slot : (s : EntrySlot) → place.slot ≡ s → IsEntrySlot b.now d (place.entry / 16) s
-  empty-slot = hole_cells.empty-slot b k H p d g name kind dr place i tells safe o may
+  empty-slot : (s : EntrySlot) → place.slot ≡ s → IsEntrySlot b.now d (place.entry / 16) s
+  empty-slot s e = subst (λ (q : EntrySlot). IsEntrySlot b.now d (place.entry / 16) q) e (may.slot tells)
 
-  abbrev fits-slot : (s : EntrySlot) → place.slot ≡ s → FitsSlot k.at (place.entry / 16) s
-  fits-slot = hole_cells.fits-slot b k H p d g name kind dr place i tells safe o may
+  fits-slot : (s : EntrySlot) → place.slot ≡ s → FitsSlot k.at (place.entry / 16) s
+  fits-slot s e = subst (λ (q : EntrySlot). FitsSlot k.at (place.entry / 16) q) e may.fits
 
-  abbrev cell-picked : (n : ℕ) → slot_blocks place.slot ≡ n → 1 ≤ n
+  -- the blocks that are claimed
+
+  cell-set : (n : ℕ) → slot_blocks place.slot ≡ n → 1 ≤ n → (is_set k.free_blocks place.blocks.cell ≡ true)
+      × (place.blocks.cell < k.at.blocks)
+  cell-set n e le = let f = may.blocks.cell (omega (arith, e, le)) in
+      (f.0, (let l = f.1 in let m = safe.free_blocks in omega (arith, l, m)))
+
+  cell-picked : (n : ℕ) → slot_blocks place.slot ≡ n → 1 ≤ n
       → IsPicked p.world (next_stamp p.world + 1) (claimed_pointer (made_books k i) place.blocks.cell)
-  cell-picked = hole_cells.cell-picked b k H p d g name kind dr place i tells safe o may
+  cell-picked n e le = let f = cell-set n e le in block-picked b k H p safe o place.blocks.cell 1 f.1 f.0
 
   needs : (s : EntrySlot) → place.slot ≡ s → blocks_needed p.world.files (step.Make d g name kind) ≡ slot_blocks s
   needs s e = needs-are b k H p d g name kind dr place i tells safe o may ∙ ap slot_blocks e
+
+  abbrev R : Record
+  R = made_record kind (next_of k) (link_to d place.entry g)
+
+  abbrev N : Entry
+  N = record { inode = i; generation = next_of k; name = name }
+
+  -- what was written comes to a Make: x is claimed for the entry, and y is the leaf above it, claimed where z is
+  made-of : IsDisk b → (ws : List (ℕ × Cell)) (x y z : Pointer) (n : ℕ)
+      → IsClaim p.world (step.Make d g name kind) (make_claims i (next_of k) x z)
+      → IsClaimed (make_claims i (next_of k) x z) x
+      → (is_claimed z ≡ true → z ≡ y)
+      → (p.stamps ≤ y.stamp ⊎ ((q : Pointer) × (find b.now d leaf ≡ answer.Holds q)))
+      → EntersHole (next_stamp p.world) b.now (image_after ws b.now) d i place.entry
+      (made_record kind (next_of k) (link_to d place.entry g))
+      (record { inode = i; generation = next_of k; name = name }) x y ws
+      → blocks_needed p.world.files (step.Make d g name kind) ≡ n
+      → IsMade b H p d g name kind place.entry (make_claims i (next_of k) x z) ws n
+  made-of is_b ws x y z n claim named leaf_is leaf_newer enters asks = record {
+    it = makes;
+    ends = in-hole-ends b k H p d g name kind place.entry (make_claims i (next_of k) x z) ws is_b tells o makes y
+        (record {
+          entry = enters.entry;
+          claims = record {
+            place = place-here b k H p d g name kind dr place i tells safe o may;
+            cell = refl;
+            leaf = leaf_is;
+          };
+          newer = newer-than (make_claims i (next_of k) x z) x claim named;
+          leaf_newer = leaf_newer;
+          each = λ n c one. sort (image_after ws b.now) (make_claims i (next_of k) x z) y n c enters.super
+              (enters.each n c one);
+        });
+    once = enters.once;
+    needs = asks;
+  }
+    where
+      makes : Makes b.now (image_after ws b.now) p.world d g name kind place.entry (make_claims i (next_of k) x z)
+      makes = makes-from b k H p d g name kind dr place i tells safe o may
+          (image_after ws b.now) x z claim enters.inode_is
+
+  -- the block of the entry, where it is the only one that is claimed
+  module _ (one : slot_blocks place.slot ≡ 1) where
+    picked : IsPicked p.world (next_stamp p.world + 1) (claimed_pointer (made_books k i) place.blocks.cell)
+    picked = cell-picked 1 one (omega arith)
+
+    one-claim : IsClaim p.world (step.Make d g name kind)
+        (make_claims i (next_of k) (claimed_pointer (made_books k i) place.blocks.cell) null)
+    one-claim =
+        claims-one p.world d g name kind i (next_of k) (inode-claim b k H p d g name kind dr place i tells safe o may)
+        (claimed_pointer (made_books k i) place.blocks.cell)
+        (needs-are b k H p d g name kind dr place i tells safe o may ∙ one) picked
+
+    one-named : IsClaimed (make_claims i (next_of k) (claimed_pointer (made_books k i) place.blocks.cell) null)
+        (claimed_pointer (made_books k i) place.blocks.cell)
+    one-named = (picked.named, inl refl)
+
+    one-block : IsNewBlock (next_stamp p.world) b.now (claimed_pointer (made_books k i) place.blocks.cell)
+    one-block = new-block (make_claims i (next_of k) (claimed_pointer (made_books k i) place.blocks.cell) null)
+        (claimed_pointer (made_books k i) place.blocks.cell) one-claim one-named
 
   module _ (is_b : IsDisk b) (cell : Cell) (filled : IsNewCell d dr.generation place.entry
       (record { inode = i; generation = next_of k; name = name })
       (claimed_pointer (made_books k i) place.blocks.cell).stamp cell) where
     abbrev x : Pointer
     x = claimed_pointer (made_books k i) place.blocks.cell
-
-    abbrev R : Record
-    R = made_record kind (next_of k) (link_to d place.entry g)
-
-    abbrev N : Entry
-    N = record { inode = i; generation = next_of k; name = name }
-
-    -- a claim of one block
-
-    claim-one : blocks_needed p.world.files (step.Make d g name kind) ≡ 1
-        → IsPicked p.world (next_stamp p.world + 1) (claimed_pointer (made_books k i) place.blocks.cell)
-        → IsClaim p.world (step.Make d g name kind)
-        (make_claims i (next_of k) (claimed_pointer (made_books k i) place.blocks.cell) null)
-    claim-one n picked =
-        claims-one p.world d g name kind i (next_of k) (inode-claim b k H p d g name kind dr place i tells safe o may)
-        (claimed_pointer (made_books k i) place.blocks.cell) n picked
 
     -- A hole of the record
 
@@ -110,72 +233,16 @@ module _ (b : DiskState) (k : Books) (H : List Entry1) (p : Past) (d g : ℕ) (n
         (made_record kind (next_of k) (link_to d place.entry g)) after)
         (was_d : before.directory ≡ cell_at b.now (table_block d))
         (was_i : before.inode ≡ cell_at b.now (table_block i)) where
-      abbrev C1 : Claims
-      C1 = make_claims i (next_of k) (claimed_pointer (made_books k i) place.blocks.cell) null
-
-      abbrev ws1 : List (ℕ × Cell)
-      ws1 = (place.blocks.cell, cell) ∷ (table_block d, after.directory) ∷ (table_block i, after.inode) ∷ []
-
-      picked1 : IsPicked p.world (next_stamp p.world + 1) (claimed_pointer (made_books k i) place.blocks.cell)
-      picked1 = cell-picked 1 (ap slot_blocks slot-is) (omega arith)
-
-      claim1 : IsClaim p.world (step.Make d g name kind)
-          (make_claims i (next_of k) (claimed_pointer (made_books k i) place.blocks.cell) null)
-      claim1 = claim-one (needs DirectHole slot-is) picked1
-
-      named1 : IsClaimed (make_claims i (next_of k) (claimed_pointer (made_books k i) place.blocks.cell) null)
-          (claimed_pointer (made_books k i) place.blocks.cell)
-      named1 = (picked1.named, inl refl)
-
-      block1 : IsNewBlock (next_stamp p.world) b.now (claimed_pointer (made_books k i) place.blocks.cell)
-      block1 = new-block C1 (claimed_pointer (made_books k i) place.blocks.cell) claim1 named1
-
-      entered1 : EntryInHole (next_stamp p.world) b.now (image_after ws1 b.now) d place.entry i
-          (spelled_entry i (next_of k) name)
-          (claimed_pointer (made_books k i) place.blocks.cell) (claimed_pointer (made_books k i) place.blocks.cell)
-      entered1 = direct-enters b.now d i place.entry dr ready (next_stamp p.world)
-          (claimed_pointer (made_books k i) place.blocks.cell) block1 cell before after R N
-          (fits-slot DirectHole slot-is) filled tables was_d was_i
-          (empty-slot DirectHole slot-is) short (claimed_pointer (made_books k i) place.blocks.cell)
-
-      makes1 : Makes b.now (image_after ws1 b.now) p.world d g name kind place.entry C1
-      makes1 = makes-from b k H p d g name kind dr place i tells safe o may (image_after ws1 b.now)
-          (claimed_pointer (made_books k i) place.blocks.cell)
-          null claim1
-          (direct-inode b.now d i place.entry dr ready (next_stamp p.world)
-          (claimed_pointer (made_books k i) place.blocks.cell) block1 cell before after R N
-          (fits-slot DirectHole slot-is) filled tables was_d was_i)
-
-      writes1 : WritesInHole (next_stamp p.world) b.now (image_after ws1 b.now) p.world.files d place.entry C1 name
-          (claimed_pointer (made_books k i) place.blocks.cell) p.stamps ws1
-      writes1 = record {
-        entry = entered1;
-        claims = record {
-          place = place-here b k H p d g name kind dr place i tells safe o may;
-          cell = refl;
-          leaf = λ t. cc t;
-        };
-        newer = newer-than C1 (claimed_pointer (made_books k i) place.blocks.cell) claim1 named1;
-        leaf_newer = inl (newer-than C1 (claimed_pointer (made_books k i) place.blocks.cell) claim1 named1);
-        each = λ n z one. sort (image_after ws1 b.now) C1 (claimed_pointer (made_books k i) place.blocks.cell) n z
-            (direct-hole b.now d i place.entry dr ready (next_stamp p.world)
-            (claimed_pointer (made_books k i) place.blocks.cell) block1 cell before after R N
-            (fits-slot DirectHole slot-is) filled tables was_d was_i).super
-            (direct-each b.now d i place.entry dr ready (next_stamp p.world)
-            (claimed_pointer (made_books k i) place.blocks.cell) block1 cell before after R N
-            (fits-slot DirectHole slot-is) filled tables was_d was_i
-            (claimed_pointer (made_books k i) place.blocks.cell) n z one);
-      }
-
       pub direct-made : IsMade b H p d g name kind place.entry
           (make_claims i (next_of k) (claimed_pointer (made_books k i) place.blocks.cell) null)
-          ((place.blocks.cell, cell) ∷ (table_block d, after.directory) ∷ (table_block i, after.inode) ∷ []) 1
-      direct-made = record {
-        it = makes1;
-        ends = in-hole-ends b k H p d g name kind place.entry C1 ws1 is_b tells o makes1
-            (claimed_pointer (made_books k i) place.blocks.cell) writes1;
-        needs = needs DirectHole slot-is;
-      }
+          ((place.blocks.cell, cell) ∷ table_writes d i after) 1
+      direct-made = let one = ap slot_blocks slot-is in
+          made-of is_b ((place.blocks.cell, cell) ∷ table_writes d i after) x x null 1 (one-claim one) (one-named one)
+          (λ t. cc t)
+          (inl (newer-than (make_claims i (next_of k) x null) x (one-claim one) (one-named one)))
+          (direct-enters b.now d i place.entry dr ready (next_stamp p.world) x x (one-block one) cell before after R N
+          (fits-slot DirectHole slot-is) filled tables was_d was_i (empty-slot DirectHole slot-is) short)
+          (needs DirectHole slot-is)
 
     -- A hole under a leaf that holds
 
@@ -183,79 +250,21 @@ module _ (b : DiskState) (k : Books) (H : List Entry1) (p : Past) (d g : ℕ) (n
         (more : IsMoreLeaf place.cell (place.entry / 16 - 8) (claimed_pointer (made_books k i) place.blocks.cell) u)
         (table : IsTable before i (made_record kind (next_of k) (link_to d place.entry g)) t)
         (was_i : before ≡ cell_at b.now (table_block i)) where
-      abbrev C2 : Claims
-      C2 = make_claims i (next_of k) (claimed_pointer (made_books k i) place.blocks.cell) null
-
-      abbrev ws2 : List (ℕ × Cell)
-      ws2 = (place.blocks.cell, cell) ∷ (y.block, u) ∷ (table_block i, t) ∷ []
-
-      picked2 : IsPicked p.world (next_stamp p.world + 1) (claimed_pointer (made_books k i) place.blocks.cell)
-      picked2 = cell-picked 1 (ap slot_blocks slot-is) (omega arith)
-
-      claim2 : IsClaim p.world (step.Make d g name kind)
-          (make_claims i (next_of k) (claimed_pointer (made_books k i) place.blocks.cell) null)
-      claim2 = claim-one (needs (HoleUnder y) slot-is) picked2
-
-      named2 : IsClaimed (make_claims i (next_of k) (claimed_pointer (made_books k i) place.blocks.cell) null)
-          (claimed_pointer (made_books k i) place.blocks.cell)
-      named2 = (picked2.named, inl refl)
-
-      block2 : IsNewBlock (next_stamp p.world) b.now (claimed_pointer (made_books k i) place.blocks.cell)
-      block2 = new-block C2 (claimed_pointer (made_books k i) place.blocks.cell) claim2 named2
-
-      held2 : find b.now d leaf ≡ answer.Holds y
-      held2 = (empty-slot (HoleUnder y) slot-is).1
+      held : (find b.now d (path_of (place.entry / 16)) ≡ answer.Hole) × (find b.now d leaf ≡ answer.Holds y)
+      held = empty-slot (HoleUnder y) slot-is
 
       leaf-was : place.cell ≡ cell_at b.now y.block
       leaf-was = subst (λ (q : EntrySlot). IsSlotCell b.now q place.cell) slot-is (may.cell tells)
 
-      entered2 : EntryInHole (next_stamp p.world) b.now (image_after ws2 b.now) d place.entry i
-          (spelled_entry i (next_of k) name)
-          (claimed_pointer (made_books k i) place.blocks.cell) y
-      entered2 = under-enters b.now d i place.entry dr ready (next_stamp p.world)
-          (claimed_pointer (made_books k i) place.blocks.cell) y block2 agrees-here held2 cell u t place.cell before R N
-          (fits-slot (HoleUnder y) slot-is).0 filled more leaf-was table was_i
-          (empty-slot (HoleUnder y) slot-is).0 short
-
-      makes2 : Makes b.now (image_after ws2 b.now) p.world d g name kind place.entry C2
-      makes2 = makes-from b k H p d g name kind dr place i tells safe o may (image_after ws2 b.now)
-          (claimed_pointer (made_books k i) place.blocks.cell)
-          null claim2
-          (under-inode b.now d i place.entry dr ready (next_stamp p.world)
-          (claimed_pointer (made_books k i) place.blocks.cell) y block2 agrees-here held2 cell u t place.cell before R N
-          (fits-slot (HoleUnder y) slot-is).0 filled more leaf-was table was_i)
-
-      writes2 : WritesInHole (next_stamp p.world) b.now
-          (image_after ws2 b.now) p.world.files d place.entry C2 name y p.stamps ws2
-      writes2 = record {
-        entry = entered2;
-        claims = record {
-          place = place-here b k H p d g name kind dr place i tells safe o may;
-          cell = refl;
-          leaf = λ t. cc t;
-        };
-        newer = newer-than C2 (claimed_pointer (made_books k i) place.blocks.cell) claim2 named2;
-        leaf_newer = inr (y, held2);
-        each = λ n z one. sort (image_after ws2 b.now) C2 y n z
-            (under-hole b.now d i place.entry dr ready (next_stamp p.world)
-            (claimed_pointer (made_books k i) place.blocks.cell) y block2 agrees-here held2 cell u t
-            place.cell before R N
-            (fits-slot (HoleUnder y) slot-is).0 filled more leaf-was table was_i).super
-            (under-each b.now d i place.entry dr ready (next_stamp p.world)
-            (claimed_pointer (made_books k i) place.blocks.cell) y block2 agrees-here held2 cell u t
-            place.cell before R N
-            (fits-slot (HoleUnder y) slot-is).0 filled more leaf-was table was_i n z one);
-      }
-
       pub under-made : IsMade b H p d g name kind place.entry
           (make_claims i (next_of k) (claimed_pointer (made_books k i) place.blocks.cell) null)
           ((place.blocks.cell, cell) ∷ (y.block, u) ∷ (table_block i, t) ∷ []) 1
-      under-made = record {
-        it = makes2;
-        ends = in-hole-ends b k H p d g name kind place.entry C2 ws2 is_b tells o makes2 y writes2;
-        needs = needs
-            (HoleUnder y) slot-is;
-      }
+      under-made = let one = ap slot_blocks slot-is in
+          made-of is_b ((place.blocks.cell, cell) ∷ (y.block, u) ∷ (table_block i, t) ∷ []) x y null 1 (one-claim one)
+          (one-named one) (λ t. cc t) (inr (y, held.1))
+          (under-enters b.now d i place.entry dr ready (next_stamp p.world) x y (one-block one) agrees-here held.1 cell
+          u t place.cell before R N (fits-slot (HoleUnder y) slot-is).0 filled more leaf-was table was_i held.0 short)
+          (needs (HoleUnder y) slot-is)
 
     -- A hole where there is no leaf
 
@@ -274,10 +283,6 @@ module _ (b : DiskState) (k : Books) (H : List Entry1) (p : Past) (d g : ℕ) (n
       abbrev C3 : Claims
       C3 = make_claims i (next_of k) (claimed_pointer (made_books k i) place.blocks.cell)
           (claimed_pointer (claimed_books (made_books k i) place.blocks.cell) place.blocks.leaf)
-
-      abbrev ws3 : List (ℕ × Cell)
-      ws3 = (place.blocks.cell, cell) ∷ (place.blocks.leaf, u) ∷ (table_block d, after.directory)
-          ∷ (table_block i, after.inode) ∷ []
 
       leaf-free : (is_set k.free_blocks place.blocks.leaf ≡ true) × (place.blocks.leaf < length k.free_blocks)
           × (place.blocks.cell < place.blocks.leaf)
@@ -322,54 +327,15 @@ module _ (b : DiskState) (k : Books) (H : List Entry1) (p : Past) (d g : ℕ) (n
           (claimed_pointer (claimed_books (made_books k i) place.blocks.cell) place.blocks.leaf)
       leaf-block = new-block C3 y claim3 leaf-named
 
-      none3 : find b.now d leaf ≡ answer.Hole
-      none3 = (empty-slot HoleWith slot-is).1
-
-      entered3 : EntryInHole (next_stamp p.world) b.now (image_after ws3 b.now) d place.entry i
-          (spelled_entry i (next_of k) name)
-          (claimed_pointer (made_books k i) place.blocks.cell) y
-      entered3 = with-enters b.now d i place.entry dr ready (next_stamp p.world)
-          (claimed_pointer (made_books k i) place.blocks.cell) y block3 leaf-block differ none3 cell u before after R N
-          (fits-slot HoleWith slot-is) filled leafed tables was_d was_i (empty-slot HoleWith slot-is).0 short
-
-      makes3 : Makes b.now (image_after ws3 b.now) p.world d g name kind place.entry C3
-      makes3 = makes-from b k H p d g name kind dr place i tells safe o may (image_after ws3 b.now)
-          (claimed_pointer (made_books k i) place.blocks.cell)
-          y claim3
-          (with-inode b.now d i place.entry dr ready (next_stamp p.world)
-          (claimed_pointer (made_books k i) place.blocks.cell) y block3 leaf-block differ none3 cell u before after R N
-          (fits-slot HoleWith slot-is) filled leafed tables was_d was_i)
-
-      writes3 : WritesInHole (next_stamp p.world) b.now
-          (image_after ws3 b.now) p.world.files d place.entry C3 name y p.stamps ws3
-      writes3 = record {
-        entry = entered3;
-        claims = record {
-          place = place-here b k H p d g name kind dr place i tells safe o may;
-          cell = refl;
-          leaf = λ t. refl;
-        };
-        newer = newer-than C3 (claimed_pointer (made_books k i) place.blocks.cell) claim3 named3;
-        leaf_newer = inl (newer-than C3 y claim3 leaf-named);
-        each = λ n z one. sort (image_after ws3 b.now) C3 y n z
-            (with-hole b.now d i place.entry dr ready (next_stamp p.world)
-            (claimed_pointer (made_books k i) place.blocks.cell) y block3 leaf-block differ none3 cell u
-            before after R N
-            (fits-slot HoleWith slot-is) filled leafed tables was_d was_i).super
-            (with-each b.now d i place.entry dr ready (next_stamp p.world)
-            (claimed_pointer (made_books k i) place.blocks.cell) y block3 leaf-block differ none3 cell u
-            before after R N
-            (fits-slot HoleWith slot-is) filled leafed tables was_d was_i n z one);
-      }
+      holes : (find b.now d (path_of (place.entry / 16)) ≡ answer.Hole) × (find b.now d leaf ≡ answer.Hole)
+      holes = empty-slot HoleWith slot-is
 
       pub with-made : IsMade b H p d g name kind place.entry
           (make_claims i (next_of k) (claimed_pointer (made_books k i) place.blocks.cell)
           (claimed_pointer (claimed_books (made_books k i) place.blocks.cell) place.blocks.leaf))
-          ((place.blocks.cell, cell) ∷ (place.blocks.leaf, u) ∷ (table_block d, after.directory)
-          ∷ (table_block i, after.inode) ∷ []) 2
-      with-made = record {
-        it = makes3;
-        ends = in-hole-ends b k H p d g name kind place.entry C3 ws3 is_b tells o makes3 y writes3;
-        needs = needs
-            HoleWith slot-is;
-      }
+          ((place.blocks.cell, cell) ∷ (place.blocks.leaf, u) ∷ table_writes d i after) 2
+      with-made = made-of is_b ((place.blocks.cell, cell) ∷ (place.blocks.leaf, u) ∷ table_writes d i after) x y y 2
+          claim3 named3 (λ t. refl) (inl (newer-than C3 y claim3 leaf-named))
+          (with-enters b.now d i place.entry dr ready (next_stamp p.world) x y block3 leaf-block differ holes.1 cell u
+          before after R N (fits-slot HoleWith slot-is) filled leafed tables was_d was_i holes.0 short)
+          (needs HoleWith slot-is)

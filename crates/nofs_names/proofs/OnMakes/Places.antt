@@ -6,7 +6,9 @@ use Rattle.nofs_bits.specs.Bits.{is_set}
 use Rattle.nofs_disk.specs.Disk.{DiskState, StaysButFaults}
 use Rattle.nofs_dirent.specs.Names.{NameOk}
 use Rattle.nofs_inode.specs.InodeRecords.{HasRecordSpelling}
-use Rattle.nofs_model.specs.Cells.{Pointer, Record, SuperBlock}
+use Rattle.nofs_disk.specs.declared.tag.Pointer.{Pointer}
+use Rattle.nofs_inode.specs.declared.inode.Record.{Record}
+use Rattle.nofs_super.specs.declared.superblock.SuperBlock.{SuperBlock}
 use Rattle.nofs_model.specs.Places.{InArea}
 use Rattle.nofs_model.specs.declared.image.path.PathAnswer.TheVariants as answer
 use Rattle.nofs_agree.specs.Reads.{KnowsDirectory}
@@ -15,8 +17,7 @@ use Rattle.nofs_state.specs.declared.books.maps.Books.{Books}
 use Rattle.nofs_names.specs.Entries.Places.{AreFree, FitsSlot, slot_blocks}
 use Rattle.nofs_names.specs.declared.entries.places.EntrySlot.{EntrySlot}
 use Rattle.nofs_names.specs.declared.entries.places.EntrySlot.TheVariants.{Held as HeldSlot, Direct as DirectHole}
-use Rattle.nofs_names.specs.declared.entries.places.EntrySlot.TheVariants.{UnderLeaf as HoleUnder}
-use Rattle.nofs_names.specs.declared.entries.places.EntrySlot.TheVariants.{WithLeaf as HoleWith}
+use Rattle.nofs_names.specs.declared.entries.places.EntrySlot.TheVariants.{UnderLeaf as HoleUnder, WithLeaf as HoleWith}
 use Rattle.nofs_names.specs.Entries.Writes.{MayEnter}
 use Rattle.nofs_names.specs.Makes.{is_raised}
 use Rattle.nofs_names.proofs.OnSteps.Reads.{directory-on}
@@ -27,6 +28,10 @@ in-data at x area e = let a = area.0 in omega (arith, a, e)
 
 pub free-above : (d : DiskState) (k : Books) (b : ℕ) → IsSafe d k → is_set k.free_blocks b ≡ true → 0 ≢ b
 free-above d k b safe free e = let a = safe.in_area b free in omega (arith, a, e)
+
+-- a free block is none of the first
+pub free-positive : (d : DiskState) (k : Books) (b : ℕ) → IsSafe d k → is_set k.free_blocks b ≡ true → 0 < b
+free-positive d k b safe free = let a = safe.in_area b free in omega (arith, a)
 
 pub no-table : (i : ℕ) → 0 ≢ 1 + (i - 1) / 4
 no-table i e = omega (arith, e)

@@ -1,13 +1,19 @@
 -- What a Make stands on, and what it writes, in a slot that holds or in a hole.
 use Rattle.std.proofs.Common.{◌≡◌, ℕ, ◌+◌, ◌-◌, ◌/◌, ◌%◌, ◌<◌, ◌≤◌, ◌⊎◌, Bool, true, false, cond, ltb, List}
 use Rattle.std.proofs.Common.{Option, Some, None, is_some, unwrap_or, refl, sym, ap, ◌∙◌, subst}
-use Rattle.nofs_ptrs.specs.Paths.{slot_limit}
+use Rattle.nofs_ptrs.specs.Paths.{slot_limit, leaf, Path, path_of}
 use Rattle.nofs_disk.specs.Disk.{cell_at}
 use Rattle.nofs_dirent.specs.EntryLaws.{Spells}
 use Rattle.nofs_inode.specs.declared.inode.FileKind.TheVariants.{Directory as Folder}
-use Rattle.nofs_model.specs.Cells.{Cell, FileKind, Pointer, tag_of, record_at, spelled_entry}
-use Rattle.nofs_model.specs.Image.{Image, super_at, is_inode, inode, leaf, Path, path_of, find, files_in, agreed}
-use Rattle.nofs_model.specs.Image.{FileState, Files, NodeState}
+use Rattle.nofs_disk.specs.declared.tag.Cell.{Cell}
+use Rattle.nofs_inode.specs.declared.inode.FileKind.{FileKind}
+use Rattle.nofs_disk.specs.declared.tag.Pointer.{Pointer}
+use Rattle.nofs_disk.specs.Tag.{tag_of}
+use Rattle.nofs_inode.specs.InodeRecords.{record_at}
+use Rattle.nofs_dirent.specs.Entries.{spelled_entry}
+use Rattle.nofs_model.specs.Geometry.{Image, super_at, is_inode, inode}
+use Rattle.nofs_model.specs.Slots.{find}
+use Rattle.nofs_model.specs.Files.{files_in, agreed, FileState, Files, NodeState}
 use Rattle.nofs_model.specs.declared.image.path.PathAnswer.TheVariants as answer
 use Rattle.nofs_model.specs.declared.image.value.Value.{Value}
 use Rattle.nofs_history.specs.Meta.{Meta, is_bytes}
@@ -20,7 +26,7 @@ use Rattle.nofs_history.specs.declared.machine.steps.Step.TheVariants as step
 use Rattle.nofs_crashlaw.specs.Names.NewEntries.{IsNewRecord, first_links, EntryInPlace, EntryInHole}
 use Rattle.nofs_crashlaw.specs.Homes.Entries.{EntryClaims}
 use Rattle.nofs_crashlaw.specs.Numbers.Cells.{table_tag}
-use Rattle.nofs_state.specs.Writes.Cells.{OneOf}
+use Rattle.nofs_disk.specs.Order.{OneOf}
 use Rattle.nofs_state.proofs.OnWrites.Tables.{table_block}
 use Rattle.nofs_names.proofs.OnSteps.NoClaims.{block_in}
 

@@ -1,7 +1,7 @@
 -- What a Make knows of the place of its entry, once the slot was read.
 use Rattle.std.proofs.Common.{◌≡◌, ℕ, ◌/◌, Bool, false, IsTrue, List, Result, Ok, Err, sym, subst}
 use Rattle.nofs_disk.specs.Disk.{DiskState, IsDisk, StaysButFaults}
-use Rattle.nofs_model.specs.Image.{Image}
+use Rattle.nofs_model.specs.Geometry.{Image}
 use Rattle.nofs_history.specs.Claims.{no_claims}
 use Rattle.nofs_history.specs.World.{blocks_needed}
 use Rattle.nofs_history.specs.declared.machine.history.Entry1.{Entry1}

@@ -9,8 +9,14 @@ use Rattle.nofs_bits.specs.Bits.{count_set, is_set}
 use Rattle.nofs_disk.specs.Disk.{DiskState, IsDisk, Rose, StaysButFaults}
 use Rattle.nofs_disk.specs.Chains.{StaysButFaults-refl, StaysButFaults-trans}
 use Rattle.nofs_dirent.specs.Names.{is_name}
-use Rattle.nofs_model.specs.Cells.{FileKind, Pointer, Record, SuperBlock}
-use Rattle.nofs_model.specs.Image.{Image, find, path_of, Files}
+use Rattle.nofs_inode.specs.declared.inode.FileKind.{FileKind}
+use Rattle.nofs_disk.specs.declared.tag.Pointer.{Pointer}
+use Rattle.nofs_inode.specs.declared.inode.Record.{Record}
+use Rattle.nofs_super.specs.declared.superblock.SuperBlock.{SuperBlock}
+use Rattle.nofs_model.specs.Geometry.{Image}
+use Rattle.nofs_model.specs.Slots.{find}
+use Rattle.nofs_ptrs.specs.Paths.{path_of}
+use Rattle.nofs_model.specs.Files.{Files}
 use Rattle.nofs_model.specs.declared.image.path.PathAnswer.TheVariants as answer
 use Rattle.nofs_history.specs.Search.{first_of, least_from}
 use Rattle.nofs_history.specs.Machine.{generation_of, is_folder_at, found, place_for}
@@ -43,8 +49,7 @@ use Rattle.nofs_names.specs.Searches.Slots.{Passed}
 use Rattle.nofs_names.specs.Searches.Refusals.{Fails, KnownTrue, IsThere, directory_rows, exists_rows, OpensDirectory}
 use Rattle.nofs_names.specs.Searches.Refusals.{FindsNone}
 use Rattle.nofs_names.specs.Entries.Places.{FindsEntrySlot, FitsSlot, IsEntrySlot, IsPlaceOf, IsSlotCell, LiesInside}
-use Rattle.nofs_names.specs.Entries.Places.{SlotFails, TakesBlocks, slot_blocks}
-use Rattle.nofs_names.specs.Entries.Places.{room_rows, place_or_full}
+use Rattle.nofs_names.specs.Entries.Places.{SlotFails, TakesBlocks, slot_blocks, room_rows, place_or_full}
 use Rattle.nofs_state.specs.declared.writes.ends.Ended.{Ended}
 use Rattle.nofs_names.specs.declared.entries.writes.EntryPlace.{EntryPlace}
 use Rattle.nofs_names.specs.declared.entries.places.EntryBlocks.{EntryBlocks}

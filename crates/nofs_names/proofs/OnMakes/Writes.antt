@@ -3,26 +3,30 @@ use Rattle.std.proofs.Common.{◌≡◌, ◌≢◌, ℕ, ◌+◌, ◌-◌, ◌/�
 use Rattle.std.proofs.Common.{ne_eqb, leb, ltb, ◌&&◌, ◌||◌, not, List}
 use Rattle.std.proofs.Common.{Option, Some, None, is_some, IsTrue, refl, sym, ap, ◌∙◌, subst, subst₂, arith, Contains}
 use Rattle.std.proofs.lemmas.Bool.{cases_eq}
-use Rattle.nofs_dirent.specs.Entries.{entry_limit}
-use Rattle.nofs_ptrs.specs.Paths.{slot_limit}
+use Rattle.nofs_dirent.specs.Entries.{entry_limit, spelled_entry}
+use Rattle.nofs_ptrs.specs.Paths.{slot_limit, leaf, Path, path_of}
 use Rattle.nofs_disk.specs.Disk.{DiskState, IsDisk, cell_at}
 use Rattle.nofs_inode.specs.declared.inode.FileKind.TheVariants.{Directory as Folder}
-use Rattle.nofs_model.specs.Cells.{Cell, FileKind, Pointer, SuperBlock, record_at, spelled_entry}
-use Rattle.nofs_model.specs.Image.{Image, super_at, is_data_block, is_inode, inode, leaf, Path, path_of, find, agreed}
-use Rattle.nofs_model.specs.Image.{is_folder}
-use Rattle.nofs_model.specs.Image.{is_special, FileState, Files, Home, home_at, Present}
+use Rattle.nofs_disk.specs.declared.tag.Cell.{Cell}
+use Rattle.nofs_inode.specs.declared.inode.FileKind.{FileKind}
+use Rattle.nofs_disk.specs.declared.tag.Pointer.{Pointer}
+use Rattle.nofs_super.specs.declared.superblock.SuperBlock.{SuperBlock}
+use Rattle.nofs_inode.specs.InodeRecords.{record_at}
+use Rattle.nofs_model.specs.Geometry.{Image, super_at, is_data_block, is_inode, inode}
+use Rattle.nofs_model.specs.Slots.{find}
+use Rattle.nofs_model.specs.Files.{agreed, is_folder, is_special, FileState, Files, Present}
+use Rattle.nofs_model.specs.Owners.{Home, home_at}
 use Rattle.nofs_model.specs.declared.image.path.PathAnswer.TheVariants as answer
 use Rattle.nofs_model.proofs.OnSlots.Find.{find-held}
 use Rattle.nofs_model.proofs.OnSound.Writes.{supers}
 use Rattle.nofs_crashlaw.specs.Images.Proper.{Proper}
 use Rattle.nofs_crashlaw.specs.Images.Moments.{during}
-use Rattle.nofs_history.specs.Marks.{Mark}
+use Rattle.nofs_history.specs.Marks.{Mark, mark_at}
 use Rattle.nofs_history.specs.Meta.{Meta}
-use Rattle.nofs_history.specs.Machine.{make_given, is_at, lies_above, files_after, value_of}
-use Rattle.nofs_history.specs.Machine.{with_entry}
+use Rattle.nofs_history.specs.Machine.{make_given, is_at, lies_above, files_after, value_of, with_entry}
 use Rattle.nofs_history.specs.World.{World, blocks_needed}
 use Rattle.nofs_history.specs.Claims.{has_block, next_stamp}
-use Rattle.nofs_history.specs.History.{FilesMatch, mark_at}
+use Rattle.nofs_history.specs.History.{FilesMatch}
 use Rattle.nofs_history.specs.declared.machine.history.Claims.{Claims}
 use Rattle.nofs_history.specs.declared.machine.history.Entry1.{Entry1}
 use Rattle.nofs_history.specs.declared.machine.steps.Step.TheVariants as step
@@ -36,7 +40,7 @@ use Rattle.nofs_crashlaw.specs.Names.NewEntries.{first_links, MakeLies}
 use Rattle.nofs_crashlaw.specs.Numbers.Cells.{RecordWritten}
 use Rattle.nofs_state.specs.Cores.Invariant.{IsOpen, Past}
 use Rattle.nofs_state.specs.declared.books.maps.Books.{Books}
-use Rattle.nofs_state.specs.Writes.Cells.{image_after}
+use Rattle.nofs_disk.specs.Order.{image_after}
 use Rattle.nofs_crashlaw.proofs.OnNames.Gives.{make-birth, make-nothing}
 use Rattle.nofs_crashlaw.proofs.OnNames.Holes.{hole-cell, hole-leaf-proper, hole-writes}
 use Rattle.nofs_crashlaw.proofs.OnNames.NewEntries.{birth-is}
@@ -232,7 +236,6 @@ module _ (old : DiskState) (k : Books) (H : List Entry1) (p : Past) (d g : ℕ) 
     files = law.2;
     move = law-make-in-place-homes W X Y d g e (next_stamp W) name kind c own.file x lies h.entry it.place it.claim;
     writes = in-place-writes (next_stamp W) d c.inode (e / 16) X Y x h.entry.held h.entry.writes;
-    last = λ b cell one. (h.each b cell one).0;
   }
     where
       law : ((m : Mark) → is_data_block m.image x.block ≡ true
@@ -277,7 +280,6 @@ module _ (old : DiskState) (k : Books) (H : List Entry1) (p : Past) (d g : ℕ) 
   in-hole-ends y h = record {
     proper = λ b cell one. proper-at b cell (h.each b cell one).1;
     numbers = λ b cell one. numbers-at b cell (h.each b cell one).1;
-    last = λ b cell one. (h.each b cell one).0;
     files = law.2;
     move = law-make-in-hole-homes W X Y d g e (next_stamp W) name kind c own.file y lies h.entry h.claims it.claim;
     writes = writes;

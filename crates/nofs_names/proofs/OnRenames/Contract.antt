@@ -1,12 +1,17 @@
 -- The contract of Rename, from its parts.
 use Rattle.std.proofs.Common.{◌≡◌, ℕ, ◌*◌, ◌/◌, ◌%◌, ◌<◌, inl, inr, Bool, true, false, List, [], ◌∷◌, length, IsTrue}
-use Rattle.std.proofs.Common.{Result, Err, IfErr, refl, sym, ap}
-use Rattle.std.proofs.Common.{◌∙◌, subst, arith}
+use Rattle.std.proofs.Common.{Result, Err, IfErr, refl, sym, ap, ◌∙◌, subst, arith}
 use Rattle.nofs_disk.specs.Disk.{DiskState, IsDisk, StaysButFaults, cell_at}
 use Rattle.nofs_disk.specs.Number.{put_bytes}
 use Rattle.nofs_dirent.specs.EntryLaws.{Spells}
-use Rattle.nofs_model.specs.Cells.{Cell, Pointer, Record, spelled_entry}
-use Rattle.nofs_model.specs.Image.{Image, path_of, find, files_in, agreed, Files}
+use Rattle.nofs_disk.specs.declared.tag.Cell.{Cell}
+use Rattle.nofs_disk.specs.declared.tag.Pointer.{Pointer}
+use Rattle.nofs_inode.specs.declared.inode.Record.{Record}
+use Rattle.nofs_dirent.specs.Entries.{spelled_entry}
+use Rattle.nofs_model.specs.Geometry.{Image}
+use Rattle.nofs_ptrs.specs.Paths.{path_of}
+use Rattle.nofs_model.specs.Slots.{find}
+use Rattle.nofs_model.specs.Files.{files_in, agreed, Files}
 use Rattle.nofs_model.specs.Places.{InArea}
 use Rattle.nofs_model.specs.declared.image.path.PathAnswer.TheVariants as answer
 use Rattle.nofs_history.specs.Claims.{no_claims}
@@ -22,7 +27,8 @@ use Rattle.nofs_state.specs.Books.Maps.{IsSafe}
 use Rattle.nofs_state.specs.Cores.Invariant.{IsOpen, Past}
 use Rattle.nofs_state.specs.Cores.Steps.{Goes, entry}
 use Rattle.nofs_state.specs.declared.books.maps.Books.{Books}
-use Rattle.nofs_state.specs.Writes.Cells.{IsApart, Stores}
+use Rattle.nofs_disk.specs.Order.{IsApart}
+use Rattle.nofs_state.specs.Writes.Cells.{Stores}
 use Rattle.nofs_names.specs.Searches.Slots.{IsFoundEntry}
 use Rattle.nofs_names.specs.Searches.Refusals.{IsThere, KnownTrue}
 use Rattle.nofs_names.specs.Renames.Parts.{FoundIn, HoldFails, HoldsSlot, done_answer}

@@ -5,8 +5,8 @@ use Rattle.nofs_dirent.specs.Entries.{entry_limit}
 use Rattle.nofs_disk.specs.Disk.{DiskState, IsDisk, StaysButFaults}
 use Rattle.nofs_disk.specs.Chains.{StaysButFaults-refl, StaysButFaults-trans}
 use Rattle.nofs_dirent.specs.Names.{is_name}
-use Rattle.nofs_model.specs.Cells.{Record}
-use Rattle.nofs_model.specs.Image.{Image}
+use Rattle.nofs_inode.specs.declared.inode.Record.{Record}
+use Rattle.nofs_model.specs.Geometry.{Image}
 use Rattle.nofs_history.specs.Search.{first_of}
 use Rattle.nofs_history.specs.Machine.{generation_of, is_folder_at, found}
 use Rattle.nofs_history.specs.World.{World}

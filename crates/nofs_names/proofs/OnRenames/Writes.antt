@@ -1,13 +1,21 @@
 -- Rename: the directory's cell is written in place.
 use Rattle.std.proofs.Common.{◌≡◌, ◌≢◌, ℕ, ◌+◌, ◌*◌, ◌/◌, ◌%◌, inl, inr, true, false, List, [], ◌∷◌, length, Option}
-use Rattle.std.proofs.Common.{Some, is_some, IsTrue, refl, sym, ap, ◌∙◌}
-use Rattle.std.proofs.Common.{subst, subst₂}
+use Rattle.std.proofs.Common.{Some, is_some, IsTrue, refl, sym, ap, ◌∙◌, subst, subst₂}
 use Rattle.nofs_disk.specs.Disk.{DiskState, IsDisk, cell_at}
 use Rattle.nofs_disk.specs.Number.{put_bytes}
 use Rattle.nofs_inode.specs.declared.inode.FileKind.TheVariants.{Directory as Folder}
 use Rattle.nofs_dirent.specs.EntryLaws.{Spells}
-use Rattle.nofs_model.specs.Cells.{Cell, Entry, Pointer, Record, tag_of, is_live, spelled_entry}
-use Rattle.nofs_model.specs.Image.{Image, is_data_block, inode, path_of, find, files_in, agreed, Files}
+use Rattle.nofs_disk.specs.declared.tag.Cell.{Cell}
+use Rattle.nofs_dirent.specs.declared.entry.Entry.{Entry}
+use Rattle.nofs_disk.specs.declared.tag.Pointer.{Pointer}
+use Rattle.nofs_inode.specs.declared.inode.Record.{Record}
+use Rattle.nofs_disk.specs.Tag.{tag_of}
+use Rattle.nofs_inode.specs.InodeRecords.{is_live}
+use Rattle.nofs_dirent.specs.Entries.{spelled_entry}
+use Rattle.nofs_model.specs.Geometry.{Image, is_data_block, inode}
+use Rattle.nofs_ptrs.specs.Paths.{path_of}
+use Rattle.nofs_model.specs.Slots.{find}
+use Rattle.nofs_model.specs.Files.{files_in, agreed, Files}
 use Rattle.nofs_model.specs.declared.image.path.PathAnswer.TheVariants as answer
 use Rattle.nofs_model.specs.declared.image.value.Value.{Value}
 use Rattle.nofs_model.specs.declared.image.value.Value.TheVariants.{Bytes}
@@ -15,12 +23,12 @@ use Rattle.nofs_model.proofs.OnSlots.Find.{find-held, HoldsAt}
 use Rattle.nofs_crashlaw.specs.Images.Proper.{Proper}
 use Rattle.nofs_crashlaw.specs.Images.Moments.{during}
 use Rattle.nofs_history.specs.Meta.{is_bytes}
-use Rattle.nofs_history.specs.Marks.{Mark}
+use Rattle.nofs_history.specs.Marks.{Mark, mark_at}
 use Rattle.nofs_history.specs.Machine.{Given, gives, rename_given, at_place, files_after, value_of, with_entry, found}
 use Rattle.nofs_history.specs.Machine as machine
 use Rattle.nofs_history.specs.World.{World}
 use Rattle.nofs_history.specs.Claims.{no_claims, next_stamp, IsClaim, has_block}
-use Rattle.nofs_history.specs.History.{FilesMatch, mark_at}
+use Rattle.nofs_history.specs.History.{FilesMatch}
 use Rattle.nofs_history.specs.declared.machine.history.Entry1.{Entry1}
 use Rattle.nofs_history.specs.declared.machine.steps.Step.TheVariants as step
 use Rattle.nofs_history.proofs.EntryPut.{with-entry-put}
@@ -39,7 +47,7 @@ use Rattle.nofs_names.proofs.OnSteps.OpenMount.{Follows, NameStep, OpenImage, op
 use Rattle.nofs_names.proofs.OnSteps.NoClaims.{IsQuiet, quiet-claim, quiet-follows, cell-used, cell-blocks}
 use Rattle.nofs_state.specs.Cores.Invariant.{IsOpen, Past}
 use Rattle.nofs_state.specs.declared.books.maps.Books.{Books}
-use Rattle.nofs_state.specs.Writes.Cells.{OneOf, image_after}
+use Rattle.nofs_disk.specs.Order.{OneOf, image_after}
 use Rattle.nofs_names.specs.Searches.Slots.{IsFoundEntry}
 use Rattle.nofs_names.specs.declared.searches.slots.Paired.{Paired}
 
@@ -184,11 +192,6 @@ module _ (old : DiskState) (k : Books) (H : List Entry1) (p : Past) (d g : ℕ) 
       (law-rename-numbers W X Y d g q.entry (next_stamp W) other own.file x it no_claims on.numbers lies))
   numbers b cell (inr none) = absurd none
 
-  last : (b : ℕ) (cell : Cell) → OneOf ((x.block, c) ∷ []) b cell → cell ≡ cell_at Y b
-  last b cell (inl one) =
-      one.1 ∙ sym (ap (cell_at Y) one.0 ∙ write-here X x c on.geometry.fits on.geometry.multiple area)
-  last b cell (inr none) = absurd none
-
   -- What it gives
 
   nothing : (j : ℕ) → j ≢ d → GivesNothing (rename_given W.files d g other q.entry) j
@@ -218,8 +221,8 @@ module _ (old : DiskState) (k : Books) (H : List Entry1) (p : Past) (d g : ℕ) 
       files = law.1;
       move = law-rename-homes W X Y d g q.entry (next_stamp W) name other own.file x it no_claims lies claim;
       writes = in-place-writes (next_stamp W) d 0 (q.entry / 16) X Y x held in-place;
-      last = last;
     };
+    row = record { once = (tt, tt); exact = refl };
   }
 
   pub rename-follows : Follows W (step.Rename d g name other) no_claims k

@@ -1,8 +1,10 @@
 -- The entry that was found stands in a slot that holds.
-use Rattle.std.proofs.Common.{◌≡◌, ℕ, ◌/◌, true, List, Some, refl, sym, ap}
-use Rattle.std.proofs.Common.{◌∙◌, arith}
-use Rattle.nofs_model.specs.Cells.{Pointer}
-use Rattle.nofs_model.specs.Image.{Image, path_of, find, files_in, agreed, Files, entry_held, value_in}
+use Rattle.std.proofs.Common.{◌≡◌, ℕ, ◌/◌, true, List, Some, refl, sym, ap, ◌∙◌, arith}
+use Rattle.nofs_disk.specs.declared.tag.Pointer.{Pointer}
+use Rattle.nofs_model.specs.Geometry.{Image}
+use Rattle.nofs_ptrs.specs.Paths.{path_of}
+use Rattle.nofs_model.specs.Slots.{find, value_in}
+use Rattle.nofs_model.specs.Files.{files_in, agreed, Files, entry_held}
 use Rattle.nofs_model.specs.declared.image.path.PathAnswer.{PathAnswer}
 use Rattle.nofs_model.specs.declared.image.path.PathAnswer.TheVariants as answer
 use Rattle.nofs_history.specs.History.{FilesMatch}

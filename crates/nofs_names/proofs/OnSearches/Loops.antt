@@ -1,13 +1,16 @@
 -- The loops of a search: over the places of a cell, and over the slots of a directory.
 use Rattle.std.proofs.Common.{◌≡◌, ℕ, ◌+◌, ◌*◌, ◌/◌, ◌%◌, ◌<◌, true, false, List, Option, Some, None, IsTrue, Result}
-use Rattle.std.proofs.Common.{Ok, Err, refl, sym, ap, ◌∙◌, subst, arith}
-use Rattle.std.proofs.Common.{le_refl}
+use Rattle.std.proofs.Common.{Ok, Err, refl, sym, ap, ◌∙◌, subst, arith, le_refl}
 use Rattle.std.specs.Prelude.{IfOk, OnErr}
 use Rattle.nofs_disk.specs.Disk.{DiskState, StaysButFaults, Rose}
 use Rattle.nofs_disk.specs.Chains.{StaysButFaults-trans, Rose-within}
 use Rattle.nofs_disk.specs.declared.Failed.{Failed}
-use Rattle.nofs_model.specs.Cells.{Record, SuperBlock}
-use Rattle.nofs_model.specs.Image.{Image, files_in, inode, agreed, Files, value, value_in, find, path_of, Path}
+use Rattle.nofs_inode.specs.declared.inode.Record.{Record}
+use Rattle.nofs_super.specs.declared.superblock.SuperBlock.{SuperBlock}
+use Rattle.nofs_model.specs.Geometry.{Image, inode}
+use Rattle.nofs_model.specs.Files.{files_in, agreed, Files}
+use Rattle.nofs_model.specs.Slots.{value, value_in, find}
+use Rattle.nofs_ptrs.specs.Paths.{path_of, Path}
 use Rattle.nofs_model.specs.declared.image.path.PathAnswer.{PathAnswer}
 use Rattle.nofs_model.specs.declared.image.path.PathAnswer.TheVariants as answer
 use Rattle.nofs_model.specs.declared.image.value.Value.TheVariants.{Bytes}
@@ -25,8 +28,7 @@ use Rattle.nofs_names.specs.declared.searches.slots.Seen.{Seen}
 use Rattle.nofs_names.specs.declared.searches.slots.Seen.TheVariants as seen
 use Rattle.nofs_names.specs.declared.searches.slots.Searched.TheVariants as searched
 use Rattle.nofs_history.specs.Search.{least_from}
-use Rattle.nofs_names.proofs.OnSearches.Progress.{noted, is_found, passes, found-here, ends-bytes, ends-hole}
-use Rattle.nofs_names.proofs.OnSearches.Progress.{ends-lost}
+use Rattle.nofs_names.proofs.OnSearches.Progress.{noted, is_found, passes, found-here, ends-bytes, ends-hole, ends-lost}
 
 -- a search after other reads
 pub searches-after : (old mid new : DiskState) (at : SuperBlock) (d : ℕ) (name : List ℕ) (n k m l : ℕ) (u v : Unfound)

@@ -1,17 +1,20 @@
 -- The test of an entry on the disk is that of the machine.
 use Rattle.std.proofs.Common.{◌≡◌, ℕ, Bool, true, false, cond, eqb, ltb, ◌&&◌, ◌||◌, not, Option, Some, None, is_some}
-use Rattle.std.proofs.Common.{Contains, refl, sym, ap, ◌∙◌, subst}
-use Rattle.std.proofs.Common.{arith, eqb-true, eq-eqb}
+use Rattle.std.proofs.Common.{Contains, refl, sym, ap, ◌∙◌, subst, arith, eqb-true, eq-eqb}
 use Rattle.std.specs.List.{list_any}
 use Rattle.std.proofs.lemmas.Bool.{and_parts}
 use Rattle.std.proofs.lemmas.Bool.Decides.{nat_tests}
 use Rattle.nofs_inode.specs.declared.inode.FileKind.TheVariants.{File, Directory as Folder}
-use Rattle.nofs_model.specs.Cells.{BackLink, Entry, FileKind, Record}
-use Rattle.nofs_model.specs.Files.{is_record}
-use Rattle.nofs_model.specs.Image.{Image, inode, file_from, files_in, agreed, Agreed, root, linked, FileState, Files}
-use Rattle.nofs_model.specs.Image.{is_folder, entry_at}
-use Rattle.nofs_model.specs.Image.{entry_in_file, names, pairs, is_pair, links_in_file, links_of, is_root, is_special}
-use Rattle.nofs_model.specs.Image.{is_a, value, find, node_in}
+use Rattle.nofs_inode.specs.declared.inode.BackLink.{BackLink}
+use Rattle.nofs_dirent.specs.declared.entry.Entry.{Entry}
+use Rattle.nofs_inode.specs.declared.inode.FileKind.{FileKind}
+use Rattle.nofs_inode.specs.declared.inode.Record.{Record}
+use Rattle.nofs_model.specs.Files.{is_record, file_from, files_in, agreed, Agreed, root, linked, FileState, Files}
+use Rattle.nofs_model.specs.Geometry.{Image, inode}
+use Rattle.nofs_model.specs.Files.{is_folder, entry_at}
+use Rattle.nofs_model.specs.Files.{entry_in_file, names, pairs, is_pair, links_in_file, links_of, is_root, is_special}
+use Rattle.nofs_model.specs.Files.{is_a, node_in}
+use Rattle.nofs_model.specs.Slots.{value, find}
 use Rattle.nofs_model.proofs.OnFiles.Chains.{agreed-holds, holds-agreed, any-true}
 use Rattle.nofs_history.specs.Machine.{same_link, link_to, generation_of, is_paired}
 use Rattle.nofs_history.specs.History.{FilesMatch, SameFile}

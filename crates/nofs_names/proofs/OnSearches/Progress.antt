@@ -1,15 +1,16 @@
 -- How a search of a directory goes on, place by place and slot by slot.
 use Rattle.std.proofs.Common.{◌≡◌, ℕ, ◌+◌, ◌*◌, ◌/◌, ◌%◌, ◌<◌, ◌≤◌, Bool, true, false, cond, ltb, ◌&&◌, not, List}
-use Rattle.std.proofs.Common.{Option, Some, None, is_some, refl, sym, ap}
-use Rattle.std.proofs.Common.{◌∙◌, subst, arith, lt-ltb}
+use Rattle.std.proofs.Common.{Option, Some, None, is_some, refl, sym, ap, ◌∙◌, subst, arith, lt-ltb}
 use Rattle.std.specs.Prelude.{bytes_eq}
 use Rattle.std.proofs.lemmas.Slice.Eq.{bytes_eq-Decides}
-use Rattle.nofs_dirent.specs.Entries.{entry_limit}
+use Rattle.nofs_dirent.specs.Entries.{entry_limit, entry_in}
 use Rattle.nofs_inode.specs.declared.inode.FileKind.TheVariants.{Directory as Folder}
 use Rattle.nofs_dirent.specs.Entries as cells
-use Rattle.nofs_model.specs.Cells.{Entry, Record, entry_in}
-use Rattle.nofs_model.specs.Image.{Image, inode, files_in, agreed, FileState, Files, is_folder, entry_at, entry_held}
-use Rattle.nofs_model.specs.Image.{entry_in_file, value}
+use Rattle.nofs_dirent.specs.declared.entry.Entry.{Entry}
+use Rattle.nofs_inode.specs.declared.inode.Record.{Record}
+use Rattle.nofs_model.specs.Geometry.{Image, inode}
+use Rattle.nofs_model.specs.Files.{files_in, agreed, FileState, Files, is_folder, entry_at, entry_held, entry_in_file}
+use Rattle.nofs_model.specs.Slots.{value}
 use Rattle.nofs_model.specs.declared.image.value.Value.{Value}
 use Rattle.nofs_model.specs.declared.image.value.Value.TheVariants.{Hole, Bytes, Lost}
 use Rattle.nofs_history.specs.Meta.{is_bytes}
@@ -20,8 +21,7 @@ use Rattle.nofs_history.specs.History.{FilesMatch}
 use Rattle.nofs_crashlaw.proofs.OnUntouched.Matches.{matched-agreed}
 use Rattle.nofs_state.proofs.OnBooks.Machine.{agreed-live}
 use Rattle.nofs_names.specs.Searches.Slots.{first_or, where_true, named_in, paired_kind, IsNamed, IsSeen, finds}
-use Rattle.nofs_names.specs.Searches.Slots.{is_dead, is_empty, is_lost_slot}
-use Rattle.nofs_names.specs.Searches.Slots.{is_hole_slot, Passed, IsFoundEntry}
+use Rattle.nofs_names.specs.Searches.Slots.{is_dead, is_empty, is_lost_slot, is_hole_slot, Passed, IsFoundEntry}
 use Rattle.nofs_names.specs.declared.searches.entries.Named.{Named}
 use Rattle.nofs_names.specs.declared.searches.slots.Paired.{Paired}
 use Rattle.nofs_names.specs.declared.searches.slots.Unfound.{Unfound}

@@ -1,20 +1,22 @@
 -- The disk after a cell of the data area and a record of the table were written, and what a step on names gives to
 -- files.
 use Rattle.std.proofs.Common.{◌≡◌, ◌≢◌, ℕ, ◌+◌, ◌/◌, ◌%◌, ◌<◌, ◌≤◌, Bool, true, false, cond, leb, ltb, leb-true, []}
-use Rattle.std.proofs.Common.{◌∷◌, length, Option, Some, None, is_some}
-use Rattle.std.proofs.Common.{refl, ◌∙◌, arith}
+use Rattle.std.proofs.Common.{◌∷◌, length, Option, Some, None, is_some, refl, ◌∙◌, arith}
 use Rattle.std.specs.Prelude.{slice_set}
 use Rattle.std.proofs.lemmas.List.{get_or-set_same, get_or-set_other, length-set}
-use Rattle.nofs_ptrs.specs.Paths.{slot_limit}
+use Rattle.nofs_ptrs.specs.Paths.{slot_limit, path_of}
 use Rattle.nofs_disk.specs.Disk.{cell_at, no_cell}
-use Rattle.nofs_model.specs.Cells.{Cell, Pointer, Record}
-use Rattle.nofs_model.specs.Image.{Image, super_at, is_data_block, inode, path_of, FileState, Files}
+use Rattle.nofs_disk.specs.declared.tag.Cell.{Cell}
+use Rattle.nofs_disk.specs.declared.tag.Pointer.{Pointer}
+use Rattle.nofs_inode.specs.declared.inode.Record.{Record}
+use Rattle.nofs_model.specs.Geometry.{Image, super_at, is_data_block, inode}
+use Rattle.nofs_model.specs.Files.{FileState, Files}
 use Rattle.nofs_model.specs.declared.image.value.Value.{Value}
 use Rattle.nofs_model.proofs.OnSlots.Find.{and-both}
 use Rattle.nofs_history.specs.Meta.{Meta, Gone, Is, is_bytes}
 use Rattle.nofs_history.specs.Machine.{cell_given, files_after, file_after, after_meta, filled}
 use Rattle.nofs_history.specs.Claims.{is_present}
-use Rattle.nofs_state.specs.Writes.Cells.{image_after}
+use Rattle.nofs_disk.specs.Order.{WritesOnce, image_after}
 use Rattle.nofs_state.proofs.OnWrites.Tables.{HasRecord, table_block, record-here, record-other}
 use Rattle.nofs_names.proofs.OnSteps.OneCell.{data-place}
 use Rattle.nofs_names.proofs.OnSteps.NoClaims.{block_in, kept-bytes, kept-node}
@@ -38,6 +40,13 @@ module _ (X : Image) (i : ℕ) (x : Pointer) (c1 c2 : Cell) (r' : Record) (whole
   pub table-low : table_block i ≤ (super_at X).inodes / 4
   table-low = let a = inside in let q = quarters in omega (arith, a, q)
 
+  -- no block of the data area is one of the table
+  off : x.block ≢ table_block i
+  off e = let a = above in let b = table-low in omega (arith, a, b, e)
+
+  pub once : WritesOnce ((x.block, c1) ∷ (table_block i, c2) ∷ [])
+  once = ((off, tt), (tt, tt))
+
   pub in-table : cell_at after (table_block i) ≡ c2
   in-table = get_or-set_same (slice_set X x.block c1) (table_block i) c2 no_cell
       (let l = length-set X x.block c1 in let a = table-low in let t =
@@ -48,8 +57,7 @@ module _ (X : Image) (i : ℕ) (x : Pointer) (c1 c2 : Cell) (r' : Record) (whole
       ∙ get_or-set_other X x.block b c1 no_cell n
 
   pub in-slot : cell_at after x.block ≡ c1
-  in-slot = get_or-set_other (slice_set X x.block c1) (table_block i) x.block c2 no_cell
-      (λ e. let a = above in let b = table-low in omega (arith, a, b, e))
+  in-slot = get_or-set_other (slice_set X x.block c1) (table_block i) x.block c2 no_cell off
       ∙ get_or-set_same X x.block c1 no_cell (let b = below in let w = whole in omega (arith, b, w))
 
   pub super-stays : cell_at after 0 ≡ cell_at X 0

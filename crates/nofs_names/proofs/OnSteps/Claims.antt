@@ -1,13 +1,15 @@
 -- A step that claims blocks for one slot, or none, and perhaps an inode: what was claimed is used, and known to be.
 use Rattle.std.proofs.Common.{◌≡◌, ◌≢◌, ℕ, ◌+◌, ◌-◌, ◌<◌, ◌≤◌, Bool, true, false, cond, ltb, ◌&&◌, ◌||◌, not, List}
-use Rattle.std.proofs.Common.{Option, Some, None, is_some, inl, inr, refl}
-use Rattle.std.proofs.Common.{sym, ap, ◌∙◌, subst, arith}
+use Rattle.std.proofs.Common.{Option, Some, None, is_some, inl, inr, refl, sym, ap, ◌∙◌, subst, arith}
 use Rattle.std.proofs.lemmas.Bool.{cases_eq}
 use Rattle.std.proofs.Math.Bool.{and-false, or-true}
 use Rattle.nofs_agree.specs.Chain.{known_agreement}
 use Rattle.nofs_bits.specs.Bits.{is_set}
-use Rattle.nofs_model.specs.Cells.{Pointer, SuperBlock}
-use Rattle.nofs_model.specs.Image.{Image, is_special, Files, Home}
+use Rattle.nofs_disk.specs.declared.tag.Pointer.{Pointer}
+use Rattle.nofs_super.specs.declared.superblock.SuperBlock.{SuperBlock}
+use Rattle.nofs_model.specs.Geometry.{Image}
+use Rattle.nofs_model.specs.Files.{is_special, Files}
+use Rattle.nofs_model.specs.Owners.{Home}
 use Rattle.nofs_model.proofs.OnSlots.Find.{and-both}
 use Rattle.nofs_history.specs.Machine.{gives, files_after}
 use Rattle.nofs_history.specs.World.{World, is_fixed, is_free_inode, blocks_needed, inodes_needed, uses_inode}

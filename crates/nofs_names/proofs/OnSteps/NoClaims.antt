@@ -1,18 +1,18 @@
 -- A step that claims nothing and leaves used what was used: what the maps say stays.
 use Rattle.std.proofs.Common.{◌≡◌, ℕ, ◌+◌, ◌≤◌, Bool, true, false, cond, ltb, ◌&&◌, ◌||◌, not, Option, Some, None}
-use Rattle.std.proofs.Common.{is_some, unwrap_or, inl, refl, sym, ap, ◌∙◌}
-use Rattle.std.proofs.Common.{subst, arith}
-use Rattle.nofs_ptrs.specs.Paths.{slot_limit}
-use Rattle.nofs_model.specs.Cells.{null}
-use Rattle.nofs_model.specs.Image.{Image, path_of, is_special, FileState, Files, Home, NodeState, Present, Absent}
+use Rattle.std.proofs.Common.{is_some, unwrap_or, inl, refl, sym, ap, ◌∙◌, subst, arith}
+use Rattle.nofs_ptrs.specs.Paths.{slot_limit, path_of}
+use Rattle.nofs_disk.specs.Pointer.{null}
+use Rattle.nofs_model.specs.Geometry.{Image}
+use Rattle.nofs_model.specs.Files.{is_special, FileState, Files, NodeState, Present, Absent}
+use Rattle.nofs_model.specs.Owners.{Home}
 use Rattle.nofs_model.specs.declared.image.value.Value.{Value}
 use Rattle.nofs_model.specs.declared.image.value.Value.TheVariants.{Hole}
 use Rattle.nofs_history.specs.Meta.{is_bytes}
 use Rattle.nofs_history.specs.Machine.{gives, cell_given, no_meta, files_after, filled}
 use Rattle.nofs_history.specs.World.{World, is_fixed, blocks_needed, inodes_needed, uses_inode, uses_block}
 use Rattle.nofs_history.specs.Claims.{no_claims, IsBlockClaim, next_stamp, has_block, homes_after, claimed_home}
-use Rattle.nofs_history.specs.Claims.{IsClaim, IsInodeClaim, Unclaimed}
-use Rattle.nofs_history.specs.Claims.{NoInode, is_present}
+use Rattle.nofs_history.specs.Claims.{IsClaim, IsInodeClaim, Unclaimed, NoInode, is_present}
 use Rattle.nofs_history.specs.History.{FilesMatch}
 use Rattle.nofs_history.specs.Next.{Learns, sees_inode, sees_block}
 use Rattle.nofs_history.specs.declared.machine.steps.Step.{Step}

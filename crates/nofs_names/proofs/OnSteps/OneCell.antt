@@ -1,14 +1,16 @@
 -- The disk after one cell of the data area was written.
 use Rattle.std.proofs.Common.{◌≡◌, ◌≢◌, ℕ, ◌+◌, ◌-◌, ◌/◌, ◌%◌, ◌<◌, ◌≤◌, Bool, true, false, leb, ltb, ltb-true}
-use Rattle.std.proofs.Common.{leb-true, ◌&&◌, [], ◌∷◌, length, refl, sym, ap}
-use Rattle.std.proofs.Common.{◌∙◌, arith}
+use Rattle.std.proofs.Common.{leb-true, ◌&&◌, [], ◌∷◌, length, refl, sym, ap, ◌∙◌, arith}
 use Rattle.std.proofs.lemmas.List.{get_or-set_same, get_or-set_other}
 use Rattle.nofs_disk.specs.Disk.{cell_at, no_cell}
-use Rattle.nofs_model.specs.Cells.{Cell, Pointer, SuperBlock, record_at, free_record}
-use Rattle.nofs_model.specs.Image.{Image, super_at, is_data_block, is_inode, inode}
+use Rattle.nofs_disk.specs.declared.tag.Cell.{Cell}
+use Rattle.nofs_disk.specs.declared.tag.Pointer.{Pointer}
+use Rattle.nofs_super.specs.declared.superblock.SuperBlock.{SuperBlock}
+use Rattle.nofs_inode.specs.InodeRecords.{record_at, free_record}
+use Rattle.nofs_model.specs.Geometry.{Image, super_at, is_data_block, is_inode, inode}
 use Rattle.nofs_model.proofs.OnSlots.Find.{and-both}
 use Rattle.nofs_model.proofs.OnSound.Writes.{supers}
-use Rattle.nofs_state.specs.Writes.Cells.{image_after}
+use Rattle.nofs_disk.specs.Order.{image_after}
 
 in-table : (X : Image) (j : ℕ)
     → is_inode X j ≡ true → inode X j ≡ record_at (cell_at X (1 + (j - 1) / 4)).payload ((j - 1) % 4)

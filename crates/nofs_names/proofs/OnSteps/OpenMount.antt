@@ -7,8 +7,16 @@ use Rattle.nofs_disk.specs.Disk.{DiskState, IsDisk, Picks, cell_at}
 use Rattle.nofs_disk.specs.Adds.{Adds}
 use Rattle.nofs_disk.specs.declared.Failed.{Failed}
 use Rattle.nofs_super.specs.Geometry.{IsGeometry}
-use Rattle.nofs_model.specs.Cells.{Cell, Pointer, Record, SuperBlock, is_live, record_at, tag_of}
-use Rattle.nofs_model.specs.Image.{Image, super_at, is_data_block, inode, leaf, Files, IsBelow}
+use Rattle.nofs_disk.specs.declared.tag.Cell.{Cell}
+use Rattle.nofs_disk.specs.declared.tag.Pointer.{Pointer}
+use Rattle.nofs_inode.specs.declared.inode.Record.{Record}
+use Rattle.nofs_super.specs.declared.superblock.SuperBlock.{SuperBlock}
+use Rattle.nofs_inode.specs.InodeRecords.{is_live, record_at}
+use Rattle.nofs_disk.specs.Tag.{tag_of}
+use Rattle.nofs_model.specs.Geometry.{Image, super_at, is_data_block, inode}
+use Rattle.nofs_ptrs.specs.Paths.{leaf}
+use Rattle.nofs_model.specs.Files.{Files}
+use Rattle.nofs_model.specs.Sound.{IsBelow}
 use Rattle.nofs_model.proofs.OnSlots.Find.{find-held}
 use Rattle.nofs_model.proofs.OnSound.Writes.{mountable-law, supers}
 use Rattle.nofs_history.specs.Search.{first_of}
@@ -18,7 +26,9 @@ use Rattle.nofs_history.specs.Claims.{IsClaim, next_stamp}
 use Rattle.nofs_history.specs.Refusals.{rows, may_write}
 use Rattle.nofs_history.specs.Answers.{reply_of}
 use Rattle.nofs_history.specs.Gives.{GivesNothing}
-use Rattle.nofs_history.specs.History.{FilesMatch, agreed_files, files_along, is_flushed, mark_at}
+use Rattle.nofs_history.specs.History.{FilesMatch}
+use Rattle.nofs_history.specs.Since.{agreed_files, files_along, is_flushed}
+use Rattle.nofs_history.specs.Marks.{mark_at}
 use Rattle.nofs_history.specs.Steady.{SteadyRest}
 use Rattle.nofs_history.specs.Next.{Learns}
 use Rattle.nofs_history.specs.declared.machine.history.Claims.{Claims}
@@ -43,11 +53,12 @@ use Rattle.nofs_crashlaw.specs.Numbers.Cells.{OldNumbers, RecordWritten, table_t
 use Rattle.nofs_crashlaw.specs.Histories.Stage.{AddsProper}
 use Rattle.nofs_state.specs.Books.Maps.{IsSafe, Says}
 use Rattle.nofs_state.specs.Cores.Invariant.{IsOpen, Past}
-use Rattle.nofs_state.specs.Cores.Steps.{Goes, MeetsOpen, WritesAlone, WritesCells, WritesSoMany, entry, makes_calls}
+use Rattle.nofs_history.specs.Writes.{WritesSoMany, makes_calls}
+use Rattle.nofs_state.specs.Cores.Steps.{Goes, IsRow, MeetsOpen, WritesAlone, WritesCells, entry}
 use Rattle.nofs_state.specs.declared.books.maps.Books.{Books}
 use Rattle.nofs_state.specs.Writes.Premises.{RowsPass}
-use Rattle.nofs_state.specs.Writes.Cells.{HasOneEach, IsApart, OneOf, Stores, Stored, NotStored, WritesAll}
-use Rattle.nofs_state.specs.Writes.Cells.{image_after}
+use Rattle.nofs_disk.specs.Order.{IsApart, OneOf, image_after}
+use Rattle.nofs_state.specs.Writes.Cells.{Stores, Stored, NotStored, WritesAll}
 use Rattle.nofs_crashlaw.proofs.OnNumbers.Tables.{law-table-numbers}
 use Rattle.nofs_state.proofs.OnCores.Done.{IsDone, Adds-map, after_world, goes-done}
 use Rattle.nofs_crashlaw.proofs.OnHistories.Entries.{now-picks}
@@ -123,8 +134,6 @@ pub record WritesName (old : DiskState) (H : List Entry1) (p : Past) (s : Step) 
   pub files : FilesMatch (files_after p.world.files given) (image_after ws old.now)
   pub move : HomesMove p.world.files s c old.now (image_after ws old.now)
   pub writes : NameWrites (next_stamp p.world) d i old.now (image_after ws old.now)
-  -- each cell is what a read gives when all are written
-  pub last : (b : ℕ) (cell : Cell) → OneOf ws b cell → cell ≡ cell_at (image_after ws old.now) b
 
 pub record NameStep (old : DiskState) (H : List Entry1) (p : Past) (s : Step) (c : Claims)
     (ws : List (ℕ × Cell)) : Type 0 where
@@ -133,6 +142,7 @@ pub record NameStep (old : DiskState) (H : List Entry1) (p : Past) (s : Step) (c
   pub file : ℕ
   pub gives : GivesName p.world (image_after ws old.now) s c given directory file
   pub ends : WritesName old H p s c given directory file ws
+  pub row : IsRow p.world.files s c ws
 
 -- the books stay but for their maps and their serial
 pub record SameMount (k l : Books) : Type 0 where
@@ -271,11 +281,6 @@ module _ (s : ℕ) (X Y : Image) (d i k : ℕ) (x y : Pointer) where
 
 -- The step, from its writes
 
-each-last : (old : DiskState) (k : Books) (s : Step) (c : Claims) (ws : List (ℕ × Cell))
-    → (IsTrue old.tells → (H : List Entry1) (p : Past) → IsOpen old k H p → NameStep old H p s c ws)
-    → IsTrue old.tells → (H : List Entry1) (p : Past) → IsOpen old k H p → HasOneEach ws
-each-last old k s c ws it tells H p o = one-each ws (image_after ws old.now) (it tells H p o).ends.last
-
 -- a write failed
 pub fault-goes : (old new : DiskState) (k q : Books) (s : Step) (c : Claims) (ws : List (ℕ × Cell)) (x : Failed)
     → IsDisk old → IsSafe old k → k.stopped ≡ false
@@ -286,7 +291,7 @@ pub fault-goes : (old new : DiskState) (k q : Books) (s : Step) (c : Claims) (ws
 fault-goes old new k q s c ws x is safe going claimed same apart may count it pass writes =
     goes-fault old new k
     (stopped_books q) s c is going same.at same.history refl writes.adds.disk writes.adds.past writes.cause writes.later
-    (WritesAlone refl (writes-cells k s c writes count (each-last old k s c ws it))) safe
+    (WritesAlone refl (writes-cells k s c writes count (λ tells H p o. (it tells H p o).row))) safe
     (safe-writes old new q ws (Err x) true writes apart claimed)
     (λ tells H p o. name-numbered old new k H p s c ws is tells o (it tells H p o) writes.adds)
     (λ tells caller H p o. (
@@ -317,7 +322,7 @@ done-goes old new k l s c r ws is is_new safe going after same count accepted no
     goes-done old new k l s c r ws is is_new going same.at same.history
     (same.stopped ∙ going) after accepted writes.adds.disk writes.adds.past writes.later
     (WritesAlone made (subst (WritesCells old new (MeetsOpen old k) s c) (sym (accepted-fault r accepted))
-    (writes-cells k s c writes count (each-last old k s c ws (λ tells H p o. (comes tells H p o).step))))) safe
+    (writes-cells k s c writes count (λ tells H p o. (comes tells H p o).step.row)))) safe
     (λ tells H p o. let f = comes tells H p o in
     name-done old new k H p s c ws is tells o f.step l r same f.follows f.answer accepted no_flush writes
     (pass tells H p o))

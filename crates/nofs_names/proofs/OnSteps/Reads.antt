@@ -1,8 +1,10 @@
 -- What was found of a disk stands after more reads.
 use Rattle.std.proofs.Common.{◌≡◌, ℕ, Bool, List, IsTrue, sym, subst}
 use Rattle.nofs_disk.specs.Disk.{DiskState, StaysButFaults}
-use Rattle.nofs_model.specs.Cells.{Record, SuperBlock}
-use Rattle.nofs_model.specs.Image.{Image, Files}
+use Rattle.nofs_inode.specs.declared.inode.Record.{Record}
+use Rattle.nofs_super.specs.declared.superblock.SuperBlock.{SuperBlock}
+use Rattle.nofs_model.specs.Geometry.{Image}
+use Rattle.nofs_model.specs.Files.{Files}
 use Rattle.nofs_history.specs.History.{FilesMatch}
 use Rattle.nofs_history.specs.declared.machine.steps.Step.{Step}
 use Rattle.nofs_agree.specs.Reads.{KnowsDirectory}

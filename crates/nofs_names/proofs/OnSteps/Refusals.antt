@@ -4,8 +4,11 @@ use Rattle.std.proofs.Common.{Err, IfErr, refl, sym, ap, ◌∙◌, subst}
 use Rattle.nofs_dirent.specs.Entries.{entry_limit}
 use Rattle.nofs_disk.specs.Disk.{DiskState}
 use Rattle.nofs_inode.specs.declared.inode.FileKind.TheVariants.{Directory as Folder}
-use Rattle.nofs_model.specs.Cells.{FileKind, Record, SuperBlock}
-use Rattle.nofs_model.specs.Image.{Image, inode, files_in, agreed, Files, is_folder}
+use Rattle.nofs_inode.specs.declared.inode.FileKind.{FileKind}
+use Rattle.nofs_inode.specs.declared.inode.Record.{Record}
+use Rattle.nofs_super.specs.declared.superblock.SuperBlock.{SuperBlock}
+use Rattle.nofs_model.specs.Geometry.{Image, inode}
+use Rattle.nofs_model.specs.Files.{files_in, agreed, Files, is_folder}
 use Rattle.nofs_history.specs.Search.{first_of}
 use Rattle.nofs_history.specs.Machine.{is_folder_at, found, first_dead, first_lost_slot, place_for}
 use Rattle.nofs_history.specs.World.{World}

@@ -13,8 +13,11 @@ use Rattle.nofs_history.specs.declared.machine.replies.Refusal.TheVariants as re
 use Rattle.nofs_history.specs.declared.machine.replies.Reply.{Reply}
 use Rattle.nofs_history.specs.declared.machine.replies.Reply.TheVariants as reply
 use Rattle.nofs_history.specs.declared.machine.steps.Step.TheVariants as step
-use Rattle.nofs_model.specs.Cells.{Cell, Pointer, Record}
-use Rattle.nofs_model.specs.Image.{path_of, find}
+use Rattle.nofs_disk.specs.declared.tag.Cell.{Cell}
+use Rattle.nofs_disk.specs.declared.tag.Pointer.{Pointer}
+use Rattle.nofs_inode.specs.declared.inode.Record.{Record}
+use Rattle.nofs_ptrs.specs.Paths.{path_of}
+use Rattle.nofs_model.specs.Slots.{find}
 use Rattle.nofs_model.specs.Places.{InArea}
 use Rattle.nofs_model.specs.declared.image.path.PathAnswer.TheVariants as answer
 use Rattle.nofs_agree.specs.Reads.{KnowsDirectory}

@@ -1,7 +1,7 @@
 -- Which blocks an inode owns, read slot by slot.
 use Rattle.std.specs.Prelude.{ℕ, Bool, List, Result, IfOk, IfErr, OnOk}
 use Rattle.nofs_disk.specs.Disk.{DiskState, StaysButFaults}
-use Rattle.nofs_model.specs.Cells.{SuperBlock}
+use Rattle.nofs_super.specs.declared.superblock.SuperBlock.{SuperBlock}
 use Rattle.nofs_history.specs.declared.machine.replies.Refusal.{Refusal}
 use Rattle.nofs_agree.specs.Reads.{IsLast}
 use Rattle.nofs_agree.specs.declared.reads.LastRead.{LastRead}

@@ -1,11 +1,12 @@
 -- Whether a directory has a name of a file.
 use Rattle.std.specs.Prelude.{◌≡◌, ℕ, ◌<◌, Bool, true, false, List, Option, Some, None, is_some, IsTrue, Result, IfOk}
 use Rattle.std.specs.Prelude.{OnOk, OnErr}
-use Rattle.nofs_dirent.specs.Entries.{entry_limit}
+use Rattle.nofs_dirent.specs.Entries.{entry_limit, entry_in}
 use Rattle.nofs_disk.specs.declared.Failed.{Failed}
 use Rattle.nofs_disk.specs.Disk.{DiskState, StaysButFaults, Rose}
-use Rattle.nofs_model.specs.Cells.{BackLink, entry_in}
-use Rattle.nofs_model.specs.Image.{Image, Files, inode}
+use Rattle.nofs_inode.specs.declared.inode.BackLink.{BackLink}
+use Rattle.nofs_model.specs.Geometry.{Image, inode}
+use Rattle.nofs_model.specs.Files.{Files}
 use Rattle.nofs_history.specs.Machine.{is_paired}
 use Rattle.nofs_history.specs.History.{FilesMatch}
 use Rattle.nofs_agree.specs.Reads.{IsLast}

@@ -3,8 +3,11 @@ use Rattle.std.specs.Prelude.{◌≡◌, ℕ, ◌*◌, ◌<◌, true, false, len
 use Rattle.nofs_dirent.specs.Entries.{entry_limit}
 use Rattle.nofs_disk.specs.Disk.{DiskState, cell_at}
 use Rattle.nofs_disk.specs.Number.{put_bytes, zeros}
-use Rattle.nofs_model.specs.Cells.{Cell, BackLink, Pointer, Record}
-use Rattle.nofs_model.specs.Image.{Files}
+use Rattle.nofs_disk.specs.declared.tag.Cell.{Cell}
+use Rattle.nofs_inode.specs.declared.inode.BackLink.{BackLink}
+use Rattle.nofs_disk.specs.declared.tag.Pointer.{Pointer}
+use Rattle.nofs_inode.specs.declared.inode.Record.{Record}
+use Rattle.nofs_model.specs.Files.{Files}
 use Rattle.nofs_history.specs.Meta.{is_gone}
 use Rattle.nofs_history.specs.Machine.{is_folder_at, is_paired, drop_meta, link_to, without_link}
 use Rattle.nofs_history.specs.History.{FilesMatch}

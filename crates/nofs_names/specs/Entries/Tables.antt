@@ -1,6 +1,8 @@
 -- A record in its cell of the inode table.
 use Rattle.std.specs.Prelude.{◌≡◌, ℕ, ◌+◌, ◌-◌, ◌/◌, Some}
-use Rattle.nofs_model.specs.Cells.{Cell, Record, tag_of}
+use Rattle.nofs_disk.specs.declared.tag.Cell.{Cell}
+use Rattle.nofs_inode.specs.declared.inode.Record.{Record}
+use Rattle.nofs_disk.specs.Tag.{tag_of}
 use Rattle.nofs_crashlaw.specs.Numbers.Cells.{table_tag}
 use Rattle.nofs_state.specs.Writes.Premises.{RecordIn}
 

@@ -1,14 +1,20 @@
 -- What a new entry writes: its cell with what is claimed for it, and the record of the inode that it names.
 use Rattle.std.specs.Prelude.{◌≡◌, ◌≢◌, ℕ, ◌+◌, ◌-◌, ◌*◌, ◌/◌, ◌%◌, ◌^◌, ◌<◌, ◌≤◌, true, List, [], ◌∷◌, length, Some}
-use Rattle.std.specs.Prelude.{IsTrue, Result, IfOk, OnOk, OnErr}
-use Rattle.std.specs.Prelude.{slice_set}
+use Rattle.std.specs.Prelude.{IsTrue, Result, IfOk, OnOk, OnErr, slice_set, if◌then◌else◌}
 use Rattle.nofs_disk.specs.Disk.{DiskState, StaysButFaults, Rose, cell_at}
 use Rattle.nofs_disk.specs.Number.{put_bytes, zeros}
 use Rattle.nofs_disk.specs.declared.Failed.{Failed}
 use Rattle.nofs_disk.specs.declared.tag.Kind.TheVariants as kind
 use Rattle.nofs_dirent.specs.Entries.{HasEntrySpelling, spelled_entry, entry_limit}
 use Rattle.nofs_inode.specs.InodeRecords.{HasRecordSpelling}
-use Rattle.nofs_model.specs.Cells.{Cell, Entry, Pointer, Record, is_null, pointer_at, tag_of}
+use Rattle.nofs_disk.specs.declared.tag.Cell.{Cell}
+use Rattle.nofs_dirent.specs.declared.entry.Entry.{Entry}
+use Rattle.nofs_disk.specs.declared.tag.Pointer.{Pointer}
+use Rattle.nofs_inode.specs.declared.inode.Record.{Record}
+use Rattle.nofs_disk.specs.Pointer.{is_null}
+use Rattle.nofs_ptrs.specs.Cells.{pointer_at}
+use Rattle.nofs_disk.specs.Tag.{tag_of}
+use Rattle.nofs_model.specs.Geometry.{in_one_table_cell}
 use Rattle.nofs_history.specs.Claims.{no_claims}
 use Rattle.nofs_agree.specs.Reads.{IsLast, KnowsDirectory}
 use Rattle.nofs_agree.specs.declared.reads.LastRead.{LastRead}
@@ -73,6 +79,11 @@ pub record AreTables (before : Tables) (d : ℕ) (dr : Record) (i : ℕ) (r : Re
   pub apart : (d - 1) / 4 ≢ (i - 1) / 4 → IsTable before.directory d dr after.directory
       × IsTable before.inode i r after.inode
 
+-- what is written of them: each block once, also where both records lie in one
+abbrev pub table_writes : ℕ → ℕ → Tables → List (ℕ × Cell)
+table_writes d i t = if in_one_table_cell d i then (table_block i, t.inode) ∷ []
+    else (table_block d, t.directory) ∷ (table_block i, t.inode) ∷ []
+
 -- a cell that the directory did not have
 pub record IsNewCell (d g n : ℕ) (it : Entry) (stamp : ℕ) (c : Cell) : Type 0 where
   pub payload : c.payload ≡ entered (zeros 1024) n it
@@ -117,7 +128,7 @@ pub record EntersDirect (old : DiskState) (k : Books) (new : DiskState) (l : Boo
   pub tables : AreTables t d (with_direct dr (p.entry / 16) (claimed_pointer k p.blocks.cell)) it.inode r after
   pub claims : ended.claims ≡ record no_claims { cell = claimed_pointer k p.blocks.cell }
   pub stores : Stores old (claimed_books k p.blocks.cell) new l
-      ((p.blocks.cell, cell) ∷ (table_block d, after.directory) ∷ (table_block it.inode, after.inode) ∷ []) ended.result
+      ((p.blocks.cell, cell) ∷ table_writes d it.inode after) ended.result
 
 -- into a hole under a leaf that holds
 pub record EntersUnderLeaf (old : DiskState) (k : Books) (new : DiskState) (l : Books) (d : ℕ) (dr : Record)
@@ -152,8 +163,7 @@ pub record EntersWithLeaf (old : DiskState) (k : Books) (new : DiskState) (l : B
         p.blocks.leaf;
   }
   pub stores : Stores old (claimed_books (claimed_books k p.blocks.cell) p.blocks.leaf) new l
-      ((p.blocks.cell, cell) ∷ (p.blocks.leaf, leaf) ∷ (table_block d, after.directory)
-      ∷ (table_block it.inode, after.inode) ∷ []) ended.result
+      ((p.blocks.cell, cell) ∷ (p.blocks.leaf, leaf) ∷ table_writes d it.inode after) ended.result
 
 -- a new entry is written, by what stands in its slot
 abbrev pub Enters : DiskState → Books → DiskState → Books → ℕ → Record → EntryPlace → Entry → Record → Tables

@@ -1,8 +1,10 @@
 -- What Rename asks of its parts, and answers.
 use Rattle.std.specs.Prelude.{◌≡◌, ℕ, ◌⊎◌, true, List, IsTrue, Result, Ok, Err, IfOk, IfErr, OnOk}
 use Rattle.nofs_disk.specs.Disk.{DiskState, StaysButFaults, Rose, cell_at}
-use Rattle.nofs_model.specs.Cells.{Pointer, SuperBlock}
-use Rattle.nofs_model.specs.Image.{path_of, find}
+use Rattle.nofs_disk.specs.declared.tag.Pointer.{Pointer}
+use Rattle.nofs_super.specs.declared.superblock.SuperBlock.{SuperBlock}
+use Rattle.nofs_ptrs.specs.Paths.{path_of}
+use Rattle.nofs_model.specs.Slots.{find}
 use Rattle.nofs_model.specs.Places.{InArea}
 use Rattle.nofs_model.specs.declared.image.path.PathAnswer.{PathAnswer}
 use Rattle.nofs_model.specs.declared.image.path.PathAnswer.TheVariants as answer
@@ -13,7 +15,7 @@ use Rattle.nofs_history.specs.declared.machine.replies.Reply.{Reply}
 use Rattle.nofs_history.specs.declared.machine.replies.Reply.TheVariants as reply
 use Rattle.nofs_agree.specs.Reads.{IsLast}
 use Rattle.nofs_agree.specs.declared.reads.LastRead.{LastRead}
-use Rattle.nofs_model.specs.Image.{Files}
+use Rattle.nofs_model.specs.Files.{Files}
 use Rattle.nofs_history.specs.History.{FilesMatch}
 use Rattle.nofs_names.specs.Searches.Slots.{IsFoundEntry}
 use Rattle.nofs_names.specs.declared.searches.slots.Paired.{Paired}

@@ -2,7 +2,7 @@
 use Rattle.std.specs.Prelude.{◌≡◌, true, false, Result, Ok, Err, IfOk, IfErr, OnOk}
 use Rattle.nofs_disk.specs.Disk.{DiskState, StaysButFaults}
 use Rattle.nofs_dirent.specs.Names.{NameOk, is_name}
-use Rattle.nofs_model.specs.Cells.{Record}
+use Rattle.nofs_inode.specs.declared.inode.Record.{Record}
 use Rattle.nofs_history.specs.declared.machine.replies.Refusal.{Refusal}
 use Rattle.nofs_history.specs.declared.machine.replies.Refusal.TheVariants as refusal
 use Rattle.nofs_agree.specs.declared.reads.LastRead.{LastRead}

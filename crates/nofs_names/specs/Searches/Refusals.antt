@@ -3,8 +3,10 @@ use Rattle.std.specs.Prelude.{◌≡◌, ℕ, ◌*◌, true, List, [], ◌∷◌
 use Rattle.std.specs.Prelude.{IfOk, IfErr, OnOk}
 use Rattle.nofs_dirent.specs.Entries.{entry_limit}
 use Rattle.nofs_disk.specs.Disk.{DiskState, StaysButFaults, Rose}
-use Rattle.nofs_model.specs.Cells.{Record, SuperBlock}
-use Rattle.nofs_model.specs.Image.{Image, Files, files_in, agreed}
+use Rattle.nofs_inode.specs.declared.inode.Record.{Record}
+use Rattle.nofs_super.specs.declared.superblock.SuperBlock.{SuperBlock}
+use Rattle.nofs_model.specs.Geometry.{Image}
+use Rattle.nofs_model.specs.Files.{Files, files_in, agreed}
 use Rattle.nofs_history.specs.Search.{first_of}
 use Rattle.nofs_history.specs.World.{World}
 use Rattle.nofs_history.specs.Steps.{InRange}

@@ -1,15 +1,18 @@
 -- What a search of a directory answers, over any disk.
 use Rattle.std.specs.Prelude.{◌≡◌, ℕ, ◌/◌, ◌<◌, ◌≤◌, Bool, true, false, ◌&&◌, ◌||◌, not, List, Option, Some, None}
-use Rattle.std.specs.Prelude.{is_some, IsTrue, Result, IfOk, IfSome}
-use Rattle.std.specs.Prelude.{OnOk, OnErr, if◌then◌else◌, nat_lt, ◌==◌}
+use Rattle.std.specs.Prelude.{is_some, IsTrue, Result, IfOk, IfSome, OnOk, OnErr, if◌then◌else◌, nat_lt, ◌==◌}
 use Rattle.std.specs.List.{list_any}
-use Rattle.nofs_dirent.specs.Entries.{entry_limit}
+use Rattle.nofs_dirent.specs.Entries.{entry_limit, entry_in}
 use Rattle.nofs_disk.specs.declared.Failed.{Failed}
 use Rattle.nofs_disk.specs.Disk.{DiskState, StaysButFaults, Rose}
 use Rattle.nofs_inode.specs.declared.inode.FileKind.TheVariants as kind
-use Rattle.nofs_model.specs.Cells.{BackLink, Entry, FileKind, Record, SuperBlock, entry_in}
-use Rattle.nofs_model.specs.Files.{is_record}
-use Rattle.nofs_model.specs.Image.{Image, inode, Files, files_in, agreed, is_folder, entry_at}
+use Rattle.nofs_inode.specs.declared.inode.BackLink.{BackLink}
+use Rattle.nofs_dirent.specs.declared.entry.Entry.{Entry}
+use Rattle.nofs_inode.specs.declared.inode.FileKind.{FileKind}
+use Rattle.nofs_inode.specs.declared.inode.Record.{Record}
+use Rattle.nofs_super.specs.declared.superblock.SuperBlock.{SuperBlock}
+use Rattle.nofs_model.specs.Files.{is_record, Files, files_in, agreed, is_folder, entry_at}
+use Rattle.nofs_model.specs.Geometry.{Image, inode}
 use Rattle.nofs_history.specs.Meta.{is_bytes}
 use Rattle.nofs_history.specs.Search.{least_from}
 use Rattle.nofs_history.specs.Machine.{same_link}

@@ -2,6 +2,7 @@
 ghost use Rattle.std.specs.Prelude.{◌≡◌, ◌≤◌, ◌<◌, ◌^◌, IfErr, IfOk, IfSome, IsTrue, None, length};
 ghost use Rattle.nofs_dirent.specs.Entries.{entry_limit};
 ghost use Rattle.nofs_bits.specs.Bits.{count_set};
+ghost use Rattle.nofs_ptrs.specs.Paths as paths;
 ghost use Rattle.nofs_model.specs.Slots as slots;
 ghost use Rattle.nofs_model.specs.declared.image.path.PathAnswer.TheVariants as answer;
 ghost use Rattle.nofs_agree.specs.Reads.{IsLast};
@@ -108,7 +109,7 @@ fn find_hole<D: Disk>(
     names: &mut LastRead,
 ) -> Result<EntrySlot, Refusal>
     requires hole { IsTrue (D.state disk.old).tells
-        → slots.find (D.state disk.old).now directory.inode (slots.path_of slot) ≡ answer.Hole }
+        → slots.find (D.state disk.old).now directory.inode (paths.path_of slot) ≡ answer.Hole }
     requires known { Knows (D.state disk.old) directory }
     requires slot { slot < 72 }
     requires last { IsLast (D.state disk.old) names.old }

@@ -3,7 +3,7 @@ ghost use Rattle.std.specs.Prelude.{◌≡◌, ◌≢◌, ◌+◌, ◌-◌, ◌*
 ghost use Rattle.nofs_disk.specs.Number.{put_bytes, zeros};
 ghost use Rattle.nofs_disk.specs.Pointer.{is_null};
 ghost use Rattle.nofs_dirent.specs.Entries.{HasEntrySpelling, entry_limit, spelled_entry};
-ghost use Rattle.nofs_model.specs.Cells.{tag_of};
+ghost use Rattle.nofs_disk.specs.Tag.{tag_of};
 ghost use Rattle.nofs_ptrs.specs.Cells.{pointer_at};
 ghost use Rattle.nofs_inode.specs.InodeRecords.{HasRecordSpelling};
 ghost use Rattle.nofs_agree.specs.Reads.{IsLast};
@@ -14,13 +14,13 @@ ghost use Rattle.nofs_names.specs.Entries.Writes.{ReadsTables, with_direct, with
 
 use crate::entries::claims::claims_of;
 use crate::entries::places::{EntryBlocks, EntrySlot};
-use crate::entries::tables::with_record;
+use crate::entries::tables::{with_record, write_leaf_with_tables, write_with_tables};
 use nofs_agree::{LastRead, read_block};
 use nofs_dirent::{Entry, write_entry};
 use nofs_disk::{Cell, Disk, Failed, Kind, Pointer, Tag, clear, write_tag};
 use nofs_inode::Record;
 use nofs_ptrs::write_pointer;
-use nofs_state::{Core, Ended, table_block, write_four, write_three, write_two};
+use nofs_state::{Core, Ended, table_block, write_three, write_two};
 
 /// The cells of the inode table with the records of a directory and of an inode that it names.
 #[derive(Clone, Copy)]
@@ -257,17 +257,8 @@ fn enter_direct<D: Disk + Drop>(core: &mut Core<D>, new: NewEntry<'_>) -> Ended
     let cell = new_cell(new, pointer.stamp);
     let changed = pointed(new.it, new.place.entry / 16, pointer);
     let after = new_tables(new, &changed);
-    let above = table_block(new.directory);
-    let number = table_block(new.named.inode);
-    let result = write_three(
-        core,
-        block,
-        &cell,
-        above,
-        &after.directory,
-        number,
-        &after.inode,
-    );
+    let (directory, inode) = (new.directory, new.named.inode);
+    let result = write_with_tables(core, block, &cell, directory, inode, &after);
     let claims = claims_of(pointer, Pointer::NULL);
     Ended { claims, result }
 }
@@ -309,18 +300,10 @@ fn enter_with_leaf<D: Disk + Drop>(core: &mut Core<D>, new: NewEntry<'_>) -> End
     let cell = new_cell(new, pointer.stamp);
     let changed = rooted(new.it, leaf);
     let after = new_tables(new, &changed);
-    let above = table_block(new.directory);
-    let number = table_block(new.named.inode);
-    let result = write_four(
-        core,
-        blocks.cell,
-        &cell,
-        blocks.leaf,
-        &pointers,
-        above,
-        &after.directory,
-        number,
-        &after.inode,
+    let (cell_block, leaf_block) = (blocks.cell, blocks.leaf);
+    let (directory, inode) = (new.directory, new.named.inode);
+    let result = write_leaf_with_tables(
+        core, cell_block, &cell, leaf_block, &pointers, directory, inode, &after,
     );
     let claims = claims_of(pointer, leaf);
     Ended { claims, result }

@@ -1,13 +1,11 @@
 //! The place of a file for one more back link, and why there is none.
 
 ghost use Rattle.std.specs.Prelude.{◌≡◌, ◌<◌, IfSome, length};
-ghost use Rattle.nofs_model.specs.Cells.{is_empty_link};
+ghost use Rattle.nofs_inode.specs.InodeRecords.{is_empty_link};
 ghost use Rattle.nofs_history.specs.Machine as machine;
 ghost use Rattle.nofs_agree.specs.Reads.{IsLast};
 ghost use Rattle.nofs_names.specs.Searches.Inodes.{Knows};
-ghost use Rattle.nofs_names.specs.Links.{FindsLinkPlace};
-ghost use Rattle.nofs_names.specs.Links.{TellsDeadPlace};
-ghost use Rattle.nofs_names.specs.Links.{place_or_many};
+ghost use Rattle.nofs_names.specs.Links.{FindsLinkPlace, TellsDeadPlace, place_or_many};
 
 use crate::searches::inodes::ReadInode;
 use nofs_agree::{Known, LastRead, is_agreed_link};

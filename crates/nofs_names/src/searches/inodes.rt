@@ -1,5 +1,6 @@
 //! An inode with its record, and what stands in a slot of it.
 ghost use Rattle.std.specs.Prelude.{◌<◌};
+ghost use Rattle.nofs_ptrs.specs.Paths as paths;
 ghost use Rattle.nofs_model.specs.Slots as slots;
 ghost use Rattle.nofs_agree.specs.Path.{FindsSlot};
 ghost use Rattle.nofs_agree.specs.Reads.{IsLast};
@@ -31,7 +32,7 @@ impl ReadInode {
         requires known { Knows (D.state disk.old) self }
         requires last { IsLast (D.state disk.old) last.old }
         ensures { FindsSlot (D.state disk.old) (D.state disk.new) self.at
-            (λ X. slots.find X self.inode (slots.path_of slot)) last.new result }
+            (λ X. slots.find X self.inode (paths.path_of slot)) last.new result }
     {
         let place = place_of(u64::from(slot));
         find_slot(disk, &self.at, self.inode, &self.record, place, last)

@@ -3,7 +3,8 @@ use Rattle.std.proofs.Common.{◌≡◌, ℕ, Bool, true, false, eqb, ◌&&◌, 
 use Rattle.std.proofs.Common.{arith, eqb-true}
 use Rattle.std.proofs.lemmas.Bool.Decides.{nat_tests}
 use Rattle.nofs_disk.specs.Number.{number_at}
-use Rattle.nofs_model.specs.Cells.{entry_of, Entry}
+use Rattle.nofs_dirent.specs.Entries.{entry_of}
+use Rattle.nofs_dirent.specs.declared.entry.Entry.{Entry}
 use Rattle.nofs_model.specs.Files.{names}
 use Rattle.nofs_model.proofs.OnFiles.Entries.{names-fields}
 use Rattle.nofs_model.proofs.OnSlots.Find.{and-both}

@@ -1,19 +1,26 @@
 -- The verdict of what an image has is that of its scan.
 use Rattle.std.proofs.Common.{◌≡◌, ℕ, ◌+◌, ◌/◌, ◌<◌, Bool, true, false, cond, eqb, ltb, leb, ◌&&◌, ◌||◌, not, List, []}
-use Rattle.std.proofs.Common.{◌∷◌, length, get_or, Option, Some}
-use Rattle.std.proofs.Common.{None, is_some, refl, sym, ap, ◌∙◌, arith, eqb-true}
+use Rattle.std.proofs.Common.{◌∷◌, length, get_or, Option, Some, None, is_some, refl, sym, ap, ◌∙◌, arith, eqb-true}
 use Rattle.std.specs.List.{list_any}
 use Rattle.std.proofs.lemmas.Bool.{false≢true}
 use Rattle.std.proofs.lemmas.Bool.Decides.{nat_tests}
-use Rattle.nofs_model.specs.Cells.{BackLink, Entry, FileKind, Pointer, Tag, is_live, is_null, no_link, pointer_at}
-use Rattle.nofs_model.specs.Cells.{tag_of}
+use Rattle.nofs_inode.specs.declared.inode.BackLink.{BackLink}
+use Rattle.nofs_dirent.specs.declared.entry.Entry.{Entry}
+use Rattle.nofs_inode.specs.declared.inode.FileKind.{FileKind}
+use Rattle.nofs_disk.specs.declared.tag.Pointer.{Pointer}
+use Rattle.nofs_disk.specs.declared.tag.Tag.{Tag}
+use Rattle.nofs_inode.specs.InodeRecords.{is_live, no_link}
+use Rattle.nofs_disk.specs.Pointer.{is_null}
+use Rattle.nofs_ptrs.specs.Cells.{pointer_at}
+use Rattle.nofs_disk.specs.Tag.{tag_of}
 use Rattle.nofs_inode.specs.declared.inode.FileKind.TheVariants.{Directory, File}
-use Rattle.nofs_model.specs.Image.{Image, cell_at, super_at, inode, is_data_block, is_fixed_block, is_used_block}
-use Rattle.nofs_model.specs.Image.{is_used_inode, Path, InRecord}
-use Rattle.nofs_model.specs.Image.{Under, path_of, IsSlot, is_slot, record_pointer, is_tag, agrees}
-use Rattle.nofs_model.specs.Image.{judged as judged_slot, find, files_in, file_from}
-use Rattle.nofs_model.specs.Image.{entry_at, is_a, names, pairs, is_pair, is_special, agreed, Home, home_at, owner}
-use Rattle.nofs_model.specs.Image.{owner_by, owner_found}
+use Rattle.nofs_model.specs.Geometry.{Image, super_at, inode, is_data_block}
+use Rattle.nofs_disk.specs.Disk.{cell_at}
+use Rattle.nofs_model.specs.Owners.{is_fixed_block, is_used_block, is_used_inode, Home, home_at, owner}
+use Rattle.nofs_ptrs.specs.Paths.{Path, InRecord, Under, path_of, IsSlot, is_slot}
+use Rattle.nofs_model.specs.Slots.{record_pointer, is_tag, agrees, judged as judged_slot, find}
+use Rattle.nofs_model.specs.Files.{files_in, file_from, entry_at, is_a, names, pairs, is_pair, is_special, agreed}
+use Rattle.nofs_model.specs.Owners.{owner_by, owner_found}
 use Rattle.nofs_model.specs.declared.image.path.PathAnswer.{PathAnswer}
 use Rattle.nofs_model.specs.declared.image.path.PathAnswer.TheVariants as answer
 use Rattle.nofs_model.proofs.OnFiles.Parents.{any-links, linked-is}
@@ -26,8 +33,7 @@ use Rattle.nofs_scan.specs.Steps.Elements.{HasElement, is_used}
 use Rattle.nofs_scan.specs.Sights.Verdicts.{above_in, block_sight, holds_down, holds_with, inode_sight, sight_verdict}
 use Rattle.nofs_scan.specs.Sights.Verdicts.{judged_inode, judged_tag, leads_up}
 use Rattle.nofs_scan.specs.Sights.Verdicts.{entry_linked, link_sight, may_have, named_inode, names_it, no_above}
-use Rattle.nofs_scan.specs.Sights.Verdicts.{sight_in, tag_sight, tag_wanted, tagged_in}
-use Rattle.nofs_scan.specs.Sights.Verdicts.{way_in}
+use Rattle.nofs_scan.specs.Sights.Verdicts.{sight_in, tag_sight, tag_wanted, tagged_in, way_in}
 use Rattle.nofs_scan.specs.declared.sights.sights.Above.{Above}
 use Rattle.nofs_scan.specs.declared.sights.sights.LinkSight.{LinkSight}
 use Rattle.nofs_scan.specs.declared.sights.sights.Sight.TheVariants as sight

@@ -4,8 +4,8 @@ use Rattle.std.proofs.Common.{None, refl, sym, ◌∙◌, subst, subst₂, arith
 use Rattle.nofs_bits.specs.Bits.{is_set}
 use Rattle.nofs_disk.specs.Disk.{DiskState, IsDisk}
 use Rattle.nofs_disk.specs.Chains.{KeepsCells-refl, StaysButFaults-refl}
-use Rattle.nofs_model.specs.Cells.{SuperBlock}
-use Rattle.nofs_model.specs.Image.{Image}
+use Rattle.nofs_super.specs.declared.superblock.SuperBlock.{SuperBlock}
+use Rattle.nofs_model.specs.Geometry.{Image}
 use Rattle.nofs_history.specs.World.{world_of}
 use Rattle.nofs_history.specs.Next.{Run}
 use Rattle.nofs_history.specs.Good.{IsUnchanged}

@@ -1,12 +1,12 @@
 -- An element that a step may see: what each way to its verdict leaves of the mount.
 use Rattle.std.proofs.Common.{◌≡◌, ℕ, ◌<◌, ◌≤◌, Bool, true, false, eqb, ltb, leb, ◌||◌, List, Option, Some, None}
-use Rattle.std.proofs.Common.{IsTrue, Result, Ok, Err, refl, sym, ap, ◌∙◌}
-use Rattle.std.proofs.Common.{subst, arith}
+use Rattle.std.proofs.Common.{IsTrue, Result, Ok, Err, refl, sym, ap, ◌∙◌, subst, arith}
 use Rattle.std.proofs.lemmas.Bool.Decides.{nat_tests}
 use Rattle.nofs_disk.specs.Disk.{DiskState, IsDisk, StaysButFaults}
 use Rattle.nofs_disk.specs.Chains.{StaysButFaults-refl}
 use Rattle.nofs_disk.specs.declared.Failed.{Failed}
-use Rattle.nofs_model.specs.Image.{Image, is_used_inode, is_used_block}
+use Rattle.nofs_model.specs.Geometry.{Image}
+use Rattle.nofs_model.specs.Owners.{is_used_inode, is_used_block}
 use Rattle.nofs_history.specs.Search.{first_of}
 use Rattle.nofs_history.specs.Claims.{no_claims}
 use Rattle.nofs_history.specs.Refusals.{rows}
@@ -19,8 +19,7 @@ use Rattle.nofs_state.specs.Books.Maps.{IsSafe}
 use Rattle.nofs_state.specs.Cores.Invariant.{IsOpen, Past}
 use Rattle.nofs_state.specs.Cores.Steps.{Follows, Goes, LeavesDisk, entry}
 use Rattle.nofs_state.specs.Books.Verdicts.{InData, Judges, Verifies, Stood, Learned, Unread, learned_block}
-use Rattle.nofs_state.specs.Books.Verdicts.{learned_inode, verdict_of_block}
-use Rattle.nofs_state.specs.Books.Verdicts.{verdict_of_inode}
+use Rattle.nofs_state.specs.Books.Verdicts.{learned_inode, verdict_of_block, verdict_of_inode}
 use Rattle.nofs_state.specs.declared.books.maps.Books.{Books}
 use Rattle.nofs_state.proofs.OnWrites.NoWrites.{sounds-keep}
 use Rattle.nofs_state.proofs.OnCores.Replies.{goes-row, goes-read, safe-on}

@@ -1,12 +1,23 @@
 -- What is read of an element of an image, and the verdict that follows from it alone.
 use Rattle.std.specs.Prelude.{ℕ, Bool, true, false, ◌&&◌, ◌||◌, not, List, [], ◌∷◌, get_or, Option, Some, None}
 use Rattle.std.specs.Prelude.{if◌then◌else◌, ◌==◌, nat_lt}
-use Rattle.nofs_model.specs.Cells.{Tag, Pointer, BackLink, FileKind, Record, Entry, tag_of, pointer_at, null, is_null}
-use Rattle.nofs_model.specs.Cells.{is_live, no_link}
+use Rattle.nofs_disk.specs.declared.tag.Tag.{Tag}
+use Rattle.nofs_disk.specs.declared.tag.Pointer.{Pointer}
+use Rattle.nofs_inode.specs.declared.inode.BackLink.{BackLink}
+use Rattle.nofs_inode.specs.declared.inode.FileKind.{FileKind}
+use Rattle.nofs_inode.specs.declared.inode.Record.{Record}
+use Rattle.nofs_dirent.specs.declared.entry.Entry.{Entry}
+use Rattle.nofs_disk.specs.Tag.{tag_of}
+use Rattle.nofs_ptrs.specs.Cells.{pointer_at}
+use Rattle.nofs_disk.specs.Pointer.{null, is_null}
+use Rattle.nofs_inode.specs.InodeRecords.{is_live, no_link}
 use Rattle.nofs_inode.specs.declared.inode.FileKind.TheVariants as file
-use Rattle.nofs_model.specs.Image.{Image, cell_at, inode, is_data_block, is_fixed_block, Path, InRecord, Under, path_of}
-use Rattle.nofs_model.specs.Image.{slot_of, is_slot}
-use Rattle.nofs_model.specs.Image.{record_pointer, kind_in, is_tag, Files, files_in, entry_at, is_a, is_special, agreed}
+use Rattle.nofs_model.specs.Geometry.{Image, inode, is_data_block}
+use Rattle.nofs_disk.specs.Disk.{cell_at}
+use Rattle.nofs_model.specs.Owners.{is_fixed_block}
+use Rattle.nofs_ptrs.specs.Paths.{Path, InRecord, Under, path_of, slot_of, is_slot}
+use Rattle.nofs_model.specs.Slots.{record_pointer, kind_in, is_tag}
+use Rattle.nofs_model.specs.Files.{Files, files_in, entry_at, is_a, is_special, agreed}
 use Rattle.nofs_history.specs.declared.machine.steps.ElementKind.{ElementKind}
 use Rattle.nofs_history.specs.declared.machine.steps.ElementKind.TheVariants as element
 use Rattle.nofs_scan.specs.declared.sights.sights.EntryTarget.{EntryTarget}

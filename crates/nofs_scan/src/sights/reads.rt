@@ -5,11 +5,12 @@
 ghost use Rattle.std.specs.Prelude.{◌≡◌, ◌<◌, ◌^◌, IsTrue, length};
 ghost use Rattle.nofs_inode.specs.declared.inode.FileKind.TheVariants as kind;
 ghost use Rattle.nofs_dirent.specs.Entries.{entry_in};
+ghost use Rattle.nofs_ptrs.specs.Paths as paths;
+ghost use Rattle.nofs_disk.specs.Disk.{cell_at};
 ghost use Rattle.nofs_model.specs.Files as files;
 ghost use Rattle.nofs_model.specs.Geometry as image;
 ghost use Rattle.nofs_model.specs.Places.{IsPlace, place_path};
-ghost use Rattle.nofs_model.specs.Slots as slots;
-ghost use Rattle.nofs_model.specs.Cells as cells;
+ghost use Rattle.nofs_disk.specs.Tag.{tag_of};
 ghost use Rattle.nofs_agree.specs.Reads.{IsAt, IsLast, KnowsDirectory};
 ghost use Rattle.nofs_scan.specs.Steps.Elements.{HasElement};
 ghost use Rattle.nofs_scan.specs.Steps.Looks.{LooksAt};
@@ -200,7 +201,7 @@ fn named_at(payload: &[u8; 1024], at: u32) -> Option<EntryTarget>
 fn read_own_tag<D: Disk>(disk: &mut D, at: &SuperBlock, block: u64) -> Result<Option<Tag>, Failed>
     requires numbers { IsAt (D.state disk.old) at.now }
     requires block { block < at.now.blocks }
-    ensures { ReadsAnswer (D.state disk.old) (D.state disk.new) (λ X. cells.tag_of (image.cell_at X block).tag) result }
+    ensures { ReadsAnswer (D.state disk.old) (D.state disk.new) (λ X. tag_of (cell_at X block).tag) result }
 {
     let mut last = LastRead::NONE;
     read_block(disk, block, &mut last)?;
@@ -236,7 +237,7 @@ fn read_slot<D: Disk>(
     known: &mut Known,
     tag: Tag,
 ) -> Result<TagSight, Failed>
-    requires slot { IsTrue (slots.is_slot tag.slot) }
+    requires slot { IsTrue (paths.is_slot tag.slot) }
     requires numbers { IsAt (D.state disk.old) at.now }
     requires known { length known.old ≡ at.now.inodes }
     ensures { Sees (D.state disk.old) (D.state disk.new) known.old known.new (λ X. sights.tag_sight X tag) result }

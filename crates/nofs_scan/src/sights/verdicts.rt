@@ -2,6 +2,7 @@
 //!
 //! Promise: of what an image has, the verdict is that of the image's scan.
 ghost use Rattle.std.specs.Prelude.{◌≡◌, ◌<◌, ℕ, Some};
+ghost use Rattle.nofs_ptrs.specs.Paths as paths;
 ghost use Rattle.nofs_model.specs.Files as files;
 ghost use Rattle.nofs_model.specs.Geometry.{Image, super_at};
 ghost use Rattle.nofs_model.specs.Places.{IsPlace, place_path};
@@ -121,7 +122,7 @@ fn is_owned(block: u64, sight: &TagSight) -> bool
 
 /// Whether a number is a slot's.
 pub(crate) fn is_slot(number: u64) -> bool
-    ensures { result ≡ slots.is_slot number }
+    ensures { result ≡ paths.is_slot number }
 {
     number < 4168 || number >= 1 << 32 && number < (1 << 32) + 66
 }
@@ -147,7 +148,7 @@ fn holds_down(block: u64, sight: &TagSight, place: Place) -> bool
 // Whether the leaf or the top holds.
 fn holds_upper(sight: &TagSight, at: u64) -> bool
     requires { at < 10 }
-    ensures { result ≡ sights.holds_with sight.now.in_table sight.now.tag.inode (slots.InRecord at)
+    ensures { result ≡ sights.holds_with sight.now.in_table sight.now.tag.inode (paths.InRecord at)
         (slots.record_pointer sight.now.in_table at) sight.now.way.upper.tag }
 {
     let pointer = record_pointer(&sight.in_table, at);
@@ -158,7 +159,7 @@ fn holds_upper(sight: &TagSight, at: u64) -> bool
 fn holds_lower(sight: &TagSight, child: u64) -> bool
     requires { child < 64 }
     ensures { result ≡ sights.holds_with sight.now.in_table sight.now.tag.inode
-        (slots.child child) sight.now.way.upper.pointer sight.now.way.lower.tag }
+        (paths.child child) sight.now.way.upper.pointer sight.now.way.lower.tag }
 {
     let place = Place::UnderRecord {
         at: 9,

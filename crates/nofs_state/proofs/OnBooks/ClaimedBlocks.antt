@@ -1,10 +1,11 @@
 -- The blocks that a step claims: their homes, what they were, and what the books have of them.
 use Rattle.std.proofs.Common.{◌≡◌, ◌≢◌, ℕ, ◌+◌, ◌≤◌, ◌⊎◌, inl, inr, Bool, true, false, cond, eqb, eqb-true, eq-eqb}
-use Rattle.std.proofs.Common.{◌&&◌, [], ◌∷◌}
-use Rattle.std.proofs.Common.{Option, Some, None, is_some, refl, sym, ap, ◌∙◌, subst, arith}
+use Rattle.std.proofs.Common.{◌&&◌, [], ◌∷◌, Option, Some, None, is_some, refl, sym, ap, ◌∙◌, subst, arith}
 use Rattle.nofs_bits.specs.Bits.{is_set}
-use Rattle.nofs_model.specs.Cells.{Pointer}
-use Rattle.nofs_model.specs.Image.{path_of, slot_of, Files, Home, home_at}
+use Rattle.nofs_disk.specs.declared.tag.Pointer.{Pointer}
+use Rattle.nofs_ptrs.specs.Paths.{path_of, slot_of}
+use Rattle.nofs_model.specs.Files.{Files}
+use Rattle.nofs_model.specs.Owners.{Home, home_at}
 use Rattle.nofs_model.proofs.OnSlots.Find.{and-both}
 use Rattle.nofs_history.specs.Search.{first_of}
 use Rattle.nofs_history.specs.World.{World, is_free_block}

@@ -1,6 +1,7 @@
 -- A file that is current is agreed.
 use Rattle.std.proofs.Common.{◌≡◌, ℕ, true, eqb}
-use Rattle.nofs_model.specs.Image.{Image, inode, files_in, agreed}
+use Rattle.nofs_model.specs.Geometry.{Image, inode}
+use Rattle.nofs_model.specs.Files.{files_in, agreed}
 use Rattle.nofs_model.proofs.OnSlots.Find.{and-both}
 use Rattle.nofs_state.specs.Inodes.Opened.{is_current}
 

@@ -2,7 +2,7 @@
 use Rattle.std.proofs.Common.{◌≡◌, Bool, Option, None, Result, Ok, Err, IfOk, IsErr, refl, subst}
 use Rattle.nofs_disk.specs.Disk.{DiskState}
 use Rattle.nofs_disk.specs.declared.Failed.{Failed}
-use Rattle.nofs_model.specs.Image.{Image}
+use Rattle.nofs_model.specs.Geometry.{Image}
 use Rattle.nofs_state.specs.Books.Verdicts.{Judges, Learned, Unread, Verifies}
 use Rattle.nofs_state.specs.declared.books.maps.Books.{Books}
 

@@ -2,8 +2,11 @@
 use Rattle.std.proofs.Common.{◌≡◌, ℕ, Bool, true, false, ◌&&◌, not, List, Option, Some, None, is_some, refl, sym, ap}
 use Rattle.std.proofs.Common.{◌∙◌, subst}
 use Rattle.nofs_disk.specs.Disk.{DiskState}
-use Rattle.nofs_model.specs.Cells.{BackLink, SuperBlock, is_live}
-use Rattle.nofs_model.specs.Image.{Image, inode, Files, FileState, files_in, agreed, is_pair, pairs}
+use Rattle.nofs_inode.specs.declared.inode.BackLink.{BackLink}
+use Rattle.nofs_super.specs.declared.superblock.SuperBlock.{SuperBlock}
+use Rattle.nofs_inode.specs.InodeRecords.{is_live}
+use Rattle.nofs_model.specs.Geometry.{Image, inode}
+use Rattle.nofs_model.specs.Files.{Files, FileState, files_in, agreed, is_pair, pairs}
 use Rattle.nofs_history.specs.Machine.{generation_of}
 use Rattle.nofs_history.specs.World.{World}
 use Rattle.nofs_history.specs.Refusals.{row, stale}

@@ -4,8 +4,8 @@ use Rattle.std.proofs.Common.{subst}
 use Rattle.nofs_bits.specs.Bits.{is_set}
 use Rattle.nofs_disk.specs.Disk.{DiskState, IsSameDisk, KeepsCells, KeepsPast, MakesReady, StaysButFaults}
 use Rattle.nofs_super.specs.Geometry.{IsGeometry}
-use Rattle.nofs_model.specs.Cells.{SuperBlock}
-use Rattle.nofs_model.specs.Image.{super_at}
+use Rattle.nofs_super.specs.declared.superblock.SuperBlock.{SuperBlock}
+use Rattle.nofs_model.specs.Geometry.{super_at}
 use Rattle.nofs_history.specs.HistoryState.{HistoryState}
 use Rattle.nofs_agree.specs.Reads.{IsAt}
 use Rattle.nofs_state.specs.Books.Maps.{IsSafe}

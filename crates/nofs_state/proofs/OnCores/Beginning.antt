@@ -6,12 +6,16 @@ use Rattle.std.proofs.lemmas.Bool.{ltb-true, cases_lt}
 use Rattle.std.proofs.lemmas.Bool.Decides.{nat_tests}
 use Rattle.nofs_bits.specs.Bits.{is_set}
 use Rattle.nofs_disk.specs.Disk.{DiskState, IsDisk, IsSettled}
-use Rattle.nofs_model.specs.Cells.{SuperBlock}
-use Rattle.nofs_model.specs.Image.{Image, super_at, is_mountable, is_special, IsBelow, path_of, Home, owner}
+use Rattle.nofs_super.specs.declared.superblock.SuperBlock.{SuperBlock}
+use Rattle.nofs_model.specs.Geometry.{Image, super_at, is_mountable}
+use Rattle.nofs_model.specs.Files.{is_special}
+use Rattle.nofs_model.specs.Sound.{IsBelow}
+use Rattle.nofs_ptrs.specs.Paths.{path_of}
+use Rattle.nofs_model.specs.Owners.{Home, owner}
 use Rattle.nofs_model.proofs.OnSlots.Find.{and-both, find-held}
 use Rattle.nofs_model.proofs.OnOwners.Slots.{owner-holds}
 use Rattle.nofs_history.specs.World.{world_of}
-use Rattle.nofs_history.specs.History.{agreed_files}
+use Rattle.nofs_history.specs.Since.{agreed_files}
 use Rattle.nofs_history.specs.HistoryState.{HistoryState}
 use Rattle.nofs_crashlaw.proofs.OnHistories.FirstStage.{law-first-stage}
 use Rattle.nofs_agree.specs.Chain.{known_agreement}
@@ -19,7 +23,7 @@ use Rattle.nofs_agree.specs.Reads.{IsAt}
 use Rattle.nofs_agree.proofs.OnKnown.{told-nothing}
 use Rattle.nofs_state.specs.Books.Maps.{IsRoom, Says}
 use Rattle.nofs_state.specs.Cores.Invariant.{IsOpen}
-use Rattle.nofs_state.specs.Cores.Beginning.{first_past}
+use Rattle.nofs_state.specs.Cores.Beginning.{KnowsFixed, first_past}
 use Rattle.nofs_state.specs.declared.books.maps.Books.{Books}
 use Rattle.nofs_state.specs.declared.books.maps.Room.{Room}
 use Rattle.nofs_state.proofs.OnBooks.Bits.{set-none}
@@ -68,6 +72,19 @@ fixed-known p blocks fixed set some h = elim (cases_lt p blocks) [
   | inl low ↦ rw (h low) (grind (arith, nat_tests))
   | inr past ↦ grind (arith, nat_tests)
 ]
+
+-- only what is fixed is known
+pub knows-fixed : (at : SuperBlock) (first : ℕ) (room : Room) (h : HistoryState) → 4 ≤ at.inodes
+    → 2 + at.inodes / 4 ≤ at.blocks → IsRoom at room
+    → KnowsFixed at (record (new_books at first room 0) { history = h })
+knows-fixed at first room h some table r = record {
+  inodes = λ i. sym (special-known i at.inodes (is_set room.unknown_inodes (i - 1)) some
+      (λ low high. r.unknown_inodes.each (i - 1) (omega (arith, low, high))));
+  blocks = λ p. sym (fixed-known p at.blocks (at.inodes / 4) (is_set room.unknown_blocks p) (omega (arith, table))
+      (λ low. r.unknown_blocks.each p low));
+  free_inodes = λ n. ap (λ (bits : _). is_set bits n) r.free_inodes ∙ set-none at.inodes n;
+  free_blocks = λ b. ap (λ (bits : _). is_set bits b) r.free_blocks ∙ set-none at.blocks b;
+}
 
 not-both : (a b : Bool) → (a && not (a || b)) ≡ false
 not-both true b = refl

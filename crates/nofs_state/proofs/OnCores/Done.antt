@@ -5,8 +5,12 @@ use Rattle.std.proofs.Common.{ltb-true, ◌/◌, IsTrue, refl, sym, ap, ◌∙�
 use Rattle.nofs_disk.specs.Disk.{DiskState, IsDisk, IsSameDisk, KeepsPast, cell_at}
 use Rattle.nofs_disk.specs.Adds.{Adds, WasOr}
 use Rattle.nofs_super.specs.Geometry.{IsGeometry}
-use Rattle.nofs_model.specs.Cells.{Cell, SuperBlock}
-use Rattle.nofs_model.specs.Image.{super_at, is_super, is_mountable, Files, Home}
+use Rattle.nofs_disk.specs.declared.tag.Cell.{Cell}
+use Rattle.nofs_super.specs.declared.superblock.SuperBlock.{SuperBlock}
+use Rattle.nofs_model.specs.Geometry.{super_at, is_mountable}
+use Rattle.nofs_super.specs.Super.{is_super}
+use Rattle.nofs_model.specs.Files.{Files}
+use Rattle.nofs_model.specs.Owners.{Home}
 use Rattle.nofs_model.proofs.OnSound.Writes.{supers, mountable-law}
 use Rattle.nofs_model.proofs.OnSlots.Find.{and-both, find-held}
 use Rattle.nofs_crashlaw.specs.Images.Proper.{Proper}
@@ -18,7 +22,9 @@ use Rattle.nofs_history.specs.Claims.{IsClaim, claimed_home, homes_after, next_s
 use Rattle.nofs_history.specs.Refusals.{rows}
 use Rattle.nofs_history.specs.Answers.{reply_of}
 use Rattle.nofs_history.specs.Good.{IsFresh}
-use Rattle.nofs_history.specs.History.{FilesMatch, agreed_files, files_along, is_flushed, mark_at}
+use Rattle.nofs_history.specs.History.{FilesMatch}
+use Rattle.nofs_history.specs.Since.{agreed_files, files_along, is_flushed}
+use Rattle.nofs_history.specs.Marks.{mark_at}
 use Rattle.nofs_history.specs.Steady.{SteadyRest}
 use Rattle.nofs_history.specs.Next.{Next, Done, Learns}
 use Rattle.nofs_history.specs.declared.machine.history.Claims.{Claims}
@@ -35,7 +41,7 @@ use Rattle.nofs_crashlaw.proofs.OnHistories.Stages.{law-stage}
 use Rattle.nofs_state.specs.Books.Maps.{IsSafe, Says, knows_inode, knows_block}
 use Rattle.nofs_state.specs.Cores.Invariant.{IsOpen, IsStopped, Past, Sounds}
 use Rattle.nofs_state.specs.Cores.Steps.{Goes, MeetsOpen, NoOrder, entry}
-use Rattle.nofs_state.specs.Writes.Cells.{OneOf}
+use Rattle.nofs_disk.specs.Order.{OneOf}
 use Rattle.nofs_state.specs.declared.books.maps.Books.{Books}
 use Rattle.nofs_state.proofs.OnCores.NoWrites.{run-more, takes-none}
 use Rattle.nofs_state.proofs.OnCores.Replies.{open-files}

@@ -4,7 +4,9 @@ use Rattle.std.proofs.Common.{Result, Ok, Err, refl, sym, ap, ◌∙◌, subst, 
 use Rattle.nofs_disk.specs.Disk.{DiskState, IsDisk, Flushes}
 use Rattle.nofs_disk.specs.Adds.{Adds-flushes}
 use Rattle.nofs_disk.specs.declared.Failed.{Failed}
-use Rattle.nofs_model.specs.Image.{Image, super_at, is_mountable, Files, owner}
+use Rattle.nofs_model.specs.Geometry.{Image, super_at, is_mountable}
+use Rattle.nofs_model.specs.Files.{Files}
+use Rattle.nofs_model.specs.Owners.{owner}
 use Rattle.nofs_crashlaw.specs.Images.Proper.{Proper}
 use Rattle.nofs_crashlaw.specs.Images.Moments.{during}
 use Rattle.nofs_history.specs.Search.{first_of}
@@ -12,7 +14,8 @@ use Rattle.nofs_history.specs.Machine.{gives, given_by, files_by, nothing}
 use Rattle.nofs_history.specs.World.{World}
 use Rattle.nofs_history.specs.Claims.{no_claims, next_stamp, Unclaimed, NoInode}
 use Rattle.nofs_history.specs.Refusals.{rows}
-use Rattle.nofs_history.specs.History.{agreed_files, files_along, mark_at}
+use Rattle.nofs_history.specs.Since.{agreed_files, files_along}
+use Rattle.nofs_history.specs.Marks.{mark_at}
 use Rattle.nofs_history.specs.Steady.{SteadyRest}
 use Rattle.nofs_history.specs.declared.machine.history.Entry1.{Entry1}
 use Rattle.nofs_history.specs.declared.machine.steps.Step.TheVariants as step
@@ -25,7 +28,7 @@ use Rattle.nofs_crashlaw.proofs.OnHistories.FlushStage.{law-flush-stage, files-s
 use Rattle.nofs_state.specs.Books.Maps.{IsSafe}
 use Rattle.nofs_state.specs.Cores.Invariant.{IsOpen, IsRun, Past}
 use Rattle.nofs_state.specs.Cores.Steps.{FlushesAlone, Goes, IsReading, entry}
-use Rattle.nofs_state.specs.Writes.Cells.{OnlyFlushes, has_failed}
+use Rattle.nofs_disk.specs.Order.{OnlyFlushes, has_failed}
 use Rattle.nofs_state.specs.declared.books.maps.Books.{Books}
 use Rattle.nofs_state.proofs.OnBooks.Safe.{safe-over}
 use Rattle.nofs_state.proofs.OnCores.SafeSteps.{safely-done, safely-goes}

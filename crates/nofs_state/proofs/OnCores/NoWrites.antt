@@ -2,11 +2,13 @@
 use Rattle.std.proofs.Common.{◌≡◌, ℕ, ◌+◌, ◌*◌, ◌^◌, ◌<◌, ◌≤◌, true, false, List, [], ◌∷◌, ◌++◌, IsTrue, refl, sym, ap}
 use Rattle.std.proofs.Common.{◌∙◌, subst, subst₂, arith}
 use Rattle.nofs_disk.specs.Disk.{DiskState, IsDisk, StaysButFaults}
-use Rattle.nofs_model.specs.Image.{Image, super_at, is_mountable, Files, owner}
+use Rattle.nofs_model.specs.Geometry.{Image, super_at, is_mountable}
+use Rattle.nofs_model.specs.Files.{Files}
+use Rattle.nofs_model.specs.Owners.{owner}
 use Rattle.nofs_history.specs.Machine.{given_by, files_by, nothing, is_write_fault}
 use Rattle.nofs_history.specs.World.{World, world_of}
 use Rattle.nofs_history.specs.Claims.{next_stamp}
-use Rattle.nofs_history.specs.History.{agreed_files, files_along, is_flushed}
+use Rattle.nofs_history.specs.Since.{agreed_files, files_along, is_flushed}
 use Rattle.nofs_history.specs.Steady.{SteadyRest}
 use Rattle.nofs_history.specs.Next.{Keeps, Next, Run, takes_time}
 use Rattle.nofs_history.specs.Steps.{is_out_of_memory}

@@ -3,19 +3,21 @@ use Rattle.std.proofs.Common.{◌≡◌, ℕ, ◌+◌, ◌≤◌, ◌⊎◌, inl
 use Rattle.std.proofs.Common.{IsTrue, refl, sym, ap, ◌∙◌, subst, arith}
 use Rattle.std.proofs.lemmas.Bool.{cases_lt}
 use Rattle.nofs_disk.specs.Disk.{DiskState, IsDisk, StaysButFaults, Rose}
-use Rattle.nofs_model.specs.Cells.{null}
-use Rattle.nofs_model.specs.Image.{Image, Files, Home}
+use Rattle.nofs_disk.specs.Pointer.{null}
+use Rattle.nofs_model.specs.Geometry.{Image}
+use Rattle.nofs_model.specs.Files.{Files}
+use Rattle.nofs_model.specs.Owners.{Home}
 use Rattle.nofs_model.proofs.OnOwners.Slots.{owner-holds, owner-slot}
 use Rattle.nofs_model.proofs.OnSlots.Paths.{path_of-number}
 use Rattle.nofs_history.specs.Search.{first_of}
 use Rattle.nofs_history.specs.Machine.{gives, files_after, is_write_fault, is_refused}
 use Rattle.nofs_history.specs.World.{World, inodes_needed, blocks_needed}
 use Rattle.nofs_history.specs.Claims.{no_claims, next_stamp, cell_slot, homes_after, has_block, claimed_home, IsClaim}
-use Rattle.nofs_history.specs.Claims.{IsBlockClaim, IsInodeClaim}
-use Rattle.nofs_history.specs.Claims.{Unclaimed, NoInode}
+use Rattle.nofs_history.specs.Claims.{IsBlockClaim, IsInodeClaim, Unclaimed, NoInode}
 use Rattle.nofs_history.specs.Refusals.{rows, reads_nothing}
 use Rattle.nofs_history.specs.Answers.{reply_of}
-use Rattle.nofs_history.specs.History.{is_flushed, FilesMatch}
+use Rattle.nofs_history.specs.Since.{is_flushed}
+use Rattle.nofs_history.specs.History.{FilesMatch}
 use Rattle.nofs_history.specs.Next.{Keeps, Learns, Next, AfterFault, ByRow, Done, ByRead, sees_inode, sees_block}
 use Rattle.nofs_history.specs.Steps.{is_out_of_memory, InRange}
 use Rattle.nofs_history.specs.declared.machine.history.Claims.{Claims}
@@ -30,13 +32,13 @@ use Rattle.nofs_crashlaw.proofs.OnMaps.Homes.{holds-has}
 use Rattle.nofs_crashlaw.proofs.OnHistories.FlushStage.{files-stay}
 use Rattle.nofs_state.specs.Books.Maps.{IsSafe}
 use Rattle.nofs_state.specs.Cores.Invariant.{IsOpen, IsStopped, Past, Sounds}
-use Rattle.nofs_state.specs.Cores.Steps.{Goes, IsReading, IsSafeStep, LeavesDisk, entry, is_plain, makes_calls}
+use Rattle.nofs_state.specs.Cores.Steps.{Goes, IsReading, IsSafeStep, LeavesDisk, entry, is_plain}
+use Rattle.nofs_history.specs.Writes.{makes_calls}
 use Rattle.nofs_state.specs.declared.books.maps.Books.{Books}
 use Rattle.nofs_state.proofs.OnCores.NoWrites.{IsIdle, follows-idle, stopped-idle}
 use Rattle.nofs_state.proofs.OnBooks.Safe.{reads-keep, safe-keeps}
 use Rattle.nofs_state.proofs.OnCores.SafeSteps.{accepted-fault, accepted-memory, plain-fault, plain-memory}
-use Rattle.nofs_state.proofs.OnCores.SafeSteps.{safely-answer, safely-goes, safely-read}
-use Rattle.nofs_state.proofs.OnCores.SafeSteps.{safely-row, safely-stopped}
+use Rattle.nofs_state.proofs.OnCores.SafeSteps.{safely-answer, safely-goes, safely-read, safely-row, safely-stopped}
 use Rattle.nofs_state.proofs.OnWrites.NoWrites.{sounds-keep}
 
 pub keeps-all : (W : World) → Keeps W W
@@ -165,11 +167,6 @@ by-answer W X e going match homes past reads none is claims =
     learned = learns-known W e.step true W.stopped (λ t i q. absurd (let z = reads.sees_no_inode i in cc (q, z)))
         (λ t p q. absurd (let z = reads.sees_no_block p in cc (q, z)))
 
--- no other refusal asked the device to write
-calls-refused : (why : Refusal) → is_write_fault (reply.Refused why) ≡ false → makes_calls (reply.Refused why) ≡ false
-calls-refused refusal.WriteFault e = cc e
-calls-refused _ e = refl
-
 no-flush : (r : Reply) → makes_calls r ≡ false → is_flushed r ≡ false
 no-flush reply.Flushed e = cc e
 no-flush _ e = refl
@@ -222,7 +219,7 @@ module _ (old new : DiskState) (k : Books) (s : Step) (is : IsDisk old) (safe : 
       → first_of (rows p.world p.world s) ≡ Some why)
       → Goes old k new k s no_claims (reply.Refused why)
   goes-row why plain range going comes = goes-idle (reply.Refused why) (plain-memory why plain)
-      (calls-refused why (plain-fault why plain)) going (safely-row old new k safe stays why plain range going)
+      (plain-fault why plain) going (safely-row old new k safe stays why plain range going)
       (λ tells H p o runs caller. (
         refused-idle p.world.files (entry caller old new s no_claims (reply.Refused why)) why refl
             (plain-fault why plain),

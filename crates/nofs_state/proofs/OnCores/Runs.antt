@@ -1,16 +1,16 @@
 -- A run with one more entry, and what an entry that gives nothing leaves.
 use Rattle.std.proofs.Common.{◌≡◌, ℕ, ◌+◌, ◌<◌, ◌≤◌, Bool, true, false, ◌&&◌, leb, List, [], ◌∷◌, ◌++◌, append-nil}
-use Rattle.std.proofs.Common.{option_to_list, refl, sym, ap, ◌∙◌, subst}
-use Rattle.std.proofs.Common.{arith}
+use Rattle.std.proofs.Common.{option_to_list, refl, sym, ap, ◌∙◌, subst, arith}
 use Rattle.nofs_disk.specs.Disk.{DiskState, StaysButFaults}
-use Rattle.nofs_model.specs.Cells.{Cell}
-use Rattle.nofs_model.specs.Image.{Image, inode}
+use Rattle.nofs_disk.specs.declared.tag.Cell.{Cell}
+use Rattle.nofs_model.specs.Geometry.{Image, inode}
 use Rattle.nofs_crashlaw.specs.Images.Moments.{during, AllExplained}
 use Rattle.nofs_crashlaw.specs.Images.Reasons.{IsMark}
-use Rattle.nofs_history.specs.Marks.{Mark, IsUnderWay}
+use Rattle.nofs_history.specs.Marks.{Mark, IsUnderWay, mark_at}
 use Rattle.nofs_history.specs.World.{World}
 use Rattle.nofs_history.specs.Machine.{Given, given_by, nothing, is_write_fault}
-use Rattle.nofs_history.specs.History.{NoWriteFault, agreed_files, files_along, mark_at, is_flushed}
+use Rattle.nofs_history.specs.History.{NoWriteFault}
+use Rattle.nofs_history.specs.Since.{agreed_files, files_along, is_flushed}
 use Rattle.nofs_history.specs.Steady.{SteadyRest, Untouched}
 use Rattle.nofs_history.specs.Next.{Next, Run, takes_time}
 use Rattle.nofs_history.specs.declared.machine.history.Entry1.{Entry1}
@@ -18,8 +18,7 @@ use Rattle.nofs_crashlaw.proofs.OnLives.Images.{values-append, metas-append}
 use Rattle.nofs_crashlaw.specs.Histories.Stage.{Lasts}
 use Rattle.nofs_crashlaw.proofs.OnHistories.Entries.{mark-during}
 use Rattle.nofs_crashlaw.proofs.OnHistories.Later.{law-later, mark-within}
-use Rattle.nofs_crashlaw.proofs.OnHistories.Stages.{all-begun, same-marks, by-more, by-append, begun-append}
-use Rattle.nofs_crashlaw.proofs.OnHistories.Stages.{mark-plain}
+use Rattle.nofs_crashlaw.proofs.OnHistories.Stages.{all-begun, same-marks, by-more, by-append, begun-append, mark-plain}
 use Rattle.nofs_state.specs.Cores.Invariant.{ends_at}
 
 pub run-append : (H : List Entry1) (start : ℕ) (W U V : World) (e : Entry1) → Run start W H U

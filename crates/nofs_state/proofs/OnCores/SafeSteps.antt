@@ -3,7 +3,7 @@ use Rattle.std.proofs.Common.{◌≡◌, ℕ, ◌<◌, ◌⊎◌, true, false, L
 use Rattle.nofs_disk.specs.Disk.{DiskState, IsSameDisk, KeepsCells, KeepsPast, StaysButFaults, Rose}
 use Rattle.nofs_disk.specs.Chains.{IsSameDisk-trans, KeepsPast-trans, KeepsCells-trans}
 use Rattle.nofs_history.specs.Machine.{is_refused, is_write_fault}
-use Rattle.nofs_history.specs.History.{is_flushed}
+use Rattle.nofs_history.specs.Since.{is_flushed}
 use Rattle.nofs_history.specs.Steps.{InRange, is_out_of_memory}
 use Rattle.nofs_history.specs.declared.machine.history.Claims.{Claims}
 use Rattle.nofs_history.specs.declared.machine.history.Entry1.{Entry1}

@@ -8,7 +8,9 @@ use Rattle.std.proofs.lemmas.List.{get_or_past}
 use Rattle.std.proofs.lemmas.Bool.Decides.{nat_tests}
 use Rattle.nofs_bits.specs.Bits.{is_set}
 use Rattle.nofs_disk.specs.Disk.{DiskState, IsDisk, KeepsCells, StaysButFaults}
-use Rattle.nofs_model.specs.Image.{super_at, Files, is_special, is_used_inode, is_used_block}
+use Rattle.nofs_model.specs.Geometry.{super_at}
+use Rattle.nofs_model.specs.Files.{Files, is_special}
+use Rattle.nofs_model.specs.Owners.{is_used_inode, is_used_block}
 use Rattle.nofs_history.specs.Search.{first_of}
 use Rattle.nofs_history.specs.Machine.{gives, files_after, nothing}
 use Rattle.nofs_history.specs.World.{World, uses_inode, uses_block, inodes_needed, blocks_needed}

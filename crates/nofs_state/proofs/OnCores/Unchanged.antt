@@ -4,10 +4,14 @@ use Rattle.std.proofs.Common.{arith, Contains}
 use Rattle.nofs_disk.specs.Disk.{DiskState, KeepsCells, KeepsPast}
 use Rattle.nofs_disk.specs.Moments.{AtEach-stays}
 use Rattle.nofs_disk.specs.Chains.{KeepsCells-trans}
-use Rattle.nofs_model.specs.Cells.{Cell}
-use Rattle.nofs_model.specs.Image.{Image, super_at, is_mountable, owner, CellBelow}
+use Rattle.nofs_disk.specs.declared.tag.Cell.{Cell}
+use Rattle.nofs_model.specs.Geometry.{Image, super_at, is_mountable}
+use Rattle.nofs_model.specs.Owners.{owner}
+use Rattle.nofs_model.specs.Sound.{CellBelow}
 use Rattle.nofs_crashlaw.specs.Images.Moments.{AllExplained}
-use Rattle.nofs_history.specs.History.{FilesMatch, agreed_files, files_along, mark_at}
+use Rattle.nofs_history.specs.History.{FilesMatch}
+use Rattle.nofs_history.specs.Since.{agreed_files, files_along}
+use Rattle.nofs_history.specs.Marks.{mark_at}
 use Rattle.nofs_history.specs.Allowed.{IsAllowed}
 use Rattle.nofs_history.specs.Steady.{SteadyRest}
 use Rattle.nofs_history.specs.declared.machine.history.Claims.{Claims}
@@ -21,7 +25,7 @@ use Rattle.nofs_state.specs.Books.Maps.{IsSafe}
 use Rattle.nofs_state.specs.Cores.Invariant.{IsOpen, IsRun, IsStopped, Past}
 use Rattle.nofs_state.specs.Cores.Steps.{FlushesAlone, Follows, Goes, LeavesDisk, MeetsOpen, NoOrder, StaysStopped}
 use Rattle.nofs_state.specs.Cores.Steps.{WritesAlone, entry, goes-safely}
-use Rattle.nofs_state.specs.Writes.Cells.{IsTried, OneOf, image_after}
+use Rattle.nofs_disk.specs.Order.{IsTried, OneOf, image_after}
 use Rattle.nofs_state.specs.declared.books.maps.Books.{Books}
 pub use Rattle.nofs_state.proofs.OnBooks.Safe.{Keeping, reads-keep, ready-keeps, safe-keeps}
 use Rattle.nofs_state.proofs.OnCores.SafeSteps.{safely-after, safely-goes, safely-memory}
@@ -145,13 +149,20 @@ module _ (old new : DiskState) (keep : Keeping old new) where
     only = record {
       moment = (let e = moment' in let m = w.only.moment in omega (arith, e, m));
       others = λ b apart. w.only.others b apart ∙ (λ j. keep.cells.may j b);
+      kept = λ b c has. w.only.kept b c
+          (subst (λ (may : ℕ → List Cell). Contains (may b) c) (sym keep.cells.may) has);
       cells = λ b c has. subst (λ (may : ℕ → List Cell). Contains (may b) c ⊎ OneOf w.calls b c) keep.cells.may
           (w.only.cells b c has);
       done = λ e. w.only.done e ∙ ap (λ (X : Image). image_after w.calls X) keep.cells.now;
       tried = λ e. subst (λ (X : Image). IsTried w.calls X end.now) keep.cells.now (w.only.tried e);
     };
-    one_each = λ m.
-        w.one_each (m.0, m.1, subst (λ (b : Bool). IsTrue b) (sym keep.disk.tells) m.2, open-keeps k m.0 m.1 m.3);
+    told = λ F m. w.told F (
+      m.0,
+      m.1,
+      subst (λ (b : Bool). IsTrue b) (sym keep.disk.tells) m.2,
+      open-keeps k m.0 m.1 m.3,
+      m.4,
+    );
   })
 
   -- a step from there on is one from here on

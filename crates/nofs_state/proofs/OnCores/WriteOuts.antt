@@ -1,7 +1,6 @@
 -- What stands goes on over a write-out.
 use Rattle.std.proofs.Common.{◌≡◌, ℕ, ◌<◌, ◌≤◌, inl, inr, List, ◌∷◌, Option, None, Result, Ok, Err, IfSome}
-use Rattle.std.proofs.Common.{IsPermutation}
-use Rattle.std.proofs.Common.{[], IfOk, OnErr, OnOk, ◌↔◌, sym, ap, ◌∙◌, subst, subst₂, arith}
+use Rattle.std.proofs.Common.{IsPermutation, [], IfOk, OnErr, OnOk, ◌↔◌, sym, ap, ◌∙◌, subst, subst₂, arith}
 use Rattle.std.proofs.lemmas.Bool.{cases_lt}
 use Rattle.nofs_disk.specs.Disk.{DiskState, IsDisk, MakesReady, Picks, Rose, WritesOut}
 use Rattle.nofs_disk.specs.Chains.{IsSameDisk-trans, KeepsCells-trans}
@@ -9,8 +8,9 @@ use Rattle.nofs_disk.specs.Moments.{AtEach}
 use Rattle.nofs_disk.specs.declared.Failed.{Failed}
 use Rattle.nofs_disk.specs.declared.OutFault.{OutFault}
 use Rattle.nofs_disk.specs.declared.OutFault.TheVariants as fault
-use Rattle.nofs_model.specs.Cells.{Cell}
-use Rattle.nofs_model.specs.Image.{Image, IsSound, super_at}
+use Rattle.nofs_disk.specs.declared.tag.Cell.{Cell}
+use Rattle.nofs_model.specs.Geometry.{Image, super_at}
+use Rattle.nofs_model.specs.Sound.{IsSound}
 use Rattle.nofs_history.specs.Allowed.{IsAllowed}
 use Rattle.nofs_history.specs.declared.machine.history.Entry1.{Entry1}
 use Rattle.nofs_crashlaw.specs.Histories.Stage.{Lasts}

@@ -3,8 +3,10 @@ use Rattle.std.proofs.Common.{◌≡◌, ℕ, Bool, true, false, Some, None, IsT
 use Rattle.std.proofs.Common.{sym, ap, ◌∙◌, subst, eq-eqb}
 use Rattle.nofs_disk.specs.Disk.{DiskState, StaysButFaults, cell_at}
 use Rattle.nofs_disk.specs.Chains.{StaysButFaults-trans}
-use Rattle.nofs_model.specs.Cells.{Record, is_live}
-use Rattle.nofs_model.specs.Image.{Image, inode, files_in, agreed}
+use Rattle.nofs_inode.specs.declared.inode.Record.{Record}
+use Rattle.nofs_inode.specs.InodeRecords.{is_live}
+use Rattle.nofs_model.specs.Geometry.{Image, inode}
+use Rattle.nofs_model.specs.Files.{files_in, agreed}
 use Rattle.nofs_agree.specs.Reads.{IsLast, KnowsInode}
 use Rattle.nofs_agree.specs.Chain.{AreTrue}
 use Rattle.nofs_agree.specs.declared.reads.LastRead.{LastRead}

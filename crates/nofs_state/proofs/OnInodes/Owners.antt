@@ -4,8 +4,11 @@ use Rattle.std.proofs.Common.{OnErr, sym, ap, ◌∙◌, subst, le_refl}
 use Rattle.nofs_disk.specs.Disk.{DiskState, Rose, cell_at}
 use Rattle.nofs_disk.specs.Chains.{Rose-within, StaysButFaults-trans}
 use Rattle.nofs_disk.specs.declared.Failed.{Failed}
-use Rattle.nofs_model.specs.Cells.{Cell, Tag, tag_of}
-use Rattle.nofs_model.specs.Image.{Image, owner, owner_by}
+use Rattle.nofs_disk.specs.declared.tag.Cell.{Cell}
+use Rattle.nofs_disk.specs.declared.tag.Tag.{Tag}
+use Rattle.nofs_disk.specs.Tag.{tag_of}
+use Rattle.nofs_model.specs.Geometry.{Image}
+use Rattle.nofs_model.specs.Owners.{owner, owner_by}
 use Rattle.nofs_agree.specs.Chain.{AreTrue}
 use Rattle.nofs_agree.specs.Reads.{ReadsBlock}
 use Rattle.nofs_agree.specs.declared.reads.LastRead.{LastRead}

@@ -1,10 +1,11 @@
 -- Sound images stay so over calls that write nothing.
 use Rattle.std.proofs.Common.{ℕ, Result, ◌∙◌, subst₂, arith, List}
-use Rattle.nofs_disk.specs.Disk.{DiskState, IsDisk, IsSameDisk, KeepsCells, KeepsPast, Flushes, Picks}
+use Rattle.nofs_disk.specs.Disk.{DiskState, IsDisk, IsSameDisk, KeepsCells, KeepsPast, Flushes, Picks, cell_at}
 use Rattle.nofs_disk.specs.Moments.{AtEach-stays, AtEach-flushes}
 use Rattle.nofs_disk.specs.declared.Failed.{Failed}
-use Rattle.nofs_model.specs.Cells.{Cell}
-use Rattle.nofs_model.specs.Image.{Image, IsSound, cell_at}
+use Rattle.nofs_disk.specs.declared.tag.Cell.{Cell}
+use Rattle.nofs_model.specs.Geometry.{Image}
+use Rattle.nofs_model.specs.Sound.{IsSound}
 use Rattle.nofs_state.specs.Cores.Invariant.{Sounds}
 
 pub sounds-keep : (from : ℕ) (old new : DiskState) → IsSameDisk old new → KeepsPast old new → KeepsCells old new

@@ -1,12 +1,13 @@
 -- Sound images stay so over the writes of a step, whichever of them failed.
 use Rattle.std.proofs.Common.{◌≡◌, ℕ, ◌+◌, ◌*◌, ◌/◌, ◌%◌, ◌^◌, ◌<◌, ◌≤◌, IsTrue, true, inl, inr, leb, leb-true, ltb}
-use Rattle.std.proofs.Common.{List, [], ◌∷◌, length, refl, sym, ap}
-use Rattle.std.proofs.Common.{◌∙◌, subst, arith, Contains}
+use Rattle.std.proofs.Common.{List, [], ◌∷◌, length, refl, sym, ap, ◌∙◌, subst, arith, Contains}
 use Rattle.std.proofs.lemmas.Bool.{cases_lt}
-use Rattle.nofs_disk.specs.Disk.{DiskState, IsDisk}
+use Rattle.nofs_disk.specs.Disk.{DiskState, IsDisk, cell_at}
 use Rattle.nofs_disk.specs.Adds.{Adds, WasOr}
-use Rattle.nofs_model.specs.Cells.{Cell, SuperBlock}
-use Rattle.nofs_model.specs.Image.{Image, IsSound, cell_at, super_at}
+use Rattle.nofs_disk.specs.declared.tag.Cell.{Cell}
+use Rattle.nofs_super.specs.declared.superblock.SuperBlock.{SuperBlock}
+use Rattle.nofs_model.specs.Geometry.{Image, super_at}
+use Rattle.nofs_model.specs.Sound.{IsSound}
 use Rattle.nofs_model.proofs.OnSlots.Find.{and-both}
 use Rattle.nofs_model.proofs.OnSound.Writes.{law-sound, mountable-law}
 use Rattle.nofs_crashlaw.specs.Images.Proper.{Proper, OfContent, OfPointers, OfTable}

@@ -1,8 +1,9 @@
 -- Between two steps each image that a crash may leave is sound.
 use Rattle.std.proofs.Common.{◌≡◌, ℕ, ◌+◌, ◌*◌, ◌^◌, ◌<◌, ◌≤◌, List, length, Contains, sym, ap, subst, arith}
 use Rattle.nofs_disk.specs.Disk.{DiskState, cell_at}
-use Rattle.nofs_model.specs.Cells.{SuperBlock}
-use Rattle.nofs_model.specs.Image.{Image, IsSound, super_at}
+use Rattle.nofs_super.specs.declared.superblock.SuperBlock.{SuperBlock}
+use Rattle.nofs_model.specs.Geometry.{Image, super_at}
+use Rattle.nofs_model.specs.Sound.{IsSound}
 use Rattle.nofs_model.proofs.OnSound.Writes.{law-sound}
 use Rattle.nofs_history.specs.Claims.{next_stamp}
 use Rattle.nofs_history.specs.declared.machine.history.Entry1.{Entry1}

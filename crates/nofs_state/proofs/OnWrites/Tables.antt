@@ -1,12 +1,13 @@
 -- One record of the inode table is written.
 use Rattle.std.proofs.Common.{◌≡◌, ◌≢◌, ℕ, ◌+◌, ◌-◌, ◌/◌, ◌%◌, ◌<◌, ◌≤◌, ◌⊎◌, inl, inr, Bool, true, false, leb}
-use Rattle.std.proofs.Common.{leb-true, ◌&&◌, List, Some, refl, sym, ap}
-use Rattle.std.proofs.Common.{◌∙◌, subst, arith}
+use Rattle.std.proofs.Common.{leb-true, ◌&&◌, List, Some, refl, sym, ap, ◌∙◌, subst, arith}
 use Rattle.std.proofs.lemmas.Bool.{cases_eq}
 use Rattle.nofs_disk.specs.Disk.{cell_at}
-use Rattle.nofs_model.specs.Cells.{Cell, Record, SuperBlock, record_at, record_of, free_record}
-use Rattle.nofs_inode.specs.InodeRecords.{record_or_free}
-use Rattle.nofs_model.specs.Image.{Image, super_at, is_inode, inode}
+use Rattle.nofs_disk.specs.declared.tag.Cell.{Cell}
+use Rattle.nofs_inode.specs.declared.inode.Record.{Record}
+use Rattle.nofs_super.specs.declared.superblock.SuperBlock.{SuperBlock}
+use Rattle.nofs_inode.specs.InodeRecords.{record_at, record_of, free_record, record_or_free}
+use Rattle.nofs_model.specs.Geometry.{Image, super_at, is_inode, inode}
 use Rattle.nofs_model.proofs.OnSlots.Find.{and-both}
 use Rattle.nofs_model.proofs.OnSound.Writes.{supers}
 

@@ -1,7 +1,6 @@
 -- Two writes, one after the other.
 use Rattle.std.proofs.Common.{◌≡◌, ◌≢◌, ℕ, ◌<◌, ◌⊎◌, Bool, true, false, inl, inr, List, [], ◌∷◌, length, Result, Ok}
-use Rattle.std.proofs.Common.{Err, refl, sym, ap, ◌∙◌, subst, arith}
-use Rattle.std.proofs.Common.{le_refl, IsTrue, Contains}
+use Rattle.std.proofs.Common.{eqb, eqb-true, Err, refl, sym, ap, ◌∙◌, subst, arith, le_refl, IsTrue, Contains}
 use Rattle.std.specs.Prelude.{OnOk, OnErr, slice_set}
 use Rattle.nofs_disk.specs.Disk.{DiskState, IsDisk, IsSettled, Writes, Rose, cell_at, no_cell}
 use Rattle.std.proofs.lemmas.List.{get_or-set_other}
@@ -11,16 +10,17 @@ use Rattle.nofs_state.specs.declared.books.maps.Books.{Books}
 use Rattle.nofs_disk.specs.Adds.{Adds, Adds-trans, Adds-writes}
 use Rattle.nofs_disk.specs.Chains.{Rose-within}
 use Rattle.nofs_disk.specs.declared.Failed.{Failed}
-use Rattle.nofs_model.specs.Cells.{Cell}
-use Rattle.nofs_model.specs.Image.{Image}
+use Rattle.nofs_disk.specs.declared.tag.Cell.{Cell}
+use Rattle.nofs_model.specs.Files.{Files}
+use Rattle.nofs_model.specs.Geometry.{Image}
 use Rattle.nofs_history.specs.declared.machine.replies.Refusal.{Refusal}
 use Rattle.nofs_history.specs.declared.machine.replies.Refusal.TheVariants as refusal
-use Rattle.nofs_state.specs.Writes.Cells.{OneOf, HasOneEach, IsApart, IsTried, NotStored, OnlyWrites, Stored, Stores}
-use Rattle.nofs_state.specs.Writes.Cells.{has_failed, image_after, stopped_books}
-use Rattle.nofs_state.specs.Writes.Cells.{WritesAll}
+use Rattle.nofs_disk.specs.Order.{OneOf, HasOneEach, IsApart, IsTried, OnlyWrites, WritesOnce, has_failed, image_after}
+use Rattle.nofs_state.specs.Writes.Cells.{NotStored, Stored, Stores, stopped_books, WritesAll}
 use Rattle.nofs_history.specs.declared.machine.history.Entry1.{Entry1}
 use Rattle.nofs_state.specs.Cores.Invariant.{IsOpen, Past}
-use Rattle.nofs_state.specs.Cores.Steps.{MeetsOpen, WritesCells, WritesSoMany}
+use Rattle.nofs_state.specs.Cores.Steps.{IsRow, MeetsOpen, WritesCells}
+use Rattle.nofs_history.specs.Writes.{WritesSoMany}
 use Rattle.nofs_history.specs.declared.machine.history.Claims.{Claims}
 use Rattle.nofs_history.specs.declared.machine.steps.Step.{Step}
 use Rattle.nofs_state.proofs.OnCores.Done.{Adds-map}
@@ -47,12 +47,22 @@ only-one : (old new : DiskState) (b : ℕ) (c : Cell) (r : Result (Unit {0}) Fai
 only-one old new b c r is w = record {
   moment = (let m = w.moment in omega (arith, m));
   others = λ n apart. w.others n apart.0;
+  kept = λ n d has. kept n d (eqb n b) refl has;
   cells = (let a : Adds (OneOf ((b, c) ∷ [])) old new =
       Adds-writes (OneOf ((b, c) ∷ [])) old new b c is w (inl (refl, refl)) in a.cells);
   done = done r w.ok;
   tried = tried r w.err;
 }
   where
+    kept : (n : ℕ) (d : Cell) (t : Bool) → eqb n b ≡ t → Contains (old.may n) d → Contains (new.may n) d
+    kept n d true e has =
+        let at = eqb-true n b e in
+        subst (λ (q : ℕ). Contains (new.may q) d) (sym at)
+        (w.stays d (subst (λ (q : ℕ). Contains (old.may q) d) at has))
+    kept n d false e has =
+        let ne : n ≢ b = λ q. let t : eqb n b ≡ true = rw q (grind arith) in cc (e, t) in
+        subst (λ (l : List Cell). Contains l d) (sym (w.others n ne)) has
+
     done : (q : Result (Unit {0}) Failed) → OnOk q (new.now ≡ slice_set old.now b c)
         → has_failed q ≡ false → new.now ≡ slice_set old.now b c
     done (Ok u) s e = s
@@ -71,11 +81,15 @@ only-more : (old mid new : DiskState) (b : ℕ) (c : Cell) (calls : List (ℕ ×
 only-more old mid new b c calls failed is w v = record {
   moment = (let m = w.moment in let n = v.moment in omega (arith, m, n));
   others = λ n apart. v.others n apart.1 ∙ w.others n apart.0;
+  kept = λ n d has. v.kept n d (first.kept n d has);
   cells = λ n d has. back n d (v.cells n d has);
   done = λ e. v.done e ∙ ap (λ (X : Image). image_after calls X) w.ok;
   tried = λ e. tried calls (v.tried e);
 }
   where
+    first : OnlyWrites old mid ((b, c) ∷ []) false
+    first = only-one old mid b c (Ok tt) is w
+
     one : Adds (OneOf ((b, c) ∷ [])) old mid
     one = Adds-writes (OneOf ((b, c) ∷ [])) old mid b c is w (inl (refl, refl))
 
@@ -93,12 +107,12 @@ only-more old mid new b c calls failed is w v = record {
 pub writes-cells : {old new : DiskState} {ws : List (ℕ × Cell)} {r : Result (Unit {0}) Failed} (k : Books) (s : Step)
     (c : Claims) → WritesAll old new ws r
     → WritesSoMany s c (length ws)
-    → (IsTrue old.tells → (H : List Entry1) (p : Past) → IsOpen old k H p → HasOneEach ws)
+    → (IsTrue old.tells → (H : List Entry1) (p : Past) → IsOpen old k H p → IsRow p.world.files s c ws)
     → WritesCells old new (MeetsOpen old k) s c (has_failed r)
-writes-cells {old} {new} {ws} {r} k s c w count each = record {
+writes-cells {old} {new} {ws} {r} k s c w count owes = record {
   row = ws;
   count = count;
-  one_each = λ m. each m.2 m.0 m.1 m.3;
+  told = λ F m. subst (λ (files : Files). IsRow files s c ws) m.4 (owes m.2 m.0 m.1 m.3);
   calls = w.calls;
   first = w.first;
   whole = whole r w.whole;
@@ -109,20 +123,26 @@ writes-cells {old} {new} {ws} {r} k s c w count each = record {
     whole (Ok u) all e = all
     whole (Err x) all e = absurd (cc e)
 
--- nothing was made durable: a block that might hold two cells, and that none of the calls wrote, may hold both still,
--- so the device is not settled
+-- nothing was made durable: a block that might hold two cells may hold both still, so the device is not settled
 pub settles-nothing : {old new : DiskState} {calls : List (ℕ × Cell)} {failed : Bool} → OnlyWrites old new calls failed
     → (b : ℕ) (c d : Cell)
-    → IsApart calls b → b < new.blocks → Contains (old.may b) c → Contains (old.may b) d → c ≢ d → IsSettled new → ⊥
-settles-nothing {old} {new} w b c d apart low has also differ settled =
-    let one : Contains (new.may b) c = subst (λ (l : List Cell). Contains l c) (sym (w.others b apart)) has in
-    let two : Contains (new.may b) d = subst (λ (l : List Cell). Contains l d) (sym (w.others b apart)) also in
-    differ (settled b c low one ∙ sym (settled b d low two))
+    → b < new.blocks → Contains (old.may b) c → Contains (old.may b) d → c ≢ d → IsSettled new → ⊥
+settles-nothing w b c d low has also differ settled =
+    differ (settled b c low (w.kept b c has) ∙ sym (settled b d low (w.kept b d also)))
 
--- each block gets one cell where each cell is that of one image
-pub one-each : (ws : List (ℕ × Cell)) (Y : Image)
-    → ((b : ℕ) (c : Cell) → OneOf ws b c → c ≡ cell_at Y b) → HasOneEach ws
-one-each ws Y each b c d x y = each b c x ∙ sym (each b d y)
+-- none of the others is of this block
+apart-other : (ws : List (ℕ × Cell)) (b n : ℕ) (d : Cell) → IsApart ws b → OneOf ws n d → n ≢ b
+apart-other [] b n d apart one = absurd one
+apart-other (w ∷ ws) b n d apart (inl here) = λ e. apart.0 (sym e ∙ here.0)
+apart-other (w ∷ ws) b n d apart (inr later) = apart-other ws b n d apart.1 later
+
+-- where no block is written twice each gets one cell
+pub one-each : (ws : List (ℕ × Cell)) → WritesOnce ws → HasOneEach ws
+one-each [] once b c d x y = absurd x
+one-each (w ∷ ws) once b c d (inl x) (inl y) = x.1 ∙ sym y.1
+one-each (w ∷ ws) once b c d (inl x) (inr y) = absurd (apart-other ws w.0 b d once.0 y x.0)
+one-each (w ∷ ws) once b c d (inr x) (inl y) = absurd (apart-other ws w.0 b c once.0 x y.0)
+one-each (w ∷ ws) once b c d (inr x) (inr y) = one-each ws once.1 b c d x y
 
 -- the first failed
 pub first-fails : (old new : DiskState) (b : ℕ) (c : Cell) (ws : List (ℕ × Cell)) (x : Failed) → IsDisk new

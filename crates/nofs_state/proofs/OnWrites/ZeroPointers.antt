@@ -6,8 +6,8 @@ use Rattle.std.proofs.lemmas.Bool.{cases_lt}
 use Rattle.std.proofs.lemmas.List.{drop-replicate, get_or-replicate, get_or_past, length-drop, length-replicate}
 use Rattle.byteorder.specs.Endian.{little_from, little_number}
 use Rattle.nofs_disk.specs.Number.{number_at, zeros}
-use Rattle.nofs_disk.specs.Pointer.{pointer_in}
-use Rattle.nofs_model.specs.Cells.{is_null, pointer_at}
+use Rattle.nofs_disk.specs.Pointer.{pointer_in, is_null}
+use Rattle.nofs_ptrs.specs.Cells.{pointer_at}
 
 zero-at : (m k : ℕ) → slice_index (replicate m 0) k ≡ 0
 zero-at m k = elim (cases_lt k m) [

@@ -1,11 +1,11 @@
 -- What the maps of a mount say of the machine's world.
 use Rattle.std.specs.Prelude.{◌≡◌, ℕ, ◌+◌, ◌-◌, ◌*◌, ◌/◌, ◌^◌, ◌<◌, ◌≤◌, Bool, true, false, ◌&&◌, not, List, [], length}
-use Rattle.std.specs.Prelude.{Some, None, is_some, replicate}
-use Rattle.std.specs.Prelude.{nat_le, nat_lt, slice_set}
+use Rattle.std.specs.Prelude.{Some, None, is_some, replicate, nat_le, nat_lt, slice_set}
 use Rattle.nofs_bits.specs.Bits.{is_set}
 use Rattle.nofs_history.specs.HistoryState.{HistoryState}
 use Rattle.nofs_disk.specs.Disk.{DiskState}
-use Rattle.nofs_model.specs.Cells.{Pointer, SuperBlock}
+use Rattle.nofs_disk.specs.declared.tag.Pointer.{Pointer}
+use Rattle.nofs_super.specs.declared.superblock.SuperBlock.{SuperBlock}
 use Rattle.nofs_history.specs.World.{World, is_free_inode, is_free_block}
 use Rattle.nofs_agree.specs.Chain.{known_agreement}
 use Rattle.nofs_agree.specs.Reads.{IsAt}

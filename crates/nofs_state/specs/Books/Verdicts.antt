@@ -1,11 +1,11 @@
 -- Which elements are used, by the disk and by the maps, and what a map learns of one.
 use Rattle.std.specs.Prelude.{◌≡◌, ℕ, ◌+◌, ◌-◌, ◌/◌, ◌≤◌, Bool, false, not, List, Option, Some, None, if◌then◌else◌}
-use Rattle.std.specs.Prelude.{◌==◌, nat_lt, IsTrue, Result, Ok, Err}
-use Rattle.std.specs.Prelude.{IfOk, OnErr, length, slice_set}
+use Rattle.std.specs.Prelude.{◌==◌, nat_lt, IsTrue, Result, Ok, Err, IfOk, OnErr, length, slice_set}
 use Rattle.nofs_bits.specs.Bits.{is_set}
 use Rattle.nofs_disk.specs.declared.Failed.{Failed}
 use Rattle.nofs_disk.specs.Disk.{DiskState, StaysButFaults, Rose}
-use Rattle.nofs_model.specs.Image.{Image, is_used_inode, is_used_block}
+use Rattle.nofs_model.specs.Geometry.{Image}
+use Rattle.nofs_model.specs.Owners.{is_used_inode, is_used_block}
 use Rattle.nofs_model.specs.declared.image.path.PathAnswer.{PathAnswer}
 use Rattle.nofs_model.specs.declared.image.path.PathAnswer.TheVariants as answer
 use Rattle.nofs_agree.specs.Chain.{AreTrue}

@@ -2,11 +2,13 @@
 use Rattle.std.specs.Prelude.{◌≡◌, ℕ, ◌≤◌, true, false, List, [], ◌∷◌, None}
 use Rattle.nofs_disk.specs.Disk.{DiskState, Picks}
 use Rattle.nofs_disk.specs.Moments.{AtEach}
-use Rattle.nofs_model.specs.Image.{Image, super_at, is_mountable, IsSound}
+use Rattle.nofs_model.specs.Geometry.{Image, super_at, is_mountable}
+use Rattle.nofs_model.specs.Sound.{IsSound}
 use Rattle.nofs_history.specs.World.{World, world_of}
 use Rattle.nofs_history.specs.Claims.{next_stamp}
 use Rattle.nofs_history.specs.Next.{Run}
-use Rattle.nofs_history.specs.History.{NoWriteFault, agreed_files, files_along}
+use Rattle.nofs_history.specs.History.{NoWriteFault}
+use Rattle.nofs_history.specs.Since.{agreed_files, files_along}
 use Rattle.nofs_history.specs.Steady.{SteadyRest}
 use Rattle.nofs_history.specs.declared.machine.history.Entry1.{Entry1}
 use Rattle.nofs_crashlaw.specs.Maps.Homes.{HomesMatch}

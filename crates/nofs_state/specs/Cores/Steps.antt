@@ -3,13 +3,14 @@ use Rattle.std.specs.Prelude.{◌≡◌, ◌⊎◌, ℕ, zero, suc, ◌+◌, ◌
 use Rattle.std.specs.Prelude.{IsTrue, None}
 use mathlib.Core.List.{IsPrefix}
 use Rattle.nofs_disk.specs.Disk.{DiskState, IsSameDisk, KeepsCells, KeepsPast, Rose}
-use Rattle.nofs_model.specs.Image.{Files, Path, InRecord, Under, path_of}
+use Rattle.nofs_model.specs.Files.{Files}
 use Rattle.nofs_history.specs.Machine.{gives, nothing, is_write_fault, is_refused}
 use Rattle.nofs_history.specs.Steps.{is_out_of_memory, InRange}
 use Rattle.nofs_history.specs.World.{inodes_needed, blocks_needed}
 use Rattle.nofs_history.specs.Next.{Next, sees_inode, sees_block, takes_time}
 use Rattle.nofs_history.specs.declared.machine.replies.Refusal.{Refusal}
-use Rattle.nofs_history.specs.Claims.{no_claims, cell_slot, claimed_blocks}
+use Rattle.nofs_history.specs.Claims.{no_claims, cell_slot}
+use Rattle.nofs_history.specs.Writes.{WritesSoMany, cells_written, is_flush, makes_calls}
 use Rattle.nofs_history.specs.declared.machine.history.Claims.{Claims}
 use Rattle.nofs_history.specs.declared.machine.history.Entry1.{Entry1}
 use Rattle.nofs_history.specs.declared.machine.steps.Step.{Step}
@@ -19,8 +20,8 @@ use Rattle.nofs_history.specs.declared.machine.replies.Reply.TheVariants as repl
 use Rattle.nofs_history.specs.declared.machine.replies.Refusal.TheVariants as refusal
 use Rattle.nofs_state.specs.Books.Maps.{IsSafe}
 use Rattle.nofs_state.specs.Cores.Invariant.{IsOpen, IsStopped, Past, Sounds}
-use Rattle.nofs_state.specs.Writes.Cells.{HasOneEach, OnlyFlushes, OnlyWrites}
-use Rattle.nofs_model.specs.Cells.{Cell}
+use Rattle.nofs_disk.specs.Order.{OnlyFlushes, OnlyWrites, WritesOnce}
+use Rattle.nofs_disk.specs.declared.tag.Cell.{Cell}
 use Rattle.nofs_state.specs.declared.books.maps.Books.{Books}
 
 -- the entry of a step, from one state of the disk to the next
@@ -77,48 +78,23 @@ pub record Causes (old new : DiskState) (k l : Books) (r : Reply) : Type 0 where
   pub memory : is_out_of_memory r ≡ true → l ≡ k
   pub range : HasRange r
 
-abbrev pub is_flush : Step → Bool
-is_flush (step.Flush i g) = true
-is_flush _ = false
+-- a device that tells meets an open mount, in which the machine has these files
+abbrev pub MeetsOpen : DiskState → Books → Files → Type 0
+MeetsOpen d k F = (H : List Entry1) × (p : Past) × IsTrue d.tells × IsOpen d k H p × (p.world.files ≡ F)
 
--- the answer of a step that asked the device to write or to flush
-abbrev pub makes_calls : Reply → Bool
-makes_calls (reply.Made i g) = true
-makes_calls reply.Linked = true
-makes_calls (reply.Dropped removed) = true
-makes_calls reply.Renamed = true
-makes_calls reply.Stored = true
-makes_calls reply.Resized = true
-makes_calls reply.Flushed = true
-makes_calls (reply.Refused refusal.WriteFault) = true
-makes_calls _ = false
-
--- how many blocks of pointers above a slot are written where so many slots of its way get a block
-abbrev pub pointers_written : ℕ → Path → ℕ
-pointers_written zero way = 0
-pointers_written (suc m) (InRecord n) = 0
-pointers_written (suc m) (Under above n) = 1 + pointers_written m above
-
--- a step with these claims writes so many cells; no other step writes
-abbrev pub WritesSoMany : Step → Claims → ℕ → Type 0
-WritesSoMany (step.Rename d g name other) c n = n ≡ 1
-WritesSoMany (step.Drop d g name) c n = n ≡ 2
-WritesSoMany (step.Make d g name kind) c n = n ≡ 2 + length (claimed_blocks c)
-WritesSoMany (step.Link d g name i of) c n = n ≡ 2 + length (claimed_blocks c)
-WritesSoMany (step.Put i g slot at bytes) c n = n ≡ 2 + pointers_written (length (claimed_blocks c)) (path_of slot)
-WritesSoMany (step.Resize i g size) c n = (1 ≤ n) × (n ≤ 4)
-WritesSoMany _ c n = ⊥
-
--- a device that tells meets an open mount
-abbrev pub MeetsOpen : DiskState → Books → Type 0
-MeetsOpen d k = (H : List Entry1) × (p : Past) × IsTrue d.tells × IsOpen d k H p
+-- the cells that a step owes the machine: no block twice, so it is all one in which order they are written; and no more
+-- than these files ask for
+pub record IsRow (F : Files) (s : Step) (c : Claims) (ws : List (ℕ × Cell)) : Type 0 where
+  pub once : WritesOnce ws
+  pub exact : length ws ≡ cells_written F s c
 
 -- the cells that a step writes, and the calls that it made: all of them, or those up to the one that failed
-pub record WritesCells (old new : DiskState) (Told : Type 0) (s : Step) (c : Claims) (failed : Bool) : Type 0 where
+pub record WritesCells (old new : DiskState) (Told : Files → Type 0) (s : Step) (c : Claims)
+    (failed : Bool) : Type 0 where
   pub row : List (ℕ × Cell)
   pub count : WritesSoMany s c (length row)
-  -- where the device tells: so it is all one in which order they are written
-  pub one_each : Told → HasOneEach row
+  -- where the device tells, and the machine has these files
+  pub told : (F : Files) → Told F → IsRow F s c row
   pub calls : List (ℕ × Cell)
   pub first : IsPrefix calls row
   pub whole : failed ≡ false → calls ≡ row
@@ -126,7 +102,7 @@ pub record WritesCells (old new : DiskState) (Told : Type 0) (s : Step) (c : Cla
 
 -- NO STEP ORDERS ITS WRITES. Over any disk a step leaves the device, or makes writes alone, or, where it is a Flush,
 -- one flush alone
-pub data NoOrder (old new : DiskState) (Told : Type 0) (s : Step) (c : Claims) (r : Reply) : Type 0 where
+pub data NoOrder (old new : DiskState) (Told : Files → Type 0) (s : Step) (c : Claims) (r : Reply) : Type 0 where
   LeavesDisk : makes_calls r ≡ false → KeepsCells old new → NoOrder old new Told s c r
   WritesAlone : makes_calls r ≡ true → WritesCells old new Told s c (is_write_fault r) → NoOrder old new Told s c r
   FlushesAlone : is_flush s ≡ true → takes_time r ≡ true → OnlyFlushes old new (is_write_fault r)

@@ -4,7 +4,7 @@ use Rattle.std.specs.Prelude.{IsPermutation}
 use Rattle.nofs_disk.specs.Disk.{DiskState, IsSameDisk, KeepsCells, Picks, Rose}
 use Rattle.nofs_disk.specs.declared.OutFault.{OutFault}
 use Rattle.nofs_disk.specs.declared.OutFault.TheVariants.{Failed}
-use Rattle.nofs_model.specs.Image.{Image}
+use Rattle.nofs_model.specs.Geometry.{Image}
 
 -- At most one block is written out. No moment passes, each cell and what may be left of it stays, and each image that a
 -- crash may leave now picks from that. It failed only where the count of faults rose, and there is no block exactly

@@ -1,64 +1,14 @@
 -- The writes of one step.
-use Rattle.std.specs.Prelude.{◌≡◌, ◌≢◌, ℕ, ◌+◌, ◌*◌, ◌<◌, ◌⊎◌, List, [], ◌∷◌, length, Bool, true, false, Result, Ok}
-use Rattle.std.specs.Prelude.{Err, OnOk, OnErr, Contains, slice_set}
+use Rattle.std.specs.Prelude.{◌≡◌, ℕ, ◌<◌, List, Result, Ok, Err, OnOk, OnErr, true}
 use mathlib.Core.List.{IsPrefix}
-use Rattle.nofs_disk.specs.Disk.{DiskState, IsSettled, Rose, cell_at}
+use Rattle.nofs_disk.specs.Disk.{DiskState, Rose, cell_at}
 use Rattle.nofs_disk.specs.Adds.{Adds}
+use Rattle.nofs_disk.specs.Order.{IsApart, OneOf, OnlyWrites, has_failed, image_after}
 use Rattle.nofs_disk.specs.declared.Failed.{Failed}
 use Rattle.nofs_history.specs.declared.machine.replies.Refusal.{Refusal}
 use Rattle.nofs_history.specs.declared.machine.replies.Refusal.TheVariants as refusal
 use Rattle.nofs_state.specs.declared.books.maps.Books.{Books}
-use Rattle.nofs_model.specs.Cells.{Cell}
-use Rattle.nofs_model.specs.Image.{Image}
-
--- one of these cells of these blocks
-abbrev pub OneOf : List (ℕ × Cell) → ℕ → Cell → Type 0
-OneOf [] b c = ⊥
-OneOf (w ∷ ws) b c = ((b ≡ w.0) × (c ≡ w.1)) ⊎ OneOf ws b c
-
--- the image after these writes
-abbrev pub image_after : List (ℕ × Cell) → Image → Image
-image_after [] X = X
-image_after (w ∷ ws) X = image_after ws (slice_set X w.0 w.1)
-
--- none of these blocks
-abbrev pub IsApart : List (ℕ × Cell) → ℕ → Type 0
-IsApart [] b = Unit {0}
-IsApart (w ∷ ws) b = (b ≢ w.0) × IsApart ws b
-
--- the cells before the last one are there, and that one may be
-abbrev pub IsTried : List (ℕ × Cell) → Image → Image → Type 0
-IsTried [] old new = ⊥
-IsTried (w ∷ []) old new = (new ≡ old) ⊎ (new ≡ slice_set old w.0 w.1)
-IsTried (w ∷ (v ∷ ws)) old new = IsTried (v ∷ ws) (slice_set old w.0 w.1) new
-
--- NO ORDER. These cells were written, one call a cell, and a call that failed was the last. Nothing else was asked of
--- the device that takes time, and nothing was made durable
-pub record OnlyWrites (old new : DiskState) (calls : List (ℕ × Cell)) (failed : Bool) : Type 0 where
-  -- each write raises the moment by 2, as each flush does
-  pub moment : new.moment ≡ old.moment + 2 * length calls
-  -- what any other block may hold stays: a flush would settle it
-  pub others : (b : ℕ) → IsApart calls b → new.may b ≡ old.may b
-  -- what a block may hold anew is one of these cells
-  pub cells : (b : ℕ) (c : Cell) → Contains (new.may b) c → Contains (old.may b) c ⊎ OneOf calls b c
-  -- a read gives all of them, but perhaps that of the call that failed
-  pub done : failed ≡ false → new.now ≡ image_after calls old.now
-  pub tried : failed ≡ true → IsTried calls old.now new.now
-
--- One flush, and nothing else that takes time: no cell was written
-pub record OnlyFlushes (old new : DiskState) (failed : Bool) : Type 0 where
-  pub moment : new.moment ≡ old.moment + 2
-  pub now : new.now ≡ old.now
-  pub done : failed ≡ false → IsSettled new
-  pub kept : failed ≡ true → new.may ≡ old.may
-
--- each block gets one cell: so it is all one in which order they are written
-abbrev pub HasOneEach : List (ℕ × Cell) → Type 0
-HasOneEach ws = (b : ℕ) (c d : Cell) → OneOf ws b c → OneOf ws b d → c ≡ d
-
-abbrev pub has_failed : Result (Unit {0}) Failed → Bool
-has_failed (Ok done) = false
-has_failed (Err x) = true
+use Rattle.nofs_disk.specs.declared.tag.Cell.{Cell}
 
 -- so many writes, one after another, up to the first that fails: these calls were made
 pub record WritesAll (old new : DiskState) (ws : List (ℕ × Cell)) (result : Result (Unit {0}) Failed) : Type 0 where

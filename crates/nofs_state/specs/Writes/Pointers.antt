@@ -5,8 +5,9 @@ use Rattle.nofs_disk.specs.declared.Failed.{Failed}
 use Rattle.nofs_disk.specs.Disk.{DiskState, cell_at}
 use Rattle.nofs_disk.specs.Pointer.{put_pointer}
 use Rattle.nofs_ptrs.specs.Cells.{pointer_at}
-use Rattle.nofs_model.specs.Cells.{Cell, Pointer}
-use Rattle.nofs_model.specs.Slots.{Path, InRecord, Under}
+use Rattle.nofs_disk.specs.declared.tag.Cell.{Cell}
+use Rattle.nofs_disk.specs.declared.tag.Pointer.{Pointer}
+use Rattle.nofs_ptrs.specs.Paths.{Path, InRecord, Under}
 use Rattle.nofs_state.specs.Writes.Cells.{WritesAll, stopped_books}
 use Rattle.nofs_state.specs.declared.books.maps.Books.{Books}
 use Rattle.nofs_state.specs.declared.writes.pointers.SlotCells.{SlotCells}

@@ -1,7 +1,8 @@
 //! A mounted disk.
 ghost use Rattle.std.specs.Prelude.{◌≡◌, ◌+◌, ◌-◌, ◌∷◌, ◌++◌, ◌*◌, ◌^◌, ◌<◌, ◌≤◌, [], IsTrue};
 ghost use Rattle.nofs_disk.specs.Disk.{IsSettled};
-ghost use Rattle.nofs_model.specs.Image as image;
+ghost use Rattle.nofs_model.specs.Geometry.{is_mountable};
+ghost use Rattle.nofs_model.specs.Sound.{IsBelow};
 ghost use Rattle.nofs_agree.specs.Reads.{IsAt};
 ghost use Rattle.nofs_state.specs.Books.Maps.{IsRoom, IsSafe, with_history};
 ghost use Rattle.nofs_state.specs.Cores.Invariant.{IsOpen};
@@ -32,8 +33,8 @@ impl<D: Disk + Drop> Core<D> {
         ensures safe { IsSafe (D.state disk) result.books }
         ensures begun { HasBegun (D.state disk) at result.books }
         ensures open { IsTrue (D.state disk).tells → IsSettled (D.state disk)
-            → IsTrue (image.is_mountable (D.state disk).now)
-            → 0 < at.mount * 2 ^ 40 + first → image.IsBelow (at.mount * 2 ^ 40 + first) (D.state disk).now
+            → IsTrue (is_mountable (D.state disk).now)
+            → 0 < at.mount * 2 ^ 40 + first → IsBelow (at.mount * 2 ^ 40 + first) (D.state disk).now
             → IsOpen (D.state disk) result.books [] (first_past (D.state disk) first) }
     {
         let mut history = room.history;

@@ -1,7 +1,7 @@
 //! The blocks in some slots of an inode.
 ghost use Rattle.std.specs.Prelude.{◌≡◌, ◌≤◌, ◌<◌, ℕ, true, length, slice_set, IfErr, IsTrue, OnOk};
 ghost use Rattle.nofs_history.specs.declared.machine.replies.Refusal.TheVariants as refusal;
-ghost use Rattle.nofs_model.specs.Slots.{is_slot};
+ghost use Rattle.nofs_ptrs.specs.Paths.{is_slot};
 ghost use Rattle.nofs_agree.specs.Reads.{IsLast, KnowsInode};
 ghost use Rattle.nofs_state.specs.Inodes.Blocks.{Marks, MarksAll};
 

@@ -3,7 +3,7 @@
 //! Promise: one write of one cell, in which that pointer alone is another one.
 ghost use Rattle.std.specs.Prelude.{◌≡◌, ◌≤◌, ◌<◌, ◌∷◌, [], IsTrue};
 ghost use Rattle.nofs_disk.specs.Disk.{cell_at};
-ghost use Rattle.nofs_model.specs.Slots.{is_slot, path_of};
+ghost use Rattle.nofs_ptrs.specs.Paths.{is_slot, path_of};
 ghost use Rattle.nofs_model.specs.Places.{IsPlace, place_path};
 ghost use Rattle.nofs_state.specs.Writes.Pointers.{IsPointed, SetsPointer, record_number, spot_at};
 ghost use Rattle.nofs_state.specs.Writes.Cells.{WritesAll};

@@ -1,5 +1,7 @@
 use Rattle.std.proofs.Common.{ℕ, List, Some, ap, ◌∙◌}
-use Rattle.nofs_model.specs.Cells.{Leaf, is_null, pointer_at}
+use Rattle.nofs_disk.specs.declared.tag.Kind.TheVariants.{Leaf}
+use Rattle.nofs_disk.specs.Pointer.{is_null}
+use Rattle.nofs_ptrs.specs.Cells.{pointer_at}
 use Rattle.nofs_state.proofs.OnWrites.ZeroPointers.{zeros-null}
 use Rattle.nofs_files.proofs.puts.cells.pointers_cell.Goals as goal
 

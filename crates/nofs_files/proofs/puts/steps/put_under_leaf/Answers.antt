@@ -1,5 +1,5 @@
 use Rattle.std.proofs.Common.{ap}
-use Rattle.nofs_model.specs.Image.{node_in}
+use Rattle.nofs_model.specs.Files.{node_in}
 use Rattle.nofs_model.specs.declared.image.path.PathAnswer.{PathAnswer}
 use Rattle.nofs_files.proofs.OnPuts.LostBlocks.{after-reads, ended, goes-lost-above, goes-unread-above, is_ruined}
 use Rattle.nofs_files.proofs.OnPuts.LostBlocks.{lead-above, leaf-path, leaf-ruin, reached}

@@ -1,13 +1,14 @@
 use Rattle.std.proofs.Common.{arith, refl, sym, ap}
 use Rattle.nofs_disk.specs.Chains.{StaysButFaults-refl}
 use Rattle.nofs_model.specs.declared.image.path.PathAnswer.{PathAnswer}
-use Rattle.nofs_model.specs.Image.{value_in}
+use Rattle.nofs_model.specs.Slots.{value_in}
 use Rattle.nofs_history.specs.Answers.{got_reply}
 use Rattle.nofs_history.specs.declared.machine.steps.Step.TheVariants as step
 use Rattle.nofs_history.specs.declared.machine.replies.Reply.TheVariants as reply
 use Rattle.nofs_state.proofs.OnCores.Replies.{goes-stopped}
 use Rattle.nofs_files.proofs.OnReads.Gets.{get-large, get-unfiled, get-unread, get-found, get-bytes, get-memory}
 use Rattle.nofs_files.proofs.OnReads.Gets.{get-memory-found}
+use Rattle.nofs_files.proofs.OnReads.Memory.{file-memory}
 use Rattle.nofs_files.proofs.reads.gets.get.Goals as goal
 
 pub returns-then-core-clause-goes : goal.returns-then-core-clause-goes
@@ -92,3 +93,7 @@ pub returns-in-Lost-clause-memory : goal.returns-in-Lost-clause-memory
 returns-in-Lost-clause-memory g c = get-memory-found (g.D.Disk.state c.args.core.now.disk) c.args.core.now.books
     c.args.inode c.args.generation c.args.slot c.requires (g.D.Disk.state c.open_file.new.disk)
     (g.D.Disk.state c.find_content.new.disk) c.open_file.ensures.stays c.find_content.ensures.stays
+
+-- .. and took no memory
+pub returns-in-Err-clause-no_memory : goal.returns-in-Err-clause-no_memory
+returns-in-Err-clause-no_memory g c = file-memory _ _ _ _ _ _ c.in-Err.ensures.refused

@@ -1,5 +1,5 @@
 use Rattle.std.proofs.Common.{◌+◌, ◌*◌}
-use Rattle.nofs_model.specs.Image.{InRecord, Under}
+use Rattle.nofs_ptrs.specs.Paths.{InRecord, Under}
 use Rattle.nofs_model.specs.declared.image.path.PathAnswer.TheVariants as answer
 use Rattle.nofs_names.proofs.OnDrops.Blocks.{marks-none, none-under-child}
 use Rattle.nofs_names.proofs.drops.blocks.mark_child.Goals as goal

@@ -1,5 +1,4 @@
-use Rattle.nofs_ptrs.specs.Paths.{slot_limit}
-use Rattle.nofs_model.specs.Image.{InRecord}
+use Rattle.nofs_ptrs.specs.Paths.{slot_limit, InRecord}
 use Rattle.nofs_model.specs.declared.image.path.PathAnswer.TheVariants as answer
 use Rattle.nofs_names.proofs.OnDrops.Blocks.{marks-none, none-under-top}
 use Rattle.nofs_names.proofs.drops.blocks.mark_far.Goals as goal

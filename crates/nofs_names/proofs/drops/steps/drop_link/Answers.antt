@@ -1,7 +1,7 @@
 use Rattle.std.proofs.Common.{arith, ℕ, sym, ap, ◌∙◌, subst, [], ◌∷◌}
 use Rattle.nofs_disk.specs.Disk.{cell_at}
 use Rattle.nofs_inode.specs.InodeRecords.{HasRecordSpelling}
-use Rattle.nofs_model.specs.Cells.{Record}
+use Rattle.nofs_inode.specs.declared.inode.Record.{Record}
 use Rattle.nofs_history.specs.Machine.{link_to}
 use Rattle.nofs_history.specs.declared.machine.steps.Step.TheVariants as step
 use Rattle.nofs_state.specs.Writes.Cells.{Stores}

@@ -1,5 +1,6 @@
 use Rattle.std.proofs.Common.{ℕ, List, ap, ◌∙◌}
-use Rattle.nofs_model.specs.Cells.{is_null, pointer_at}
+use Rattle.nofs_disk.specs.Pointer.{is_null}
+use Rattle.nofs_ptrs.specs.Cells.{pointer_at}
 use Rattle.nofs_state.proofs.OnWrites.ZeroPointers.{zeros-null}
 use Rattle.nofs_names.proofs.entries.writes.fill_leaf.Goals as goal
 

@@ -2,7 +2,7 @@ use Rattle.std.proofs.Common.{refl, sym, subst}
 use Rattle.nofs_history.specs.Claims.{no_claims}
 use Rattle.nofs_history.specs.declared.machine.steps.Step.TheVariants as step
 use Rattle.nofs_history.specs.declared.machine.replies.Reply.TheVariants as reply
-use Rattle.nofs_model.specs.Cells.{Entry}
+use Rattle.nofs_dirent.specs.declared.entry.Entry.{Entry}
 use Rattle.nofs_state.specs.Cores.Steps.{Goes}
 use Rattle.nofs_names.specs.Renames.Parts.{done_answer}
 use Rattle.nofs_state.proofs.OnCores.Unchanged.{goes-after, goes-memory, reads-keep}

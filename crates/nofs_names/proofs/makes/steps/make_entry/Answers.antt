@@ -1,5 +1,5 @@
 use Rattle.std.proofs.Common.{◌+◌, ◌/◌, ◌^◌, ◌≤◌, ℕ, Bool, IsTrue, arith, subst, sym}
-use Rattle.nofs_model.specs.Image.{Image}
+use Rattle.nofs_model.specs.Geometry.{Image}
 use Rattle.nofs_history.specs.declared.machine.steps.Step.TheVariants as step
 use Rattle.nofs_state.proofs.OnCores.Unchanged.{goes-after, reads-keep}
 use Rattle.nofs_names.proofs.OnSteps.Reads.{directory-on, there-on}

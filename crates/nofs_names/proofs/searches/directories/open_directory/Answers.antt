@@ -1,5 +1,5 @@
 use Rattle.std.proofs.Common.{ap}
-use Rattle.nofs_model.specs.Image.{is_folder}
+use Rattle.nofs_model.specs.Files.{is_folder}
 use Rattle.nofs_names.proofs.OnSteps.Refusals.{directory-stale, directory-file, directory-is}
 use Rattle.nofs_names.proofs.searches.directories.open_directory.Goals as goal
 

@@ -1,5 +1,5 @@
 use Rattle.std.proofs.Common.{refl}
-use Rattle.nofs_model.specs.Image.{agreed, files_in}
+use Rattle.nofs_model.specs.Files.{agreed, files_in}
 use Rattle.nofs_scan.specs.Sights.Verdicts.{entry_linked, link_sight}
 use Rattle.nofs_scan.proofs.OnSights.Reads.{agreed-sees, reads-sees, sees-both}
 use Rattle.nofs_scan.proofs.sights.reads.read_link.Goals as goal

@@ -1,5 +1,5 @@
 use Rattle.std.proofs.Common.{◌∷◌, [], get_or, refl}
-use Rattle.nofs_model.specs.Cells.{no_link}
+use Rattle.nofs_inode.specs.InodeRecords.{no_link}
 use Rattle.nofs_scan.specs.Sights.Verdicts.{link_sight, link_sights}
 use Rattle.nofs_scan.proofs.OnSights.Reads.{sees-both}
 use Rattle.nofs_scan.proofs.sights.reads.read_links.Goals as goal

@@ -1,6 +1,7 @@
 use Rattle.std.proofs.Common.{subst, refl}
-use Rattle.nofs_model.specs.Cells.{tag_of}
-use Rattle.nofs_model.specs.Image.{cell_at, inode}
+use Rattle.nofs_disk.specs.Tag.{tag_of}
+use Rattle.nofs_disk.specs.Disk.{cell_at}
+use Rattle.nofs_model.specs.Geometry.{inode}
 use Rattle.nofs_history.specs.declared.machine.steps.ElementKind.{ElementKind}
 use Rattle.nofs_scan.specs.Steps.Elements.{HasElement}
 use Rattle.nofs_scan.specs.Sights.Verdicts.{block_sight, inode_sight, link_sights, tagged_in}

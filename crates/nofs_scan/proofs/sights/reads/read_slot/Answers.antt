@@ -1,4 +1,5 @@
-use Rattle.nofs_model.specs.Image.{agreed, files_in, inode}
+use Rattle.nofs_model.specs.Files.{agreed, files_in}
+use Rattle.nofs_model.specs.Geometry.{inode}
 use Rattle.nofs_model.specs.Places.{place_path}
 use Rattle.nofs_scan.specs.Sights.Verdicts.{tag_sight, way_in}
 use Rattle.nofs_scan.proofs.OnSights.Reads.{agreed-sees, reads-sees, sees-both}

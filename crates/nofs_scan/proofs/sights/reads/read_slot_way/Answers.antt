@@ -1,5 +1,5 @@
 use Rattle.std.proofs.Common.{refl}
-use Rattle.nofs_model.specs.Image.{inode}
+use Rattle.nofs_model.specs.Geometry.{inode}
 use Rattle.nofs_model.specs.Places.{place_path}
 use Rattle.nofs_scan.specs.Sights.Verdicts.{way_in}
 use Rattle.nofs_scan.proofs.OnSights.Reads.{reads-both}
