@@ -3,6 +3,7 @@ pub mod Histories
 pub mod Steps
 pub mod End
 pub mod Claims
+pub mod Images
 pub mod Commits
 pub mod Looks
 pub mod Scans
@@ -10,6 +11,7 @@ pub mod WriteOuts
 pub mod Causes
 pub mod Refusals
 pub mod Begin
+pub mod Beginnings
 pub mod Threads
 pub mod Raised
 pub mod Formats

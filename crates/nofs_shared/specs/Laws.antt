@@ -3,10 +3,12 @@ use Rattle.std.specs.Prelude.{◌≡◌, ◌≢◌, ◌⊎◌, ℕ, ◌<◌, ◌
 use Rattle.nofs_disk.specs.Disk.{DiskState, IsSameDisk, IsSettled, KeepsCells, Picks}
 use Rattle.nofs_super.specs.Format.{IsFormatted, super_cell}
 use Rattle.nofs_super.specs.Raise.{raised}
-use Rattle.nofs_model.specs.Cells.{is_null, slot_limit}
-use Rattle.nofs_model.specs.Image.{Image, inode, record_pointer, super_at, value}
+use Rattle.nofs_disk.specs.Pointer.{is_null}
+use Rattle.nofs_ptrs.specs.Paths.{slot_limit}
+use Rattle.nofs_model.specs.Geometry.{Image, inode, super_at}
+use Rattle.nofs_model.specs.Slots.{record_pointer, value}
 use Rattle.nofs_model.specs.declared.image.value.Value.TheVariants.{Bytes}
-use Rattle.nofs_history.specs.History.{agreed_files, is_generation}
+use Rattle.nofs_history.specs.Since.{agreed_files, is_generation}
 use Rattle.nofs_history.specs.HistoryState.{HistoryState}
 use Rattle.nofs_history.specs.World.{World}
 use Rattle.nofs_crashlaw.specs.Lives.{GivenBy, HasSuperCell, IsLife, Life, Lives, NextLife, Raised, Rising}

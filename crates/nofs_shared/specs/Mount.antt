@@ -1,5 +1,6 @@
 -- What a mount stands on, and what each of its calls leaves.
 pub mod Forms
+pub mod Images
 pub mod Invariant
 pub mod Earlier
 pub mod Entries

@@ -1,7 +1,7 @@
 -- The laws of an upgrade between two lives.
 use Rattle.std.proofs.Common.{inl, inr, sym, subst, arith}
 use Rattle.nofs_disk.specs.Disk.{DiskState}
-use Rattle.nofs_model.specs.Image.{Image}
+use Rattle.nofs_model.specs.Geometry.{Image}
 use Rattle.nofs_crashlaw.specs.Lives.{SameOrUpgraded, Upgraded}
 use Rattle.nofs_upgrade.specs.Between.{LawSoundUpgrade, LawUpgradeAgain, LawUpgradeBetween}
 

@@ -6,12 +6,14 @@ use lib.Pointwise.{pointwise}
 use Rattle.nofs_disk.specs.Number.{IsBytes, IsBytes-put_number, number_at, number_at-put_before, number_at-put_same}
 use Rattle.nofs_disk.specs.Number.{put_number}
 use Rattle.nofs_disk.specs.Parts.{range-put_behind, take-put_number}
-use Rattle.nofs_disk.specs.Tag.{tag_bytes}
+use Rattle.nofs_disk.specs.Tag.{tag_bytes, tag_of}
 use Rattle.nofs_super.specs.Format.{super_cell, super_payload}
 use Rattle.nofs_super.specs.Spelling.{super_of-only, super_of-payload}
-use Rattle.nofs_super.specs.Super.{CanMount, has_magic, is_version, magic, rest_fault, super_of}
-use Rattle.nofs_model.specs.Cells.{Cell, SuperBlock, tag_of}
-use Rattle.nofs_model.specs.Image.{Image, cell_at, is_super, super_at, super_in}
+use Rattle.nofs_super.specs.Super.{CanMount, has_magic, is_version, magic, rest_fault, super_of, is_super, super_in}
+use Rattle.nofs_disk.specs.declared.tag.Cell.{Cell}
+use Rattle.nofs_super.specs.declared.superblock.SuperBlock.{SuperBlock}
+use Rattle.nofs_model.specs.Geometry.{Image, super_at}
+use Rattle.nofs_disk.specs.Disk.{cell_at}
 use Rattle.nofs_model.proofs.OnGeometry.Super.{Spells, spells, super_tag, super-tag}
 use Rattle.nofs_crashlaw.specs.Lives.{HasSuperCell}
 use Rattle.nofs_upgrade.specs.Upgrades.{IsSecond, second, second_cell}

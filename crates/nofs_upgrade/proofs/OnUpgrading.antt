@@ -1,19 +1,20 @@
 -- Each image of a crash is one that was there, or such an image with version 2.
 use Rattle.std.proofs.Common.{◌≡◌, ◌≢◌, ℕ, ◌+◌, ◌<◌, Bool, true, false, eqb, eqb-true, eq-eqb, List, length, set}
-use Rattle.std.proofs.Common.{IsTrue, Some, Ok, inl, inr, refl, sym, ap}
+use Rattle.std.proofs.Common.{IsTrue, Some, Ok, ◌⊎◌, inl, inr, refl, sym, ap}
 use Rattle.std.proofs.Common.{◌∙◌, subst, subst₂, arith, Contains}
 use Rattle.std.proofs.lemmas.Bool.{cases_lt}
 use Rattle.std.proofs.lemmas.List.{get_or-set_same, get_or-set_other, length-set}
 use Rattle.nofs_disk.specs.Adds.{Adds, WasOr}
 use Rattle.nofs_disk.specs.Cells.{now-sized}
 use Rattle.nofs_disk.specs.Chains.{settled_image}
-use Rattle.nofs_disk.specs.Disk.{DiskState, IsDisk, IsSameDisk, KeepsCells, Picks, no_cell}
+use Rattle.nofs_disk.specs.Disk.{DiskState, IsDisk, IsSameDisk, KeepsCells, Picks, no_cell, cell_at}
 use Rattle.nofs_disk.specs.Number.{IsBytes}
 use Rattle.nofs_super.specs.Format.{super_cell}
 use Rattle.nofs_super.specs.Raise.{IsRaised, IsSuperCell}
 use Rattle.nofs_super.specs.Super.{CanMount, super_of}
-use Rattle.nofs_model.specs.Cells.{Cell, SuperBlock}
-use Rattle.nofs_model.specs.Image.{Image, cell_at}
+use Rattle.nofs_disk.specs.declared.tag.Cell.{Cell}
+use Rattle.nofs_super.specs.declared.superblock.SuperBlock.{SuperBlock}
+use Rattle.nofs_model.specs.Geometry.{Image}
 use Rattle.nofs_crashlaw.specs.Lives.{SaysTheSame}
 use Rattle.nofs_crashlaw.proofs.OnLives.Begin.{law-upgraded}
 use Rattle.nofs_crashlaw.proofs.OnLives.OnlySuper.{law-only-super}
@@ -172,6 +173,11 @@ module _ (found old new : DiskState) (it : SuperBlock) (is_found : IsDisk found)
   images-written tells =
       images-from found old new disk cells
       (images-second old it is_old (told-on found old disk tells) (can-on found old it disk cells can) new adds)
+
+  -- what a crash may leave of a block is what it might leave before, or version 2
+  pub cells-written : (b : ℕ) (c : Cell) → Contains (new.may b) c → WasOr (IsSuperCell (second it)) found b c
+  cells-written b c has = subst (λ (may : ℕ → List Cell). Contains (may b) c ⊎ IsSuperCell (second it) b c) cells.may
+      (adds.cells b c has)
 
   module _ (r : IsRaised (second it) old new) where
     now-is : new.now ≡ set found.now 0 (super_cell (second it))

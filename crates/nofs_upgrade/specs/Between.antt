@@ -2,7 +2,8 @@
 use Rattle.std.specs.Prelude.{ℕ}
 use Rattle.nofs_disk.specs.Disk.{DiskState, Picks}
 use Rattle.nofs_disk.specs.Moments.{AtEach}
-use Rattle.nofs_model.specs.Image.{Image, IsSound}
+use Rattle.nofs_model.specs.Geometry.{Image}
+use Rattle.nofs_model.specs.Sound.{IsSound}
 use Rattle.nofs_history.specs.Allowed.{IsAllowed}
 use Rattle.nofs_crashlaw.specs.Lives.{Life, NextLife, Raised, SameOrUpgraded}
 use Rattle.nofs_upgrade.specs.Upgrades.{StaysOrUpgrades}

@@ -1,16 +1,21 @@
 -- What an upgrade is, why it is refused, and what a crash may leave while it runs.
 use Rattle.std.specs.Prelude.{◌≡◌, ◌≢◌, ◌==◌, ℕ, ◌+◌, ◌<◌, ◌≤◌, ◌⊎◌, if◌then◌else◌, List, [], length, IsTrue, Some}
-use Rattle.std.specs.Prelude.{Result, Ok, Err, IfOk, IfErr, slice_set}
-use Rattle.nofs_disk.specs.Disk.{DiskState, IsSameDisk, IsSettled, KeepsCells, KeepsPast, Picks, Rose}
+use Rattle.std.specs.Prelude.{Result, Ok, Err, IfOk, IfErr, Contains, slice_set}
+use Rattle.nofs_disk.specs.Adds.{WasOr}
+use Rattle.nofs_disk.specs.Disk.{DiskState, IsSameDisk, IsSettled, KeepsCells, KeepsPast, Picks, Rose, cell_at}
 use Rattle.nofs_disk.specs.Moments.{AtEach}
 use Rattle.nofs_disk.specs.Number.{IsBytes, put_number}
 use Rattle.nofs_disk.specs.Tag.{tag_bytes}
 use Rattle.nofs_super.specs.Format.{super_cell}
+use Rattle.nofs_super.specs.Raise.{IsSuperCell}
 use Rattle.nofs_super.specs.Super.{CanMount, check_super, super_of}
 use Rattle.nofs_super.specs.declared.superblock.MountFault.{MountFault}
 use Rattle.nofs_super.specs.declared.superblock.MountFault.TheVariants as mount
-use Rattle.nofs_model.specs.Cells.{Cell, Super, SuperBlock}
-use Rattle.nofs_model.specs.Image.{Image, cell_at, IsSound}
+use Rattle.nofs_disk.specs.declared.tag.Cell.{Cell}
+use Rattle.nofs_disk.specs.declared.tag.Kind.TheVariants.{Super}
+use Rattle.nofs_super.specs.declared.superblock.SuperBlock.{SuperBlock}
+use Rattle.nofs_model.specs.Geometry.{Image}
+use Rattle.nofs_model.specs.Sound.{IsSound}
 use Rattle.nofs_crashlaw.specs.Lives.{HasSuperCell, SameOrUpgraded, SaysTheSame, Upgraded}
 use Rattle.nofs_upgrade.specs.declared.fault.UpgradeFault.{UpgradeFault}
 use Rattle.nofs_upgrade.specs.declared.fault.UpgradeFault.TheVariants.{Already, Mount}
@@ -95,6 +100,8 @@ pub record IsUpgradeStopped (old new : DiskState) : Type 0 where
   pub began : old.moment < new.moment
   pub most : new.moment ≤ old.moment + 4
   pub now : (new.now ≡ old.now) ⊎ (new.now ≡ slice_set old.now 0 (super_cell (second before)))
+  -- a crash leaves what it might before, but in block 0 perhaps version 2
+  pub cells : (b : ℕ) (c : Cell) → Contains (new.may b) c → WasOr (IsSuperCell (second before)) old b c
 
 -- neither a read that failed nor want of memory: a fault that block 0 has
 abbrev pub IsOfTable : UpgradeFault → Type 0

@@ -1,9 +1,9 @@
 -- What comes after a mount.
 use Rattle.std.proofs.Common.{◌≡◌, ◌⊎◌, ℕ, ◌<◌, inl, inr, IsTrue, List, sym, ◌∙◌, subst, subst₂, arith}
 use Rattle.std.proofs.lemmas.List.{ext_get_or}
-use Rattle.nofs_disk.specs.Disk.{DiskState, IsDisk, IsSettled, Picks, no_cell}
-use Rattle.nofs_model.specs.Cells.{Cell}
-use Rattle.nofs_model.specs.Image.{Image, cell_at}
+use Rattle.nofs_disk.specs.Disk.{DiskState, IsDisk, IsSettled, Picks, no_cell, cell_at}
+use Rattle.nofs_disk.specs.declared.tag.Cell.{Cell}
+use Rattle.nofs_model.specs.Geometry.{Image}
 use Rattle.nofs_crashlaw.specs.Lives.{SameOrUpgraded, Upgraded}
 use Rattle.nofs_upgrade.specs.Upgrades.{IsFoundOrSecond, IsSecond, StaysOrUpgrades}
 use Rattle.nofs_shared.specs.Laws.{IsOfUpgrade, LawKeptAfter, LawSettledAfter, LawUpgradedAfter, SameOrSecond}

@@ -3,15 +3,14 @@ use Rattle.std.proofs.Common.{◌≡◌, ℕ, ◌+◌, ◌<◌, ◌⊎◌, inl, 
 use Rattle.std.proofs.Common.{sym, ◌∙◌, subst, arith, le_refl}
 use Rattle.std.specs.List.{list_any}
 use Rattle.nofs_disk.specs.Disk.{DiskState, Picks}
-use Rattle.nofs_model.specs.Image.{Image}
+use Rattle.nofs_model.specs.Geometry.{Image}
 use Rattle.nofs_crashlaw.specs.Images.Moments.{AllExplained}
 use Rattle.nofs_crashlaw.specs.Images.Reasons.{IsMark}
 use Rattle.nofs_history.specs.Allowed.{IsAllowed}
-use Rattle.nofs_history.specs.History.{agreed_files, begun, files_along, mark, mark_at, values_given, metas_given}
-use Rattle.nofs_history.specs.History.{accepted_of, accepted_meta_of}
-use Rattle.nofs_history.specs.History.{last_in}
+use Rattle.nofs_history.specs.Since.{agreed_files, begun, files_along, mark, values_given, metas_given}
+use Rattle.nofs_history.specs.Marks.{mark_at, Mark}
+use Rattle.nofs_history.specs.Since.{accepted_of, accepted_meta_of, last_in}
 use Rattle.nofs_history.specs.Machine.{generation_of}
-use Rattle.nofs_history.specs.Marks.{Mark}
 use Rattle.nofs_history.specs.Meta.{is_gone}
 use Rattle.nofs_history.specs.declared.machine.history.Entry1.{Entry1}
 use Rattle.nofs_crashlaw.proofs.OnHistories.Entries.{allowed-image}

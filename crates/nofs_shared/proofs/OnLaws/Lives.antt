@@ -3,15 +3,16 @@ use Rattle.std.proofs.Math.Logic.{∥∥₁_elim, ∥∥₁_map, ∥∥₁_prop}
 use mathlib.Core.HLevel.{×_prop, Unit-prop, Π_prop, ¬_prop}
 use native.Mathlib.Bridge.{le_prop}
 use Rattle.std.proofs.Common.{◌≡◌, ◌≢◌, ℕ, suc, ◌+◌, ◌<◌, ◌≤◌, true, inl, inr, List, [], ◌∷◌, ◌++◌, append-nil, length}
-use Rattle.std.proofs.Common.{get_or, Contains, refl, sym, ap, ◌∙◌}
-use Rattle.std.proofs.Common.{subst, arith}
+use Rattle.std.proofs.Common.{get_or, Contains, refl, sym, ap, ◌∙◌, subst, arith}
 use Rattle.std.proofs.lemmas.Bool.{cases_lt}
 use Rattle.nofs_disk.specs.Disk.{DiskState, IsDisk, Picks}
-use Rattle.nofs_model.specs.Cells.{Record, is_null}
-use Rattle.nofs_model.specs.Image.{Image, inode, record_pointer}
+use Rattle.nofs_inode.specs.declared.inode.Record.{Record}
+use Rattle.nofs_disk.specs.Pointer.{is_null}
+use Rattle.nofs_model.specs.Geometry.{Image, inode}
+use Rattle.nofs_model.specs.Slots.{record_pointer}
 use Rattle.nofs_model.specs.declared.image.value.Value.{Value}
 use Rattle.nofs_model.specs.declared.image.value.Value.TheVariants.{Bytes}
-use Rattle.nofs_history.specs.History.{agreed_files, values_given}
+use Rattle.nofs_history.specs.Since.{agreed_files, values_given}
 use Rattle.nofs_history.specs.World.{World, world_of}
 use Rattle.nofs_history.specs.declared.machine.history.Entry1.{Entry1}
 use Rattle.nofs_crashlaw.specs.Lives.{GivenIn, IsLife, IsNew, Life, Lives, Raised, Rising, SameOrUpgraded, claimed_by}
@@ -22,8 +23,7 @@ use Rattle.nofs_crashlaw.proofs.OnLives.OnlySuper.{same-inode}
 use Rattle.nofs_crashlaw.proofs.OnLives.Values.{law-lives}
 use Rattle.nofs_crashlaw.proofs.OnHistories.Unflushed.{law-unflushed}
 use Rattle.nofs_shared.specs.Laws.{AreLives, GivenOver, IsBlank, IsOfRaise, LawMountContents, LawMountLives}
-use Rattle.nofs_shared.specs.Laws.{LawMountOnce, Leaves, Mount}
-use Rattle.nofs_shared.specs.Laws.{Mounts, claimed_over, base_of, life_in}
+use Rattle.nofs_shared.specs.Laws.{LawMountOnce, Leaves, Mount, Mounts, claimed_over, base_of, life_in}
 use Rattle.nofs_shared.proofs.OnLaws.After.{upgrade-again, upgraded-of}
 use Rattle.nofs_shared.proofs.OnLaws.OneMount.{Says, base-raised, found-picks, is-allowed, is-life, of-raise, says}
 

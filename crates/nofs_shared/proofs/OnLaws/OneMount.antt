@@ -1,15 +1,17 @@
 -- One mount: its life, what a crash inside its raise leaves, and what the next one finds.
 use Rattle.std.proofs.Math.Logic.{∥∥₁_elim, ∥∥₁_map, ∥∥₁_prop}
 use Rattle.std.proofs.Common.{◌≡◌, ◌≢◌, ℕ, ◌<◌, ◌≤◌, Bool, true, false, eqb, eqb-true, eq-eqb, inl, inr, IsTrue}
-use Rattle.std.proofs.Common.{Contains, length, set, refl, sym, ap, ◌∙◌}
-use Rattle.std.proofs.Common.{subst, arith}
+use Rattle.std.proofs.Common.{Contains, length, set, refl, sym, ap, ◌∙◌, subst, arith}
 use Rattle.std.proofs.lemmas.List.{get_or-set_same, get_or-set_other, length-set}
-use Rattle.nofs_disk.specs.Disk.{DiskState, IsDisk, Picks, no_cell}
+use Rattle.nofs_disk.specs.Disk.{DiskState, IsDisk, Picks, no_cell, cell_at}
 use Rattle.nofs_disk.specs.Adds.{WasOr}
 use Rattle.nofs_super.specs.Format.{super_cell}
 use Rattle.nofs_super.specs.Raise.{IsSuperCell, raised}
-use Rattle.nofs_model.specs.Cells.{Cell, SuperBlock}
-use Rattle.nofs_model.specs.Image.{Image, cell_at, super_at, super_in, IsSound}
+use Rattle.nofs_disk.specs.declared.tag.Cell.{Cell}
+use Rattle.nofs_super.specs.declared.superblock.SuperBlock.{SuperBlock}
+use Rattle.nofs_model.specs.Geometry.{Image, super_at}
+use Rattle.nofs_super.specs.Super.{super_in}
+use Rattle.nofs_model.specs.Sound.{IsSound}
 use Rattle.nofs_history.specs.Allowed.{IsAllowed}
 use Rattle.nofs_history.specs.Next.{Run}
 use Rattle.nofs_history.specs.World.{world_of}
@@ -18,8 +20,7 @@ use Rattle.nofs_crashlaw.proofs.OnLives.Begin.{law-upgraded}
 use Rattle.nofs_shared.specs.Mount.End.{Contents}
 use Rattle.nofs_shared.specs.Mount.Invariant.{IsFound, IsSoundDisk}
 use Rattle.nofs_shared.specs.Laws.{ComesAfter, IsOfRaise, LawFoundSound, LawInRaise, LawMountLife, LawNextMount}
-use Rattle.nofs_shared.specs.Laws.{Leaves, Mount, SameOrSecond}
-use Rattle.nofs_shared.specs.Laws.{base_of, life_in}
+use Rattle.nofs_shared.specs.Laws.{Leaves, Mount, SameOrSecond, base_of, life_in}
 use Rattle.nofs_shared.proofs.OnMount.Raised.{has-cell, is-raised, raised-of, some}
 
 super-same : (X Y : Image) → cell_at Y 0 ≡ cell_at X 0 → super_at Y ≡ super_at X

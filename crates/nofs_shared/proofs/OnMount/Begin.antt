@@ -11,9 +11,13 @@ use Rattle.nofs_super.specs.Format.{super_cell, super_payload}
 use Rattle.nofs_super.specs.Geometry.{IsGeometry}
 use Rattle.nofs_super.specs.Raise.{IsRaised, IsSuperCell, raised}
 use Rattle.nofs_super.specs.Spelling.{super_of-payload}
-use Rattle.nofs_super.specs.Super.{CanMount, super_of}
-use Rattle.nofs_model.specs.Cells.{Cell, SuperBlock, tag_of}
-use Rattle.nofs_model.specs.Image.{Image, cell_at, super_at, super_in, is_super, is_mountable, IsSound, IsBelow}
+use Rattle.nofs_super.specs.Super.{CanMount, super_of, super_in, is_super}
+use Rattle.nofs_disk.specs.declared.tag.Cell.{Cell}
+use Rattle.nofs_super.specs.declared.superblock.SuperBlock.{SuperBlock}
+use Rattle.nofs_disk.specs.Tag.{tag_of}
+use Rattle.nofs_model.specs.Geometry.{Image, super_at, is_mountable}
+use Rattle.nofs_disk.specs.Disk.{cell_at}
+use Rattle.nofs_model.specs.Sound.{IsSound, IsBelow}
 use Rattle.nofs_model.proofs.OnGeometry.Super.{Spells, spells, super-tag, version-small}
 use Rattle.nofs_history.specs.Allowed.{IsAllowed}
 use Rattle.nofs_history.specs.World.{world_of}
@@ -26,8 +30,11 @@ use Rattle.nofs_state.specs.declared.books.maps.Books.{Books}
 use Rattle.nofs_state.specs.Cores.Beginning.{HasBegun, first_past}
 use Rattle.nofs_history.specs.declared.machine.history.Entry1.{Entry1}
 use Rattle.nofs_shared.proofs.OnLaws.Images.{rests-at}
-use Rattle.nofs_shared.specs.Mount.Forms.{Forms, faults_in}
+use Rattle.nofs_shared.specs.Mount.Images.{ImagesAlong}
+use Rattle.nofs_history.specs.Since.{agreed_files}
+use Rattle.nofs_shared.specs.Mount.Forms.{ExactCalls, Forms, faults_in}
 use Rattle.nofs_shared.specs.Mount.Invariant.{IsFound, IsMount, IsMounted, IsSoundDisk}
+use Rattle.nofs_shared.proofs.OnMount.Images.{of-open}
 
 -- What a superblock's cell spells
 
@@ -256,12 +263,16 @@ begin-mount found old new it at first k is_old is_new disk past cells can spelle
                 ∙ ap (λ (X : Image). raised (super_at X)) cells.now;
             now = subst (λ (H : List Entry1). IsOpen new k H (first_past new first)
                 ⊎ IsStopped new k H (first_past new first)) (sym begun.empty) (inl opened);
+            calls = subst₂ (λ (n : ℕ) (H : List Entry1). ExactCalls (agreed_files new.now) n new.moment H)
+                (sym begun.start) (sym begun.empty) (record { all = λ none. omega arith; most = omega arith });
             rests = subst (λ (H : List Entry1). (X : Image) → Picks new.may new.blocks X
                 → IsAllowed new.now H new.moment X)
                 (sym begun.empty)
                 (rests-at new.now []
                 (first_past new first).mark (first_past new first).stamps k.history.start new refl tt
                 opened.stage.lasts);
+            along = subst (λ (H : List Entry1). ImagesAlong new.now H new.now) (sym begun.empty) refl;
+            machine = λ only. of-open new k [] (first_past new first) opened;
             sound = subst (λ (n : ℕ). Sounds n new) cells.moment (sounds-raised old new it is_old can adds o sp);
           };
     }

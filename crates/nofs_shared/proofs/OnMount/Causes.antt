@@ -1,16 +1,22 @@
 -- Why a step of a mount was refused: what its step function says, whatever becomes of the history.
-use Rattle.std.proofs.Common.{◌≡◌, ℕ, ◌⊎◌, inl, inr, Bool, true, IsTrue, refl, sym, ap, subst, arith}
+use Rattle.std.proofs.Common.{◌≡◌, ℕ, ◌⊎◌, inl, inr, Bool, true, IsTrue, List, [], ◌∷◌, length, eqb-true, eq-eqb}
+use Rattle.std.proofs.Common.{refl, sym, ap, ◌∙◌, subst, arith}
 use Rattle.std.proofs.Math.Logic.{∥∥₁_elim, ∥∥₁_prop}
 use mathlib.Core.Bool.{Bool-set}
-use Rattle.nofs_disk.specs.Cells.{same_cell, same_cell-refl, same_cell-true}
-use Rattle.nofs_model.specs.Cells.{Cell}
+use Rattle.nofs_disk.specs.declared.tag.Cell.{Cell}
 use Rattle.nofs_disk.specs.Disk.{DiskState, KeepsCells}
 use Rattle.nofs_disk.specs.Chains.{KeepsCells-refl}
+use Rattle.nofs_disk.specs.Order.{IsApart, WritesOnce}
+use Rattle.nofs_model.specs.Files.{Files}
+use Rattle.nofs_model.specs.Geometry.{Image}
+use Rattle.nofs_history.specs.Since.{agreed_files, files_along}
+use Rattle.nofs_history.specs.Writes.{cells_written}
 use Rattle.nofs_history.specs.HistoryState.{HistoryState}
 use Rattle.nofs_history.specs.declared.machine.replies.Refusal.TheVariants as refusal
 use Rattle.nofs_history.specs.declared.machine.replies.Reply.{Reply}
 use Rattle.nofs_history.specs.declared.machine.replies.Reply.TheVariants as reply
 use Rattle.nofs_history.specs.declared.machine.history.Claims.{Claims}
+use Rattle.nofs_history.specs.declared.machine.history.Entry1.{Entry1}
 use Rattle.nofs_history.specs.declared.machine.steps.Step.{Step}
 use Rattle.nofs_history.specs.declared.machine.steps.Step.TheVariants as step
 use Rattle.nofs_history.specs.Claims.{no_claims}
@@ -77,20 +83,41 @@ causes-unroomed d k h = record {
 
 -- What a step did to the device
 
--- two cells are one where that is known to have a proof
-one-known : (c d : Cell) → ∥ c ≡ d ∥₁ → c ≡ d
-one-known c d known = same_cell-true c d
-    (∥∥₁_elim known (Bool-set _ _) (λ e. subst (λ (x : Cell). same_cell c x ≡ true) e (same_cell-refl c)))
+-- what has at most one proof is so where it is known to have one
+bottom : (a b : ⊥) → a ≡ b
+bottom a b = absurd a
 
--- each block gets one cell where it is known that the device tells
-order-known : (old new : DiskState) (P Q : Type 0) (s : Step) (c : Claims) (r : Reply) → (Q → ∥ P ∥₁)
+apart-known : (ws : List (ℕ × Cell)) (b : ℕ) → ∥ IsApart ws b ∥₁ → IsApart ws b
+apart-known [] b known = tt
+apart-known (w ∷ ws) b known = (
+  λ e. ∥∥₁_elim known bottom (λ a. a.0 e),
+  apart-known ws b (∥∥₁_elim known ∥∥₁_prop (λ a. ∣ a.1 ∣₁)),
+)
+
+once-known : (ws : List (ℕ × Cell)) → ∥ WritesOnce ws ∥₁ → WritesOnce ws
+once-known [] known = tt
+once-known (w ∷ ws) known = (
+  apart-known ws w.0 (∥∥₁_elim known ∥∥₁_prop (λ a. ∣ a.0 ∣₁)),
+  once-known ws (∥∥₁_elim known ∥∥₁_prop (λ a. ∣ a.1 ∣₁)),
+)
+
+number-known : (a b : ℕ) → ∥ a ≡ b ∥₁ → a ≡ b
+number-known a b known = eqb-true a b (∥∥₁_elim known (Bool-set _ _) (λ e. eq-eqb a b e))
+
+-- a step owes the same where it is known that the device tells
+order-known : (old new : DiskState) (P Q : Files → Type 0) (s : Step) (c : Claims) (r : Reply)
+    → ((F : Files) → Q F → ∥ P F ∥₁)
     → NoOrder old new P s c r → NoOrder old new Q s c r
 order-known old new P Q s c r known (LeavesDisk none cells) = LeavesDisk none cells
 order-known old new P Q s c r known (FlushesAlone is quick f) = FlushesAlone is quick f
 order-known old new P Q s c r known (WritesAlone made w) = WritesAlone made (record {
   row = w.row;
   count = w.count;
-  one_each = λ q b x y one two. one-known x y (∥∥₁_elim (known q) ∥∥₁_prop (λ p. ∣ w.one_each p b x y one two ∣₁));
+  told = λ F q. record {
+    once = once-known w.row (∥∥₁_elim (known F q) ∥∥₁_prop (λ p. ∣ (w.told F p).once ∣₁));
+    exact = number-known (length w.row) (cells_written F s c)
+        (∥∥₁_elim (known F q) ∥∥₁_prop (λ p. ∣ (w.told F p).exact ∣₁));
+  };
   calls = w.calls;
   first = w.first;
   whole = w.whole;
@@ -98,44 +125,56 @@ order-known old new P Q s c r known (WritesAlone made w) = WritesAlone made (rec
 })
 
 -- an open mount over a disk that was found sound; room was taken for the entry before
-pub order-sound : (found old new : DiskState) (first : ℕ) (k : Books) (s : Step) (r : Reply) (h : HistoryState)
+pub order-sound : (found old new : DiskState) (first : ℕ) (k : Books) (s : Step) (r : Reply) (K : List Entry1)
+    (h : HistoryState)
     → h.start ≡ k.history.start
-    → ∥ IsMount found old first k ∥₁ → StepOrder old new (MeetsOpen old (record k { history = h })) s r
-    → StepOrder old new (MeetsSound found k) s r
-order-sound found old new first k s r h start stands o = record {
+    → ∥ IsMount found old first k ∥₁ → StepOrder old new (MeetsOpen old (record k { history = h })) s r K
+    → StepOrder old new (MeetsSound found old k) s r K
+order-sound found old new first k s r K h start stands o = record {
   claims = o.claims;
-  order = order-known old new (MeetsOpen old (record k { history = h })) (MeetsSound found k) s o.claims r
-      (λ q. ∥∥₁_elim stands ∥∥₁_prop (λ m. ∣ meets q m ∣₁)) o.order;
+  entry = o.entry;
+  order = order-known old new (MeetsOpen old (record k { history = h })) (MeetsSound found old k) s o.claims r
+      (λ F q. ∥∥₁_elim stands ∥∥₁_prop (λ m. ∣ meets F q m ∣₁)) o.order;
 }
   where
-    meets : MeetsSound found k → IsMount found old first k → MeetsOpen old (record k { history = h })
-    meets q m = go (m.stands q.0).past (m.stands q.0).now
+    meets : (F : Files) → MeetsSound found old k F → IsMount found old first k
+        → MeetsOpen old (record k { history = h }) F
+    meets F q m = go (m.stands q.0).past (m.stands q.0).base (m.stands q.0).now
       where
         told : IsTrue old.tells
         told = subst (λ (b : Bool). IsTrue b) (sym m.disk.tells) q.0.tells
 
-        go : (p : Past) → IsOpen old k k.history.entries p ⊎ IsStopped old k k.history.entries p
-            → MeetsOpen old (record k { history = h })
-        go p (inl o) = (k.history.entries, p, told, open-with old k h start k.history.entries p o)
-        go p (inr o) = absurd (let t = o.stopped in let g = q.1 in cc (t, g))
+        go : (p : Past) → p.base ≡ old.was k.history.start
+            → IsOpen old k k.history.entries p ⊎ IsStopped old k k.history.entries p
+            → MeetsOpen old (record k { history = h }) F
+        go p base (inl o) = (
+          k.history.entries,
+          p,
+          told,
+          open-with old k h start k.history.entries p o,
+          o.files ∙ ap (λ (B : Image). files_along (agreed_files B) k.history.entries) base ∙ sym q.2,
+        )
+        go p base (inr o) = absurd (let t = o.stopped in let g = q.1 in cc (t, g))
 
 -- there was no room for the entry
-pub order-unroomed : (d : DiskState) (P : Type 0) (s : Step) → StepOrder d d P s (reply.Refused refusal.OutOfMemory)
-order-unroomed d P s = record { claims = no_claims; order = LeavesDisk refl (KeepsCells-refl d) }
+pub order-unroomed : (d : DiskState) (P : Files → Type 0) (s : Step) (K : List Entry1)
+    → StepOrder d d P s (reply.Refused refusal.OutOfMemory) K
+order-unroomed d P s K = record { claims = no_claims; entry = λ e. cc; order = LeavesDisk refl (KeepsCells-refl d) }
 
 -- a step that examines an element leaves the device
-pub see-leaves : (old new : DiskState) (P : Type 0) (s : Step) (r : Reply) → is_see s ≡ true → StepOrder old new P s r
+pub see-leaves : (old new : DiskState) (P : Files → Type 0) (s : Step) (r : Reply) (K : List Entry1) → is_see s ≡ true
+    → StepOrder old new P s r K
     → KeepsCells old new
-see-leaves old new P (step.SeeInode i) r e o = go o.order
+see-leaves old new P (step.SeeInode i) r K e o = go o.order
   where
     go : NoOrder old new P (step.SeeInode i) o.claims r → KeepsCells old new
     go (LeavesDisk none cells) = cells
     go (FlushesAlone is quick f) = absurd (cc is)
     go (WritesAlone made w) = absurd w.count
-see-leaves old new P (step.SeeBlock b) r e o = go o.order
+see-leaves old new P (step.SeeBlock b) r K e o = go o.order
   where
     go : NoOrder old new P (step.SeeBlock b) o.claims r → KeepsCells old new
     go (LeavesDisk none cells) = cells
     go (FlushesAlone is quick f) = absurd (cc is)
     go (WritesAlone made w) = absurd w.count
-see-leaves old new P _ r e o = absurd (cc e)
+see-leaves old new P _ r K e o = absurd (cc e)

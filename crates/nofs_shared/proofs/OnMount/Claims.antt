@@ -4,8 +4,10 @@ use Rattle.std.proofs.Common.{Contains, Option, Some, None, is_some}
 use Rattle.std.proofs.Common.{IsTrue, ◌⊎◌, inl, inr, refl, sym, ap, ◌∙◌, subst, arith}
 use Rattle.std.proofs.lemmas.Bool.{cases_lt}
 use Rattle.nofs_disk.specs.Disk.{DiskState}
-use Rattle.nofs_model.specs.Cells.{Pointer, SuperBlock}
-use Rattle.nofs_model.specs.Image.{Image, Home, owner}
+use Rattle.nofs_disk.specs.declared.tag.Pointer.{Pointer}
+use Rattle.nofs_super.specs.declared.superblock.SuperBlock.{SuperBlock}
+use Rattle.nofs_model.specs.Geometry.{Image}
+use Rattle.nofs_model.specs.Owners.{Home, owner}
 use Rattle.nofs_history.specs.Machine.{is_write_fault}
 use Rattle.nofs_history.specs.World.{World, is_free_block, is_fixed}
 use Rattle.nofs_history.specs.Claims.{claimed_blocks, no_claims}
@@ -32,7 +34,7 @@ no-home W p free = go (W.known_blocks p) (is_fixed W p) (W.homes p) free
     go true false (Some h) e = cc
     go false b (Some h) e = cc
 
-open-unowned : (d : DiskState) (k : Books) (H : List Entry1) (p : Past) (b : ℕ) → IsOpen d k H p
+pub open-unowned : (d : DiskState) (k : Books) (H : List Entry1) (p : Past) (b : ℕ) → IsOpen d k H p
     → is_free_block p.world b ≡ true → owner d.now b ≡ None
 open-unowned d k H p b o free = elim (cases_lt b p.world.blocks) [
   | inl low ↦ sym (o.homes b low) ∙ no-home p.world b free
@@ -40,14 +42,14 @@ open-unowned d k H p b o free = elim (cases_lt b p.world.blocks) [
       (let e = ap (λ (q : SuperBlock). q.blocks) o.at in let s = o.says.blocks in omega (arith, past, e, s))
 ]
 
-stopped-none : (W V : World) (e : Entry1) → W.stopped ≡ true → Next W e V → e.claims ≡ no_claims
+pub stopped-none : (W V : World) (e : Entry1) → W.stopped ≡ true → Next W e V → e.claims ≡ no_claims
 stopped-none W V e t (AfterFault a b c d) = c
 stopped-none W V e t (ByRow why a b c d f g h) = d
 stopped-none W V e t (Done a b c d f g h i j) = absurd (cc (t, a))
 stopped-none W V e t (ByRead a b c d f g h) = d
 stopped-none W V e t (ByWrite a b c d f g h i) = absurd (cc (t, a))
 
-none-claimed : (x : Pointer) → Contains (claimed_blocks no_claims) x → ⊥
+pub none-claimed : (x : Pointer) → Contains (claimed_blocks no_claims) x → ⊥
 none-claimed x has = let low = has.1 in omega (arith, low)
 
 last-is : (H : List Entry1) (e f : Entry1) → H ++ e ∷ [] ≡ H ++ f ∷ [] → e ≡ f

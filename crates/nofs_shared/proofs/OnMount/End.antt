@@ -4,8 +4,9 @@ use Rattle.std.proofs.Common.{inr, refl, ap, ◌∙◌, subst, arith}
 use Rattle.nofs_disk.specs.Disk.{DiskState}
 use Rattle.nofs_disk.specs.Moments.{AtEach}
 use Rattle.nofs_super.specs.Format.{super_cell}
-use Rattle.nofs_model.specs.Cells.{Pointer, SuperBlock}
-use Rattle.nofs_model.specs.Image.{Image}
+use Rattle.nofs_disk.specs.declared.tag.Pointer.{Pointer}
+use Rattle.nofs_super.specs.declared.superblock.SuperBlock.{SuperBlock}
+use Rattle.nofs_model.specs.Geometry.{Image}
 use Rattle.nofs_history.specs.World.{World, world_of, is_free_inode, inodes_needed}
 use Rattle.nofs_history.specs.Claims.{claimed_blocks, no_claims, next_stamp, IsClaim, IsInodeClaim, ClaimedInode}
 use Rattle.nofs_history.specs.Claims.{NoInode}
@@ -79,9 +80,12 @@ mount-ends found d first k m = record {
         before = subst (λ (q : SuperBlock). (n : ℕ) (X : Image) → found.moment ≤ n → n ≤ k.history.start → d.left n X
             → IsFound q found X)
             s.raised m.mounted.before;
+        calls = s.calls;
         claims = λ before after e is. run-claims before k.history.start
             (world_of s.past.base first) s.past.world e after
             (subst (λ (H : List Entry1). Run k.history.start (world_of s.past.base first) H s.past.world) is w);
+        along = s.along;
+        machine = s.machine;
         sound = s.sound.images.each;
         next = s.sound.picks;
       };

@@ -1,23 +1,26 @@
 -- What a format leaves is sound, and blank.
 use Rattle.std.proofs.Common.{◌≡◌, ◌≢◌, ℕ, zero, suc, ◌+◌, ◌-◌, ◌/◌, ◌%◌, ◌<◌, Bool, true, false, cond, eqb, leb}
-use Rattle.std.proofs.Common.{eqb-true, List, [], ◌∷◌, length, get_or}
-use Rattle.std.proofs.Common.{drop, refl, sym, ap, ◌∙◌, subst, arith}
+use Rattle.std.proofs.Common.{eqb-true, List, [], ◌∷◌, length, get_or, drop, refl, sym, ap, ◌∙◌, subst, arith}
 use Rattle.std.specs.Prelude.{is_none}
 use Rattle.std.specs.List.{list_all}
 use Rattle.std.proofs.lemmas.Bool.{and_parts, leb-true}
 use Rattle.std.proofs.lemmas.List.{get_or_append_left}
-use Rattle.nofs_disk.specs.Disk.{DiskState, no_cell}
-use Rattle.nofs_disk.specs.Number.{put_number, zeros}
+use Rattle.nofs_disk.specs.Disk.{DiskState, no_cell, cell_at}
+use Rattle.nofs_disk.specs.Number.{put_number, zeros, number_at}
 use Rattle.nofs_disk.specs.Tag.{zero_cell}
 use Rattle.nofs_super.specs.Format.{IsFormatted, cell_at-formatted, first_records, formatted, formatted_cell}
-use Rattle.nofs_super.specs.Format.{fresh_super, length-first_formatted, super_cell}
-use Rattle.nofs_super.specs.Format.{super_payload, table_cell}
+use Rattle.nofs_super.specs.Format.{fresh_super, length-first_formatted, super_cell, super_payload, table_cell}
 use Rattle.nofs_super.specs.Geometry.{IsGeometry, is_geometry, is_geometry-parts}
 use Rattle.nofs_super.specs.Spelling.{super_of-payload}
-use Rattle.nofs_model.specs.Cells.{Cell, Pointer, Record, SuperBlock, fields_in, free_record, is_null, link_in, null}
-use Rattle.nofs_model.specs.Cells.{number_at, pointer_in}
-use Rattle.nofs_model.specs.Cells.{record_at, record_of}
-use Rattle.nofs_model.specs.Image.{Image, cell_at, inode, is_inode, record_pointer, super_at, super_in}
+use Rattle.nofs_disk.specs.declared.tag.Cell.{Cell}
+use Rattle.nofs_disk.specs.declared.tag.Pointer.{Pointer}
+use Rattle.nofs_inode.specs.declared.inode.Record.{Record}
+use Rattle.nofs_super.specs.declared.superblock.SuperBlock.{SuperBlock}
+use Rattle.nofs_inode.specs.InodeRecords.{fields_in, free_record, link_in, record_at, record_of}
+use Rattle.nofs_disk.specs.Pointer.{is_null, null, pointer_in}
+use Rattle.nofs_model.specs.Geometry.{Image, inode, is_inode, super_at}
+use Rattle.nofs_model.specs.Slots.{record_pointer}
+use Rattle.nofs_super.specs.Super.{super_in}
 use Rattle.nofs_model.proofs.OnSound.Writes.{mountable-law}
 use Rattle.nofs_model.proofs.OnGeometry.Super.{spells}
 use Rattle.nofs_shared.specs.Laws.{IsBlank, LawFirstDisk}

@@ -1,12 +1,13 @@
 -- The form of a history with one more entry, and what the calls of its entries come to.
 use Rattle.std.proofs.Common.{◌≡◌, ℕ, ◌+◌, ◌-◌, ◌*◌, ◌^◌, ◌≤◌, min, Bool, true, false, ◌||◌, cond, List, [], ◌∷◌, ◌++◌}
-use Rattle.std.proofs.Common.{length, ◌⊎◌, inl, inr, refl, sym, ap}
-use Rattle.std.proofs.Common.{◌∙◌, subst, subst₂, arith}
+use Rattle.std.proofs.Common.{length, ◌⊎◌, inl, inr, refl, sym, ap, ◌∙◌, subst, subst₂, arith}
 use Rattle.nofs_disk.specs.Disk.{DiskState, IsSameDisk}
 use Rattle.nofs_disk.specs.Chains.{IsSameDisk-refl}
 use Rattle.nofs_history.specs.Allowed.{IsAllowed}
-use Rattle.nofs_history.specs.History.{is_flushed}
-use Rattle.nofs_history.specs.Machine.{is_write_fault, is_refused, is_fault}
+use Rattle.nofs_history.specs.History.{NoWriteFault}
+use Rattle.nofs_history.specs.Since.{is_flushed, agreed_files, files_along}
+use Rattle.nofs_model.specs.Files.{Files}
+use Rattle.nofs_history.specs.Machine.{files_by, is_write_fault, is_refused, is_fault}
 use Rattle.nofs_history.specs.Next.{takes_time}
 use Rattle.nofs_history.specs.Steps.{is_out_of_memory}
 use Rattle.nofs_history.specs.HistoryState.{HistoryState}
@@ -20,13 +21,15 @@ use Rattle.nofs_history.specs.declared.machine.replies.Refusal.TheVariants as re
 use Rattle.nofs_state.specs.Books.Maps.{IsSafe, with_history}
 use Rattle.nofs_state.specs.Cores.Invariant.{IsOpen, IsStopped, Past}
 use Rattle.nofs_state.specs.Cores.Steps.{FlushesAlone, LeavesDisk, MeetsOpen}
-use Rattle.nofs_state.specs.Cores.Steps.{NoOrder, WritesAlone, WritesSoMany, entry}
-use Rattle.nofs_state.specs.Cores.Steps.{is_flush, makes_calls}
+use Rattle.nofs_state.specs.Cores.Steps.{NoOrder, WritesAlone, entry}
+use Rattle.nofs_history.specs.Writes.{WritesSoMany, cells_along, cells_written, entry_cells, is_flush, makes_calls}
 use Rattle.nofs_state.specs.declared.books.maps.Books.{Books}
 use Rattle.nofs_state.proofs.OnBooks.Safe.{safe-over}
 use Rattle.nofs_state.proofs.OnCores.Rows.{open-with, stopped-with}
 use Rattle.nofs_turn.proofs.OnLists.Words.{prefix_length}
-use Rattle.nofs_shared.specs.Mount.Forms.{Cells, Forms, IsNextEntry, NoCell, OnlyCalls, Wrote, flushes_of, faults_in}
+use Rattle.nofs_shared.specs.Mount.Images.{ImagesAlong, OnlyFlushesFailed}
+use Rattle.nofs_shared.specs.Mount.Forms.{Cells, ExactCalls, Forms, IsNextEntry, NoCell, OnlyCalls, Wrote, flushes_in}
+use Rattle.nofs_shared.specs.Mount.Forms.{flushes_of, faults_in}
 use Rattle.nofs_shared.specs.Mount.Invariant.{IsMount, IsMounted}
 
 -- The same books with another history
@@ -53,6 +56,10 @@ mount-history found d first k h start entries m = record {
         ⊎ IsStopped d (record k { history = h }) H s.past) (sym entries)
         (go s.past s.now);
     sound = s.sound;
+    along = subst (λ (H : List Entry1). ImagesAlong s.past.base H d.now) (sym entries) s.along;
+    machine = λ only. s.machine (subst (λ (H : List Entry1). OnlyFlushesFailed H) entries only);
+    calls = subst₂ (λ (n : ℕ) (H : List Entry1). ExactCalls (agreed_files s.past.base) n d.moment H)
+        (sym start) (sym entries) s.calls;
     rests = λ X p. subst (λ (H : List Entry1). IsAllowed s.past.base H d.moment X) (sym entries) (s.rests X p);
   };
 }
@@ -168,4 +175,71 @@ only-calls (e ∷ H) m b n c f =
       wrote = (f.0.cells, rest.cells, f.0.wrote, rest.wrote, refl);
       moment = (let from = f.0.from in let took = f.0.took in let more = rest.moment in
           omega (arith, from, took, more));
+    }
+
+-- The calls of an entry, by the machine's files before it
+
+pub record EntryCalls (F : Files) (from to : ℕ) (e : Entry1) : Type 0 where
+  pub all : is_write_fault e.reply ≡ false → to ≡ from + 2 * entry_cells F e + 2 * flushes_of e
+  pub most : to ≤ from + 2 * entry_cells F e + 2 * flushes_of e
+
+flush-none : (F : Files) (s : Step) (c : Claims) → is_flush s ≡ true → cells_written F s c ≡ 0
+flush-none F (step.Flush i g) c e = refl
+flush-none F _ c e = cc
+
+either-none : (b : Bool) (n : ℕ) → n ≡ 0 → cond b n 0 ≡ 0
+either-none true n e = e
+either-none false n e = refl
+
+pub entry-calls : (old new : DiskState) (k : Books) (caller : ℕ) (s : Step) (c : Claims) (r : Reply) (F : Files)
+    → NoOrder old new (MeetsOpen old k) s c r → MeetsOpen old k F ⊎ (r ≡ reply.Refused refusal.Stopped)
+    → EntryCalls F old.moment new.moment (entry caller old new s c r)
+entry-calls old new k caller s c r F (LeavesDisk none cells) met =
+    let m = cells.moment in
+    let f : flushes_of (entry caller old new s c r) ≡ 0 = let t = quick r none in rw t refl in
+    let n : entry_cells F (entry caller old new s c r) ≡ 0 = rw none refl in
+    record { all = λ e. omega (arith, m, f, n); most = omega (arith, m, f, n) }
+entry-calls old new k caller s c r F (FlushesAlone is late f) met =
+    let m = f.moment in
+    let o : flushes_of (entry caller old new s c r) ≡ 1 = rw (late, is) refl in
+    let n : entry_cells F (entry caller old new s c r) ≡ 0 =
+    either-none (makes_calls r) (cells_written F s c) (flush-none F s c is) in
+    record { all = λ e. omega (arith, m, o, n); most = omega (arith, m, o, n) }
+entry-calls old new k caller s c r F (WritesAlone made w) met =
+    let m = w.only.moment in
+    let f : flushes_of (entry caller old new s c r) ≡ 0 =
+    no-flushes (takes_time r) (is_flush s) (no-flush s c (length w.row) w.count) in
+    let n : entry_cells F (entry caller old new s c r) ≡ length w.row = rw made (sym (exact met)) in
+    let short = prefix_length w.calls w.row w.first in
+    record {
+      all = λ e. let whole : length w.calls ≡ length w.row = ap length (w.whole e) in omega (arith, m, f, n, whole);
+      most = omega (arith, m, f, n, short);
+    }
+  where
+    exact : MeetsOpen old k F ⊎ (r ≡ reply.Refused refusal.Stopped) → length w.row ≡ cells_written F s c
+    exact (inl open_now) = (w.told F open_now).exact
+    exact (inr stopped) = absurd (let z = ap makes_calls stopped in cc (z, made))
+
+cells-more : (F : Files) (H : List Entry1) (e : Entry1)
+    → cells_along F (H ++ e ∷ []) ≡ cells_along F H + entry_cells (files_along F H) e
+cells-more F [] e = omega arith
+cells-more F (x ∷ H) e = let r = cells-more (files_by F x) H e in omega (arith, r)
+
+flushes-more : (H : List Entry1) (e : Entry1) → flushes_in (H ++ e ∷ []) ≡ flushes_in H + flushes_of e
+flushes-more [] e = omega arith
+flushes-more (x ∷ H) e = let r = flushes-more H e in omega (arith, r)
+
+none-before : (H : List Entry1) (e : Entry1) → NoWriteFault (H ++ e ∷ [])
+    → NoWriteFault H × (is_write_fault e.reply ≡ false)
+none-before [] e none = (tt, none.0)
+none-before (x ∷ H) e none = let r = none-before H e none.1 in ((none.0, r.0), r.1)
+
+pub calls-more : (F : Files) (H : List Entry1) (from mid : ℕ) (e : Entry1) (to : ℕ) → ExactCalls F from mid H
+    → EntryCalls (files_along F H) mid to e → ExactCalls F from to (H ++ e ∷ [])
+calls-more F H from mid e to was more =
+    let c = cells-more F H e in let f = flushes-more H e in
+    record {
+      all = λ none.
+          let n = none-before H e none in let a = was.all n.0 in let b = more.all n.1 in omega (arith, c, f, a, b);
+      most = (let a = was.most in let b = more.most in omega (arith, c, f, a, b));
     }

@@ -51,6 +51,9 @@ mount-knows found d first k known learns m = record {
         | inr e ↦ inr (stopped-knows d k known k.history.entries s.past e)
       ];
       sound = s.sound;
+      along = s.along;
+      machine = s.machine;
+      calls = s.calls;
       rests = s.rests;
     }
 

@@ -3,13 +3,16 @@ use Rattle.std.proofs.Common.{◌≡◌, ◌≢◌, ℕ, ◌<◌, true, ◌&&◌
 use Rattle.std.specs.Prelude.{is_none, slice_set}
 use Rattle.std.proofs.lemmas.Bool.{and_parts}
 use Rattle.std.proofs.lemmas.List.{get_or-set_same, get_or-set_other, length-set}
-use Rattle.nofs_disk.specs.Disk.{no_cell}
+use Rattle.nofs_disk.specs.Disk.{no_cell, cell_at}
 use Rattle.nofs_super.specs.Format.{super_cell, super_payload}
 use Rattle.nofs_super.specs.Raise.{raised}
 use Rattle.nofs_super.specs.Spelling.{super_of-payload}
-use Rattle.nofs_super.specs.Super.{has_magic, is_version, rest_fault}
-use Rattle.nofs_model.specs.Cells.{Cell, SuperBlock, tag_of}
-use Rattle.nofs_model.specs.Image.{Image, cell_at, super_at, super_in, is_super, IsSound}
+use Rattle.nofs_super.specs.Super.{has_magic, is_version, rest_fault, super_in, is_super}
+use Rattle.nofs_disk.specs.declared.tag.Cell.{Cell}
+use Rattle.nofs_super.specs.declared.superblock.SuperBlock.{SuperBlock}
+use Rattle.nofs_disk.specs.Tag.{tag_of}
+use Rattle.nofs_model.specs.Geometry.{Image, super_at}
+use Rattle.nofs_model.specs.Sound.{IsSound}
 use Rattle.nofs_model.proofs.OnSound.Writes.{mountable-law}
 use Rattle.nofs_model.proofs.OnGeometry.Super.{Spells, spells, version-small, super-tag}
 use Rattle.nofs_crashlaw.specs.Lives.{HasSuperCell, Raised}

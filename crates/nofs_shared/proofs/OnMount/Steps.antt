@@ -1,14 +1,14 @@
 -- A mount stands after each step.
 use Rattle.std.proofs.Common.{◌≡◌, ℕ, ◌+◌, ◌-◌, ◌^◌, ◌<◌, ◌≤◌, min, Bool, true, false, ◌||◌, cond, List, [], ◌∷◌, ◌++◌}
-use Rattle.std.proofs.Common.{IsTrue, ◌⊎◌, inl, inr, refl, sym, ap}
-use Rattle.std.proofs.Common.{◌∙◌, subst, subst₂, arith, le_refl}
+use Rattle.std.proofs.Common.{IsTrue, ◌⊎◌, inl, inr, refl, sym, ap, ◌∙◌, subst, subst₂, arith, le_refl}
 use Rattle.std.proofs.lemmas.Bool.{cases_lt}
 use Rattle.nofs_disk.specs.Disk.{DiskState, IsSameDisk, KeepsCells, Picks, Rose}
 use Rattle.nofs_disk.specs.Chains.{IsSameDisk-trans}
-use Rattle.nofs_model.specs.Cells.{Cell, SuperBlock}
-use Rattle.nofs_model.specs.Image.{Image}
+use Rattle.nofs_disk.specs.declared.tag.Cell.{Cell}
+use Rattle.nofs_super.specs.declared.superblock.SuperBlock.{SuperBlock}
+use Rattle.nofs_model.specs.Geometry.{Image}
 use Rattle.nofs_history.specs.Allowed.{IsAllowed}
-use Rattle.nofs_history.specs.History.{is_flushed}
+use Rattle.nofs_history.specs.Since.{is_flushed, agreed_files, files_along}
 use Rattle.nofs_history.specs.Machine.{is_write_fault, is_fault}
 use Rattle.nofs_history.specs.Next.{takes_time}
 use Rattle.nofs_history.specs.Steps.{is_out_of_memory}
@@ -17,22 +17,25 @@ use Rattle.nofs_history.specs.declared.machine.history.Claims.{Claims}
 use Rattle.nofs_history.specs.declared.machine.history.Entry1.{Entry1}
 use Rattle.nofs_history.specs.declared.machine.steps.Step.{Step}
 use Rattle.nofs_history.specs.declared.machine.replies.Reply.{Reply}
+use Rattle.nofs_history.specs.declared.machine.replies.Reply.TheVariants as reply
+use Rattle.nofs_history.specs.declared.machine.replies.Refusal.TheVariants as refusal
 use Rattle.nofs_crashlaw.specs.Histories.Stage.{AllBy}
 use Rattle.nofs_state.specs.Books.Maps.{IsSafe}
 use Rattle.nofs_state.specs.Cores.Invariant.{IsOpen, IsStopped, Past, Sounds}
-use Rattle.nofs_state.specs.Cores.Steps.{Follows, Goes, IsSafeStep, MeetsOpen, Moves}
-use Rattle.nofs_state.specs.Cores.Steps.{NoOrder, entry, goes-safely}
+use Rattle.nofs_state.specs.Cores.Steps.{Follows, Goes, IsSafeStep, MeetsOpen, Moves, NoOrder, entry, goes-safely}
 use Rattle.nofs_state.specs.declared.books.maps.Books.{Books}
 use Rattle.nofs_crashlaw.proofs.OnHistories.Later.{law-later}
 use Rattle.nofs_state.proofs.OnCores.Unchanged.{Keeping, open-keeps, stopped-keeps}
 use Rattle.nofs_state.proofs.OnCores.Rows.{open-with, stopped-with}
 use Rattle.nofs_state.proofs.OnWrites.NoWrites.{sounds-keep}
 use Rattle.nofs_shared.proofs.OnLaws.Images.{rests-later}
-use Rattle.nofs_shared.specs.Mount.Forms.{Forms, faults_in}
+use Rattle.nofs_shared.specs.Mount.Images.{ImagesAlong, IsOfImage, OnlyFlushesFailed}
+use Rattle.nofs_shared.specs.Mount.Forms.{ExactCalls, Forms, faults_in}
 use Rattle.nofs_shared.specs.Mount.Invariant.{IsMount, IsMounted, IsSoundDisk, MountStands}
+use Rattle.nofs_shared.proofs.OnMount.Images.{claims-unowned, images-append, of-more, reads-after}
 use Rattle.nofs_shared.proofs.OnMount.Histories.{safe-history, forms-later, forms-append, faults-more, fault-is}
 use Rattle.nofs_shared.proofs.OnMount.Histories.{takes-when}
-use Rattle.nofs_shared.proofs.OnMount.Histories.{flushed-is, memory-refused, faulty, calls-by}
+use Rattle.nofs_shared.proofs.OnMount.Histories.{flushed-is, memory-refused, faulty, calls-by, calls-more, entry-calls}
 
 -- what the machine says of a step that is made where this past stands
 abbrev pub Leads : DiskState → Books → Entry1 → List Entry1 → Past → Type 0
@@ -135,6 +138,10 @@ module _ (found old new : DiskState) (first : ℕ) (k l : Books) (m : IsMount fo
       raised = st.raised;
       now = go st.past st.now;
       sound = sounds-keep found.moment old new keep.disk keep.past keep.cells st.sound;
+      along = subst (λ (X : Image). ImagesAlong st.past.base k.history.entries X) (sym keep.cells.now) st.along;
+      machine = λ only. subst (λ (X : Image). IsOfImage st.past.world X) (sym keep.cells.now) (st.machine only);
+      calls = subst (λ (n : ℕ). ExactCalls (agreed_files st.past.base) k.history.start n k.history.entries)
+          (sym keep.cells.moment) st.calls;
       rests = λ X p. subst (λ (n : ℕ). IsAllowed st.past.base k.history.entries n X) (sym keep.cells.moment)
           (st.rests X (picks-back old new keep.disk keep.cells X p));
     };
@@ -221,6 +228,20 @@ module _ (found old new : DiskState) (first : ℕ) (k l : Books) (m : IsMount fo
                 ⊎ IsStopped new (record l { history = h }) H a.0.0) (sym all)
                 (go a.0.0 a.0.2);
             sound = a.1;
+            along = subst₂ (λ (B : Image) (H : List Entry1). ImagesAlong B H new.now) (sym a.0.1.base) (sym all)
+                (images-append k.history.entries st.past.base old.now new.now e st.along
+                (claims-unowned old k k.history.entries st.past a.0.0.world e st.now a.0.1.next)
+                (reads-after old new k caller s c r order));
+            machine = λ only. of-more old new k l k.history.entries st.past a.0.0 s c r caller g order mem a.0.1.next
+                st.now a.0.2 st.machine (subst (λ (H : List Entry1). OnlyFlushesFailed H) all only);
+            calls = subst₂ (λ (n : ℕ) (H : List Entry1). ExactCalls (agreed_files a.0.0.base) n new.moment H)
+                (sym from) (sym all)
+                (subst (λ (B : Image). ExactCalls (agreed_files B) k.history.start new.moment
+                (k.history.entries ++ e ∷ [])) (sym a.0.1.base)
+                (calls-more (agreed_files st.past.base) k.history.entries k.history.start old.moment e
+                new.moment st.calls
+                (entry-calls old new k caller s c r (files_along (agreed_files st.past.base) k.history.entries) order
+                (meets q st.past st.now))));
             rests = subst (λ (H : List Entry1). (X : Image) → Picks new.may new.blocks X
                 → IsAllowed a.0.0.base H new.moment X) (sym all)
                 (rests-more old new k l r g caller s c k.history.entries st.past a.0.0 a.0.1.base st.now
@@ -233,6 +254,12 @@ module _ (found old new : DiskState) (first : ℕ) (k l : Books) (m : IsMount fo
 
         all : h.entries ≡ k.history.entries ++ e ∷ []
         all = entries ∙ ap (λ (x : HistoryState). x.entries ++ e ∷ []) g.history
+
+        meets : IsSoundDisk found → (p : Past) → IsOpen old k k.history.entries p ⊎ IsStopped old k k.history.entries p
+            → MeetsOpen old k (files_along (agreed_files p.base) k.history.entries)
+            ⊎ (r ≡ reply.Refused refusal.Stopped)
+        meets q p (inl o) = inl (k.history.entries, p, told q, o, o.files)
+        meets q p (inr o) = inr (g.cause.stopped o.stopped mem)
 
         go : (p : Past) → IsOpen new l (k.history.entries ++ e ∷ []) p ⊎ IsStopped new l (k.history.entries ++ e ∷ []) p
             → IsOpen new (record l { history = h }) (k.history.entries ++ e ∷ []) p

@@ -4,13 +4,15 @@ use Rattle.std.proofs.lemmas.Bool.{cases_lt}
 use Rattle.nofs_disk.specs.Disk.{DiskState, Picks}
 use Rattle.nofs_disk.specs.Chains.{IsSameDisk-trans}
 use Rattle.nofs_disk.specs.declared.OutFault.{OutFault}
-use Rattle.nofs_model.specs.Image.{Image}
+use Rattle.nofs_model.specs.Geometry.{Image}
 use Rattle.nofs_history.specs.Allowed.{IsAllowed}
 use Rattle.nofs_state.specs.Cores.Invariant.{IsOpen, IsStopped, Past}
 use Rattle.nofs_state.specs.declared.books.maps.Books.{Books}
 use Rattle.nofs_state.specs.Cores.WriteOuts.{WroteOne}
 use Rattle.nofs_state.proofs.OnCores.WriteOuts.{open-out, safe-out, sounds-out, stopped-out}
-use Rattle.nofs_shared.specs.Mount.Forms.{Forms}
+use Rattle.nofs_shared.specs.Mount.Images.{ImagesAlong, IsOfImage}
+use Rattle.nofs_history.specs.Since.{agreed_files}
+use Rattle.nofs_shared.specs.Mount.Forms.{ExactCalls, Forms}
 use Rattle.nofs_shared.specs.Mount.Invariant.{IsMount, IsMounted}
 use Rattle.nofs_shared.proofs.OnMount.Histories.{forms-later}
 use Rattle.nofs_shared.proofs.OnMount.Steps.{picks-back}
@@ -51,6 +53,10 @@ module _ (found old new : DiskState) (first : ℕ) (k : Books) (result : Result 
       raised = st.raised;
       now = go st.past st.rests st.now;
       sound = sounds-out old new result out found.moment st.sound;
+      along = subst (λ (X : Image). ImagesAlong st.past.base k.history.entries X) (sym out.cells.now) st.along;
+      machine = λ only. subst (λ (X : Image). IsOfImage st.past.world X) (sym out.cells.now) (st.machine only);
+      calls = subst (λ (n : ℕ). ExactCalls (agreed_files st.past.base) k.history.start n k.history.entries)
+          (sym out.cells.moment) st.calls;
       rests = λ X p. subst (λ (n : ℕ). IsAllowed st.past.base k.history.entries n X) (sym out.cells.moment)
           (st.rests X (picks-back old new out.disk out.cells X p));
     };

@@ -1,5 +1,8 @@
 -- What a pass knows after a batch was looked at, or a verdict committed.
-use Rattle.std.proofs.Common.{◌≡◌, ℕ, ◌+◌, ◌<◌, ◌≤◌, List, ◌++◌, length, drop, Some, refl, sym, ap, ◌∙◌, subst}
+use Rattle.std.proofs.Common.{◌≡◌, ℕ, ◌+◌, ◌<◌, ◌≤◌, Bool, true, false, ◌&&◌, List, ◌++◌, length, drop, Some, refl, sym}
+use Rattle.std.proofs.Common.{ap, ◌∙◌, subst, arith}
+use Rattle.std.proofs.Math.Decide.{dec_lt}
+use mathlib.Core.Logic.{dite}
 use Rattle.std.proofs.Common.{append-nil, le_refl}
 use Rattle.std.specs.Prelude.{Result, Ok, Err, IfOk}
 use Rattle.std.proofs.lemmas.List.{drop_all}
@@ -7,7 +10,9 @@ use mathlib.Core.List.{IsPrefix}
 use Rattle.nofs_turn.specs.declared.rule.view.View.{View}
 use Rattle.nofs_turn.specs.Lists.{numbered}
 use Rattle.nofs_turn.specs.Passes.{MayRun, Ran}
-use Rattle.nofs_turn.proofs.OnLists.Words.{prefix_trans}
+use Rattle.nofs_turn.specs.Rule.Views.{looked}
+use Rattle.nofs_turn.proofs.OnLists.Words.{prefix_self, prefix_trans}
+use Rattle.nofs_history.specs.Steps.{is_out_of_memory}
 use Rattle.nofs_history.specs.declared.machine.history.Entry1.{Entry1}
 use Rattle.nofs_history.specs.declared.machine.steps.ElementKind.{ElementKind}
 use Rattle.nofs_history.specs.declared.machine.steps.ElementKind.TheVariants as element
@@ -16,8 +21,11 @@ use Rattle.nofs_history.specs.declared.machine.replies.Reply.{Reply}
 use Rattle.nofs_scan.specs.Steps.Elements.{see_step}
 use Rattle.nofs_workers.specs.Sweep.{see_of}
 use Rattle.nofs_shared.specs.Mount.Commits.{CommitRan}
+use Rattle.nofs_shared.specs.Acts.Sees.{FindsRoom, is_see, is_sweeper, sweep_entries}
 use Rattle.nofs_shared.specs.Passes.Entries.{TellsStep}
+use Rattle.nofs_shared.specs.Passes.Rooms.{LacksRoom, StepRan}
 use Rattle.nofs_shared.specs.Passes.Seats.{SameSeat}
+use Rattle.nofs_shared.proofs.OnPasses.Entries.{ran-less}
 
 module _ {F Out : Type 0} (tells : F → List Entry1 → List Entry1 → Out → Type 0) (v w : View Entry1 F) (out : Out)
     (h : Ran tells v w out) where
@@ -54,6 +62,11 @@ module _ {F Out : Type 0} (tells : F → List Entry1 → List Entry1 → Out →
       some-is : (a b : F) → Some a ≡ Some b → a ≡ b
       some-is a b q = cc q
 
+-- a look leaves the seat
+pub seat-looked : {F : Type 0} (v w : View Entry1 F) (n : ℕ) → w ≡ looked v n → SameSeat v w
+seat-looked v w n e = subst (SameSeat v) (sym e)
+    (record { fixed = refl; start = refl; seats = refl; stands = refl; seen = prefix_self v.seen })
+
 -- what stays with each entry is known on
 pub knows-on : {F : Type 0} (P : F → List Entry1 → Type 0)
     (more : (f : F) (xs ys : List Entry1) → P f xs → P f (xs ++ ys)) (v w : View Entry1 F)
@@ -68,24 +81,31 @@ pub knows-looked : {F A B : Type 0} (tells : F → List Entry1 → List Entry1 �
 knows-looked tells P v w (Ok e) h p = knows-left tells v w (Ok e) h (P e) p
 knows-looked tells P v w (Err x) h p = tt
 
--- what a commit tells: its step, and what it says of the list that it met
-module _ {F : Type 0} (commits : F → List Entry1 → Reply → Type 0) (caller : ℕ) (s : Step)
+-- where a step on an element found no memory, the pass lacks room for those of the sweeps
+pub step-lacks : {F : Type 0} (room : F → ℕ) (caller : ℕ) (s : Step) (v w : View Entry1 F) (r : Reply)
+    → StepRan room caller s v w r → is_see s ≡ true → is_out_of_memory r ≡ true → LacksRoom room caller w
+step-lacks {F = F} room caller s v w r h see out sweeper =
+    let same : w.seen ≡ h.before = ap (λ (u : View Entry1 F). u.seen) h.now ∙ h.told.0.adds.none out in (
+      h.part,
+      ap (λ (u : View Entry1 F). u.fixed) h.now ∙ h.same_part,
+      subst (λ (H : List Entry1). room h.part ≤ sweep_entries H) (sym same)
+          (dite (dec_lt (sweep_entries h.before) (room h.part))
+          (λ fewer. absurd (let found = h.told.1 (both-true (is_sweeper caller) (is_see s) sweeper see) fewer in
+          cc (found, out)))
+          (λ not. omega (arith, not))),
+    )
+  where
+    both-true : (a b : Bool) → a ≡ true → b ≡ true → a && b ≡ true
+    both-true true b e q = q
+    both-true false b e q = e
+
+-- what a commit tells: its step with the room for it, and what it says of the list that it met
+module _ {F : Type 0} (commits : F → List Entry1 → Reply → Type 0) (room : F → ℕ) (caller : ℕ) (s : Step)
     (v w : View Entry1 F) (r : Reply)
-    (h : Ran (λ f xs ys q. TellsStep caller s xs ys q × commits f xs q) v w r) where
-  pub commit-step : Ran (λ f xs ys q. TellsStep caller s xs ys q) v w r
-  commit-step = record {
-    part = h.part;
-    before = h.before;
-    after = h.after;
-    looks_now = h.looks_now;
-    same_part = h.same_part;
-    begins = h.begins;
-    keeps = h.keeps;
-    at_most_one = h.at_most_one;
-    told = h.told.0;
-    looked_more = h.looked_more;
-    now = h.now;
-  }
+    (h : Ran (λ f xs ys q. TellsStep caller s xs ys q × commits f xs q × FindsRoom (room f) caller s xs q) v w r) where
+  pub commit-step : StepRan room caller s v w r
+  commit-step = ran-less _ (λ f xs ys q. TellsStep caller s xs ys q × FindsRoom (room f) caller s xs q) v w r
+      (λ f xs ys q t. (t.0, t.2)) h
 
   pub commit-ran : CommitRan commits v w r
   commit-ran = record {

@@ -8,15 +8,15 @@ use Rattle.nofs_turn.specs.declared.rule.view.View.{View}
 use Rattle.nofs_turn.specs.Lists.{numbered}
 use Rattle.nofs_turn.specs.Rule.Views.{looked}
 use Rattle.nofs_turn.specs.Passes.{Ran}
-use Rattle.nofs_turn.proofs.OnLists.Words.{drop_prefix, prefix_trans}
+use Rattle.nofs_turn.proofs.OnLists.Words.{drop_prefix}
 use Rattle.nofs_history.specs.Steps.{Made, is_out_of_memory, with_made}
 use Rattle.nofs_history.specs.declared.machine.history.Entry1.{Entry1}
 use Rattle.nofs_history.specs.declared.machine.steps.Step.{Step}
 use Rattle.nofs_history.specs.declared.machine.replies.Reply.{Reply}
 use Rattle.nofs_history.specs.Callers.{done_of, is_by}
 use Rattle.nofs_shared.specs.Mount.Entries.{AddsStep}
-use Rattle.nofs_shared.specs.Passes.Seats.{SameSeat}
 use Rattle.nofs_shared.specs.Passes.Entries.{TellsStep, all_by, own_steps}
+use Rattle.nofs_shared.specs.Passes.Rooms.{StepRan}
 
 -- the entries that a step added
 record News (c : ℕ) (s : Step) (r : Reply) (H K : List Entry1) : Type 0 where
@@ -57,6 +57,29 @@ own_steps-append : (xs ys : List (ℕ × Entry1)) → own_steps (xs ++ ys) ≡ o
 own_steps-append [] ys = refl
 own_steps-append (x ∷ xs) ys = λ i. done_of x.1 ∷ own_steps-append xs ys i
 
+-- what a section tells a pass, it tells less
+pub ran-less : {F Out : Type 0} (tells less : F → List Entry1 → List Entry1 → Out → Type 0) (v w : View Entry1 F)
+    (out : Out) → ((f : F) (xs ys : List Entry1) (q : Out) → tells f xs ys q → less f xs ys q) → Ran tells v w out
+    → Ran less v w out
+ran-less tells less v w out to h = record {
+  part = h.part;
+  before = h.before;
+  after = h.after;
+  looks_now = h.looks_now;
+  same_part = h.same_part;
+  begins = h.begins;
+  keeps = h.keeps;
+  at_most_one = h.at_most_one;
+  told = to h.part h.before h.after out h.told;
+  looked_more = h.looked_more;
+  now = h.now;
+}
+
+-- a step through a pass is one
+pub step-ran : {F : Type 0} (room : F → ℕ) (caller : ℕ) (s : Step) (v w : View Entry1 F) (r : Reply)
+    → StepRan room caller s v w r → Ran (λ f xs ys q. TellsStep caller s xs ys q) v w r
+step-ran room caller s v w r h = ran-less _ (λ f xs ys q. TellsStep caller s xs ys q) v w r (λ f xs ys q t. t.0) h
+
 module _ {F : Type 0} (c : ℕ) (s : Step) (r : Reply) (v w : View Entry1 F)
     (h : Ran (λ (f : F) xs ys q. TellsStep c s xs ys q) v w r) where
   new_ones : News c s r h.before h.after
@@ -74,24 +97,14 @@ module _ {F : Type 0} (c : ℕ) (s : Step) (r : Reply) (v w : View Entry1 F)
   ran_made = ap own_steps mine_is ∙ (own_steps-append v.mine (numbered (length h.before) new_ones.more)
       ∙ new_ones.made (own_steps v.mine) (length h.before))
 
-  pub ran_same : SameSeat v w
-  ran_same = record {
-    fixed = ap (λ (u : View Entry1 F). u.fixed) h.now;
-    start = ap (λ (u : View Entry1 F). u.start) h.now;
-    seats = ap (λ (u : View Entry1 F). u.seats) h.now;
-    stands = ap (λ (u : View Entry1 F). u.stands) h.now;
-    seen = subst (λ l. IsPrefix v.seen l) (sym (ap (λ (u : View Entry1 F). u.seen) h.now))
-        (prefix_trans v.seen h.before h.after h.begins h.keeps);
-  }
-
 -- the same of a try
-pub tried_owns : {B F : Type 0} (Same : B → Type 0) (c : ℕ) (s : Step) (res : Result Reply B) (word : B → ℕ)
-    (v w : View Entry1 F)
-    → IfOk res (Ran (λ (f : F) xs ys q. TellsStep c s xs ys q) v w)
+pub tried_owns : {B F : Type 0} (Same : B → Type 0) (room : F → ℕ) (c : ℕ) (s : Step) (res : Result Reply B)
+    (word : B → ℕ) (v w : View Entry1 F)
+    → IfOk res (StepRan room c s v w)
     → IfErr res (λ b. Same b × (word b % 2 ≡ 1) × (w ≡ looked v (word b)))
     → all_by c v.mine ≡ true → all_by c w.mine ≡ true
-tried_owns Same c s (Ok r) word v w ok err e = ran_owns c s r v w ok e
-tried_owns {F = F} Same c s (Err b) word v w ok err e =
+tried_owns Same room c s (Ok r) word v w ok err e = ran_owns c s r v w (step-ran room c s v w r ok) e
+tried_owns {F = F} Same room c s (Err b) word v w ok err e =
     subst (λ (u : View Entry1 F). all_by c u.mine ≡ true) (sym err.2) e
 
 -- a history grows by one entry at most

@@ -1,12 +1,15 @@
 -- Over any disk: why a step of a mount was refused, and what it left.
-use Rattle.std.specs.Prelude.{◌≡◌, ◌<◌, ◌≤◌, true, false}
+use Rattle.std.specs.Prelude.{◌≡◌, ◌<◌, ◌≤◌, true, false, List, [], ◌∷◌, ◌++◌}
 use Rattle.nofs_disk.specs.Disk.{DiskState, IsSameDisk, KeepsCells, KeepsPast, Rose}
+use Rattle.nofs_model.specs.Files.{Files}
+use Rattle.nofs_history.specs.Since.{agreed_files, files_along}
 use Rattle.nofs_history.specs.Machine.{is_write_fault, is_refused}
 use Rattle.nofs_history.specs.Steps.{is_out_of_memory}
 use Rattle.nofs_history.specs.declared.machine.replies.Refusal.TheVariants as refusal
 use Rattle.nofs_history.specs.declared.machine.replies.Reply.{Reply}
 use Rattle.nofs_history.specs.declared.machine.replies.Reply.TheVariants as reply
 use Rattle.nofs_history.specs.declared.machine.history.Claims.{Claims}
+use Rattle.nofs_history.specs.declared.machine.history.Entry1.{Entry1}
 use Rattle.nofs_history.specs.declared.machine.steps.Step.{Step}
 use Rattle.nofs_state.specs.Cores.Steps.{NoOrder}
 use Rattle.nofs_state.specs.declared.books.maps.Books.{Books}
@@ -27,11 +30,16 @@ pub record StepCauses (old new : DiskState) (k l : Books) (r : Reply) : Type 0 w
   pub refused : is_refused r ≡ true → is_write_fault r ≡ false → KeepsCells old new
   pub memory : is_out_of_memory r ≡ true → l ≡ record k { history = l.history }
 
--- the mount is open, over a disk that tells and was found sound
-abbrev pub MeetsSound : DiskState → Books → Type 0
-MeetsSound found k = IsSoundDisk found × (k.stopped ≡ false)
+-- the mount is open, over a disk that tells and was found sound; these are the machine's files, by the base and the
+-- history
+abbrev pub MeetsSound : DiskState → DiskState → Books → Files → Type 0
+MeetsSound found d k F = IsSoundDisk found × (k.stopped ≡ false)
+    × (F ≡ files_along (agreed_files (d.was k.history.start)) k.history.entries)
 
--- what a step did to the device, by what it claims: it orders no write
-pub record StepOrder (old new : DiskState) (Told : Type 0) (s : Step) (r : Reply) : Type 0 where
+-- what a step did to the device, by what it claims: it orders no write. K is the history after it
+pub record StepOrder (old new : DiskState) (Told : Files → Type 0) (s : Step) (r : Reply)
+    (K : List Entry1) : Type 0 where
   pub claims : Claims
+  -- they are those of its entry, where it has one
+  pub entry : is_out_of_memory r ≡ false → (H : List Entry1) × (e : Entry1) × (K ≡ H ++ e ∷ []) × (e.claims ≡ claims)
   pub order : NoOrder old new Told s claims r

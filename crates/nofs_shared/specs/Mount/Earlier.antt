@@ -2,7 +2,7 @@
 use Rattle.std.proofs.Common.{◌≡◌, ℕ, false, List, ◌++◌, append_assoc, sym, ap, ◌∙◌}
 use mathlib.Core.List.{IsPrefix}
 use Rattle.nofs_disk.specs.Disk.{DiskState}
-use Rattle.nofs_model.specs.Cells.{SuperBlock}
+use Rattle.nofs_super.specs.declared.superblock.SuperBlock.{SuperBlock}
 use Rattle.nofs_history.specs.declared.machine.history.Entry1.{Entry1}
 use Rattle.nofs_state.specs.declared.books.maps.Books.{Books}
 use Rattle.nofs_turn.proofs.OnLists.Words.{prefix_trans}

@@ -4,15 +4,18 @@ use Rattle.std.specs.Prelude.{slice_set}
 use Rattle.nofs_disk.specs.Disk.{DiskState, IsSameDisk, Picks}
 use Rattle.nofs_super.specs.Format.{super_cell}
 use Rattle.nofs_super.specs.Raise.{raised}
-use Rattle.nofs_model.specs.Cells.{Pointer}
-use Rattle.nofs_model.specs.Image.{Image, super_at, IsSound}
+use Rattle.nofs_disk.specs.declared.tag.Pointer.{Pointer}
+use Rattle.nofs_model.specs.Geometry.{Image, super_at}
+use Rattle.nofs_model.specs.Sound.{IsSound}
 use Rattle.nofs_history.specs.World.{World, world_of, is_free_block, is_free_inode}
 use Rattle.nofs_history.specs.Claims.{claimed_blocks}
 use Rattle.nofs_history.specs.Next.{Run, IsAfter}
 use Rattle.nofs_history.specs.Allowed.{IsAllowed}
+use Rattle.nofs_history.specs.Since.{agreed_files}
 use Rattle.nofs_history.specs.HistoryState.{HistoryState}
 use Rattle.nofs_history.specs.declared.machine.history.Entry1.{Entry1}
-use Rattle.nofs_shared.specs.Mount.Forms.{Forms, OnlyCalls, faults_in}
+use Rattle.nofs_shared.specs.Mount.Images.{ImagesAlong, IsOfImage, OnlyFlushesFailed}
+use Rattle.nofs_shared.specs.Mount.Forms.{ExactCalls, Forms, OnlyCalls, faults_in}
 use Rattle.nofs_shared.specs.Mount.Invariant.{IsFound, IsSoundDisk}
 
 -- what an entry claims was known and free in the machine's world before it
@@ -40,8 +43,13 @@ pub record Contents (found last : DiskState) (first : ℕ) (h : HistoryState) : 
   -- and before it, the disk as it was found but for block 0
   pub before : (m : ℕ) (X : Image) → found.moment ≤ m → m ≤ h.start → last.left m X
       → IsFound (raised (super_at found.now)) found X
-  -- what is claimed had no owner
+  -- each entry wrote exactly the cells that its step asks for, by the files before it, and no other call was made
+  pub calls : ExactCalls (agreed_files base) h.start last.moment h.entries
+  -- what is claimed had no owner: in the machine's world, and on the disk, by what a read gave before each entry
   pub claims : AllClaimsFree h.start (world_of base first) h.entries
+  pub along : ImagesAlong base h.entries last.now
+  -- a read gives the machine's files and owners at the end, unless a write failed; a flush may have
+  pub machine : OnlyFlushesFailed h.entries → IsOfImage world last.now
   -- the next mount finds a sound disk, whenever this one ends
   pub sound : (m : ℕ) (X : Image) → found.moment ≤ m → m ≤ last.moment → last.left m X → IsSound X
   pub next : (X : Image) → Picks last.may last.blocks X → IsSound X

@@ -1,7 +1,8 @@
 -- What a step adds to a history, and what it claims.
 use Rattle.std.specs.Prelude.{◌≡◌, ℕ, true, false, List, [], ◌∷◌, ◌++◌, None, Contains}
-use Rattle.nofs_model.specs.Cells.{Pointer}
-use Rattle.nofs_model.specs.Image.{Image, owner}
+use Rattle.nofs_disk.specs.declared.tag.Pointer.{Pointer}
+use Rattle.nofs_model.specs.Geometry.{Image}
+use Rattle.nofs_model.specs.Owners.{owner}
 use Rattle.nofs_history.specs.Claims.{claimed_blocks}
 use Rattle.nofs_history.specs.Steps.{is_out_of_memory}
 use Rattle.nofs_history.specs.declared.machine.history.Entry1.{Entry1}

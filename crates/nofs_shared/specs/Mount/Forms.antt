@@ -6,7 +6,9 @@ use Rattle.nofs_history.specs.Steps.{is_out_of_memory}
 use Rattle.nofs_history.specs.declared.machine.history.Entry1.{Entry1}
 use Rattle.nofs_history.specs.declared.machine.replies.Reply.TheVariants as reply
 use Rattle.nofs_history.specs.declared.machine.replies.Refusal.TheVariants as refusal
-use Rattle.nofs_state.specs.Cores.Steps.{WritesSoMany, is_flush, makes_calls}
+use Rattle.nofs_model.specs.Files.{Files}
+use Rattle.nofs_history.specs.History.{NoWriteFault}
+use Rattle.nofs_history.specs.Writes.{WritesSoMany, cells_along, is_flush, makes_calls}
 
 -- in an entry so many cells were written: those of its step, and perhaps fewer where a write failed
 pub data Wrote (e : Entry1) (n : ℕ) : Type 0 where
@@ -58,3 +60,9 @@ pub record OnlyCalls (from to : ℕ) (H : List Entry1) : Type 0 where
   pub cells : ℕ
   pub wrote : WroteTotal H cells
   pub moment : to ≡ from + 2 * cells + 2 * flushes_in H
+
+-- THE MOMENT OF EACH CALL, over a disk that tells: from the files at the start, the history says how many cells were
+-- written. Where a write failed, those of its step that were not tried are missing
+pub record ExactCalls (F : Files) (from to : ℕ) (H : List Entry1) : Type 0 where
+  pub all : NoWriteFault H → to ≡ from + 2 * cells_along F H + 2 * flushes_in H
+  pub most : to ≤ from + 2 * cells_along F H + 2 * flushes_in H

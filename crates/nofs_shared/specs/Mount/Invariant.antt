@@ -4,13 +4,16 @@ use Rattle.nofs_disk.specs.Disk.{DiskState, IsSameDisk, Picks, cell_at}
 use Rattle.nofs_disk.specs.Adds.{WasOr}
 use Rattle.nofs_super.specs.Format.{super_cell}
 use Rattle.nofs_super.specs.Raise.{IsSuperCell, raised}
-use Rattle.nofs_model.specs.Cells.{SuperBlock}
-use Rattle.nofs_model.specs.Image.{Image, super_at, IsSound}
+use Rattle.nofs_super.specs.declared.superblock.SuperBlock.{SuperBlock}
+use Rattle.nofs_model.specs.Geometry.{Image, super_at}
+use Rattle.nofs_model.specs.Sound.{IsSound}
 use Rattle.nofs_history.specs.Allowed.{IsAllowed}
+use Rattle.nofs_history.specs.Since.{agreed_files}
 use Rattle.nofs_state.specs.Books.Maps.{IsSafe}
 use Rattle.nofs_state.specs.Cores.Invariant.{IsOpen, IsStopped, Past, Sounds}
 use Rattle.nofs_state.specs.declared.books.maps.Books.{Books}
-use Rattle.nofs_shared.specs.Mount.Forms.{Forms, faults_in}
+use Rattle.nofs_shared.specs.Mount.Images.{ImagesAlong, IsOfImage, OnlyFlushesFailed}
+use Rattle.nofs_shared.specs.Mount.Forms.{ExactCalls, Forms, faults_in}
 
 -- The premise of every promise on contents: the disk tells, and each image that picks from what it may hold is sound
 pub record IsSoundDisk (d : DiskState) : Type 0 where
@@ -39,6 +42,12 @@ pub record MountStands (found d : DiskState) (first : ℕ) (k : Books) : Type 0 
   pub raised : k.at ≡ raised (super_at found.now)
   pub now : IsOpen d k k.history.entries past ⊎ IsStopped d k k.history.entries past
   pub sound : Sounds found.moment d
+  -- what a read gave before each entry
+  pub along : ImagesAlong past.base k.history.entries d.now
+  -- and what it gives is the machine's
+  pub machine : OnlyFlushesFailed k.history.entries → IsOfImage past.world d.now
+  -- the history tells of every call that takes time
+  pub calls : ExactCalls (agreed_files past.base) k.history.start d.moment k.history.entries
   -- each image that picks from what may be left is allowed now: so it stays when a crash may leave it
   pub rests : (X : Image) → Picks d.may d.blocks X → IsAllowed past.base k.history.entries d.moment X
 

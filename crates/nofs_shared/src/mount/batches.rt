@@ -90,8 +90,8 @@ impl<D: Disk + Drop> Mount<D> {
     ///
     /// # Errors
     ///
-    /// `BadRange` only where some element is not on the disk; `Stopped` where a write failed before; `ReadFault` only
-    /// where the device's count of faults rose; `OutOfMemory`.
+    /// `BadRange` exactly where some element is not on the disk; then `Stopped` exactly where a write failed before;
+    /// `ReadFault` only where the device's count of faults rose; `OutOfMemory`.
     pub fn look_batch(
         &mut self,
         alloc: Global,
@@ -104,6 +104,9 @@ impl<D: Disk + Drop> Mount<D> {
         ensures stays { StaysButFaults (D.state self.old.core.disk) (D.state self.new.core.disk) }
         ensures refused { IfErr result (batches.BatchFails (D.state self.old.core.disk) self.old.core.books
             (D.state self.new.core.disk) kind items.now) }
+        ensures beyond { (All (HasElement kind self.old.core.books.at) items.now → ⊥) → result ≡ Err Refusal.BadRange }
+        ensures stopped { All (HasElement kind self.old.core.books.at) items.now → self.old.core.books.stopped ≡ true
+            → result ≡ Err Refusal.Stopped }
         ensures asked { IfOk result (λ evidence. (evidence.kind ≡ kind) × (items_of evidence.verdicts ≡ items.now)) }
         ensures own { IfOk result (λ evidence. IsEarlier (D.state self.new.found.value)
             (D.state evidence.core.value.disk) evidence.core.value.books

@@ -14,7 +14,8 @@
 //! - unmounted: `begin` may still refuse. All memory of the mount is taken before the write that raises its number.
 //! - open: over a disk that tells and was found sound, files, maps and history are the machine's, and every image that
 //!   a crash may leave is allowed (`IsOpen`).
-//! - stopped: every such image is still allowed (`IsStopped`), but the maps may be wrong, so no step is served.
+//! - stopped: every such image is still allowed (`IsStopped`), but the maps may be wrong, so no step is served. Where
+//!   only a Flush's flush failed, a read still gives the machine's files.
 //! - A write-out that failed is no step: the mount stays open.
 ghost use Rattle.std.specs.Prelude.{◌≡◌, ◌+◌, ◌^◌, ◌≤◌, false, [], length, IfOk, IfErr};
 ghost use Rattle.nofs_history.specs.World.{World};
@@ -27,7 +28,7 @@ ghost use Rattle.nofs_shared.specs.Mount.Begin as begins;
 ghost use Rattle.nofs_shared.specs.Mount.End.{Ends};
 ghost use Rattle.nofs_shared.specs.Mount.Invariant.{IsMount, IsSoundDisk};
 ghost use Rattle.nofs_shared.specs.Passes.Entries.{TellsStep};
-ghost use Rattle.nofs_shared.specs.Acts.Sees.{TakesKept};
+ghost use Rattle.nofs_shared.specs.Acts.Sees.{TakesKept, sweep_entries};
 ghost use Rattle.nofs_shared.specs.Mount.Flushes.{Settles};
 ghost use Rattle.nofs_shared.specs.Mount.Causes.{MeetsSound, StepCauses, StepOrder};
 
@@ -51,6 +52,7 @@ pub struct Mount<D: Disk + Drop> {
     pub(crate) kept: u64,
     ghost few: { length core.books.history.entries + kept ≤ 2 ^ 62 },
     ghost room: { kept ≤ core.books.history.spare },
+    ghost taken: { core.books.at.inodes + core.books.at.blocks ≤ kept + sweep_entries core.books.history.entries },
     ghost safe: { IsSafe (D.state core.disk) core.books },
     ghost stands: { ∥ IsMount (D.state found.value) (D.state core.disk) first core.books ∥₁ },
 }
@@ -63,12 +65,19 @@ pub struct BeginFault<D: Disk + Drop> {
 }
 
 impl<D: Disk + Drop> Mount<D> {
-    /// Mounts a disk: its mount number is then one higher, durably.
+    /// Mounts a disk: its mount number is then one higher, durably. It reads block 0, writes it once and flushes once,
+    /// and knows of the disk only what is fixed.
+    ///
+    /// # Errors
+    ///
+    /// The first fault that block 0 has by the table of `MountFault`, then `OutOfMemory`, with nothing written;
+    /// `ReadFault` only where the device's count of faults rose, and `WriteFault` only where a write or a flush was
+    /// made too. That leaves no block changed but block 0, which has what it had or the raised superblock.
     pub fn begin(alloc: Global, disk: D, first: u64) -> Result<Mount<D>, BeginFault<D>>
         requires { first ≤ 2 ^ 40 }
         ensures mount { IfOk result (λ m. (m.found.value ≡ disk) × (m.first ≡ first)
             × (m.core.books.history.entries ≡ []) × (m.kept ≡ m.core.books.at.inodes + m.core.books.at.blocks)) }
-        ensures begins { IfOk result (λ m. begins.BeginsMount (D.state disk) (D.state m.core.disk) m.core.books.at) }
+        ensures begins { IfOk result (λ m. begins.BeginsMount (D.state disk) (D.state m.core.disk) m.core.books) }
         ensures fault { IfErr result (λ e. begins.BeginFails (D.state disk) (D.state e.disk) e.cause) }
     {
         let found = Snapshot::of(&disk);
@@ -92,7 +101,7 @@ impl<D: Disk + Drop> Mount<D> {
     /// some is kept for them. Over any disk, a read fault comes only where its count of faults rose, a
     /// write fault only where it rose and a write or a flush was made, `Stopped` exactly where one of
     /// them failed before, and every other refusal leaves the cells. No step orders its writes: one that is no
-    /// Flush makes writes alone, one call a cell, and after a call that failed no other.
+    /// Flush makes writes alone, one call a cell and no block twice, and after a call that failed no other.
     pub fn step(&mut self, alloc: Global, caller: u32, step: Step) -> Reply
         ensures tells { TellsStep caller step self.old.core.books.history.entries
             self.new.core.books.history.entries result }
@@ -107,7 +116,8 @@ impl<D: Disk + Drop> Mount<D> {
         ensures causes { StepCauses (D.state self.old.core.disk)
             (D.state self.new.core.disk) self.old.core.books self.new.core.books result }
         ensures order { StepOrder (D.state self.old.core.disk) (D.state self.new.core.disk)
-            (MeetsSound (D.state self.old.found.value) self.old.core.books) step result }
+            (MeetsSound (D.state self.old.found.value) (D.state self.old.core.disk) self.old.core.books) step result
+            self.new.core.books.history.entries }
     {
         let history = &mut self.core.books.history;
         match take_room(history, self.kept, caller, &step) {

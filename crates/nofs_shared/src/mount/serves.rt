@@ -1,8 +1,8 @@
 //! What lies behind a turn: a value at which callers make steps, and whose elements are examined in batches.
 //!
 //! Promise: a step adds its entry alone, and a look or a write-out adds none. What was looked at may be committed in
-//! every later state of the value.
-ghost use Rattle.std.specs.Prelude.{◌≡◌, ◌++◌, ◌<◌, ◌≤◌, ℕ, Bool, List, IfOk, get_or, length};
+//! every later state of the value. A step of a sweep wants for no memory while room for its entry was taken.
+ghost use Rattle.std.specs.Prelude.{◌≡◌, ◌+◌, ◌++◌, ◌<◌, ◌≤◌, ℕ, Bool, List, IfOk, get_or, length};
 ghost use Rattle.nofs_history.specs.declared.machine.history.Entry1.{Entry1};
 ghost use Rattle.nofs_history.specs.declared.machine.steps.ElementKind.{ElementKind};
 ghost use Rattle.nofs_history.specs.declared.machine.replies.Reply.{Reply};
@@ -44,6 +44,7 @@ impl<D: Disk + Drop> Kept for Mount<D> {
 /// device keeps blocks back in a step alone, not in a look or a commit: so where a write-out found none, there is none
 /// until the next step.
 pub trait Serves: Kept<Entry = Entry1> + Drop {
+    ghost use Rattle.nofs_shared.specs.Acts.Sees.{FindsRoom};
     ghost use Rattle.nofs_shared.specs.Passes.Entries.{TellsStep};
 
     /// What was found of some elements.
@@ -63,13 +64,17 @@ pub trait Serves: Kept<Entry = Entry1> + Drop {
     ghost is_of_more: { (e : Self.Evidence) (f : Self.Fixed) (xs ys : List Entry1) → is_of e f xs
         → is_of e f (xs ++ ys) };
 
+    /// For how many entries of the sweeps room was taken.
+    ghost room_in: { Self.Fixed → ℕ };
+
     /// What a commit of the verdict at a place says, where the entries before it were these.
     ghost commits: { Self.Evidence → ℕ → Self.Fixed → List Entry1 → Reply → Type 0 };
 
     /// Makes one step of a caller.
     fn serve(&mut self, alloc: Global, caller: u32, step: Step) -> Reply
         ensures fixed { Self.fixed self.new ≡ Self.fixed self.old }
-        ensures tells { TellsStep caller step (Self.entries self.old) (Self.entries self.new) result };
+        ensures tells { TellsStep caller step (Self.entries self.old) (Self.entries self.new) result }
+        ensures room { FindsRoom (room_in (Self.fixed self.old)) caller step (Self.entries self.old) result };
 
     /// Looks at 1 to 64 elements. It makes no entry.
     fn look(
@@ -104,6 +109,8 @@ pub trait Serves: Kept<Entry = Entry1> + Drop {
         ensures fixed { Self.fixed self.new ≡ Self.fixed self.old }
         ensures tells { TellsStep caller (see_step (kind_of evidence.now) (get_or (items_in evidence.now) at 0))
             (Self.entries self.old) (Self.entries self.new) result }
+        ensures room { FindsRoom (room_in (Self.fixed self.old)) caller
+            (see_step (kind_of evidence.now) (get_or (items_in evidence.now) at 0)) (Self.entries self.old) result }
         ensures commits { commits evidence.now at (Self.fixed self.old) (Self.entries self.old) result };
 
     /// Writes out one block that the device kept back, and names it; `None` where there is none. It makes no entry.
@@ -129,6 +136,8 @@ impl<D: Disk + Drop> Serves for Mount<D> {
         (D.state e.core.value.disk) e.core.value.books f.first f.start f.at xs };
 
     ghost is_of_more = { λ e f xs ys h. earlier-more h ys };
+
+    ghost room_in = { λ f. f.at.inodes + f.at.blocks };
 
     ghost commits = { λ e at f xs r. ∥ CommitsAt D.state f.found f.first xs e.kind
         (verdict_at e.verdicts at).item (verdict_at e.verdicts at).used r ∥₁ };

@@ -18,13 +18,6 @@ use nofs_history::{Refusal, Reply, Step};
 use nofs_state::Core;
 use std::alloc::Global;
 
-/// Whether a reply tells of want of memory.
-pub(crate) fn wants_memory(reply: &Reply) -> bool
-    ensures { result ≡ is_out_of_memory reply.now }
-{
-    matches!(reply, Reply::Refused(Refusal::OutOfMemory))
-}
-
 /// Makes one step of a caller, for whose entry there is memory. It adds one entry, but none where
 /// memory was wanting.
 pub(crate) fn step_in<D: Disk + Drop>(
@@ -45,11 +38,11 @@ pub(crate) fn step_in<D: Disk + Drop>(
     ensures settled { Settles step result (D.state core.new.disk) }
     ensures causes { StepCauses (D.state core.old.disk) (D.state core.new.disk) core.old.books core.new.books result }
     ensures order { StepOrder (D.state core.old.disk) (D.state core.new.disk)
-        (MeetsOpen (D.state core.old.disk) core.old.books) step result }
+        (MeetsOpen (D.state core.old.disk) core.old.books) step result core.new.books.history.entries }
 {
     let from = core.disk.moment();
     let Acted { reply, claims } = act(core, alloc, &step);
-    if wants_memory(&reply) {
+    if reply.is_out_of_memory() {
         return reply;
     }
     match copy_reply(alloc, &reply) {

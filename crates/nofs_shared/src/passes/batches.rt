@@ -6,13 +6,14 @@ ghost use Rattle.nofs_history.specs.Steps.{Fits, with_made};
 ghost use Rattle.nofs_scan.specs.Steps.Elements as elements;
 ghost use Rattle.nofs_shared.specs.Mount.Commits.{CommitRan};
 ghost use Rattle.nofs_shared.specs.Passes.Entries.{own_steps};
+ghost use Rattle.nofs_shared.specs.Passes.Rooms.{StepRan};
 ghost use Rattle.nofs_shared.specs.Passes.Seats.{SameSeat};
 
 use crate::mount::serves::Serves;
 use crate::passes::steps::SharedPass;
-use nofs_history::{ElementKind, Refusal, Reply};
+use nofs_history::{ElementKind, Refusal, Reply, Steps};
 use nofs_turn::Section;
-use nofs_workers::Batches;
+use nofs_workers::{Batches, see_of};
 use std::alloc::Global;
 use std::sync::Wait;
 
@@ -54,6 +55,7 @@ struct Settle<'a, V: Serves> {
 impl<V: Serves> Section<V> for Settle<'_, V> {
     ghost use Rattle.std.specs.Prelude.{◌≡◌, ◌<◌, get_or, length};
     ghost use Rattle.nofs_scan.specs.Steps.Elements.{see_step};
+    ghost use Rattle.nofs_shared.specs.Acts.Sees.{FindsRoom};
     ghost use Rattle.nofs_shared.specs.Passes.Entries.{TellsStep};
 
     type Out = Reply;
@@ -63,7 +65,9 @@ impl<V: Serves> Section<V> for Settle<'_, V> {
 
     ghost tells = { λ s f xs ys r. TellsStep s.caller
         (see_step (V.kind_of s.evidence.now) (get_or (V.items_in s.evidence.now) s.at 0)) xs ys r
-        × V.commits s.evidence.now s.at f xs r };
+        × V.commits s.evidence.now s.at f xs r
+        × FindsRoom (V.room_in f) s.caller
+        (see_step (V.kind_of s.evidence.now) (get_or (V.items_in s.evidence.now) s.at 0)) xs r };
 
     ghost lasts = { λ s f xs ys asked. (V.is_of_more s.evidence.now f xs ys asked.0, asked.1, asked.2) };
 
@@ -105,6 +109,9 @@ impl<R: Wait, V: Serves> SharedPass<'_, R, V> {
             (elements.see_step (V.kind_of evidence.now) (get_or (V.items_in evidence.now) at 0)) result }
         ensures own { MayRun (V.is_of evidence.now) (view_of self.new.pass) }
         ensures right { CommitRan (V.commits evidence.now at) (view_of self.old.pass) (view_of self.new.pass) result }
+        ensures ran { StepRan V.room_in self.old.caller
+            (elements.see_step (V.kind_of evidence.now) (get_or (V.items_in evidence.now) at 0))
+            (view_of self.old.pass) (view_of self.new.pass) result }
     {
         let settle = Settle {
             alloc: self.alloc,
@@ -120,12 +127,15 @@ impl<R: Wait, V: Serves> SharedPass<'_, R, V> {
 impl<R: Wait, V: Serves> Batches for SharedPass<'_, R, V> {
     ghost use Rattle.nofs_turn.specs.Turn.{view_of};
     ghost use Rattle.nofs_turn.specs.Passes.{MayRun};
+    ghost use Rattle.nofs_shared.specs.Passes.Rooms.{LacksRoom};
 
     type Evidence = V::Evidence;
 
     ghost looked = { λ e. record { kind = V.kind_of e; items = V.items_in e; verdict = V.verdict_in e } };
 
     ghost owns = { λ p e. MayRun (V.is_of e) (view_of p.pass) };
+
+    ghost lacks_room = { λ p. LacksRoom V.room_in p.caller (view_of p.pass) };
 
     fn look_batch(&mut self, kind: ElementKind, items: &[u64]) -> Result<V::Evidence, Refusal> {
         SharedPass::look_batch(self, kind, items)
@@ -137,5 +147,9 @@ impl<R: Wait, V: Serves> Batches for SharedPass<'_, R, V> {
 
     fn commit(&mut self, evidence: &V::Evidence, at: u32, used: bool) -> Reply {
         SharedPass::commit(self, evidence, at, used)
+    }
+
+    fn see(&mut self, kind: ElementKind, item: u64) -> Reply {
+        self.step(see_of(kind, item))
     }
 }

@@ -1,5 +1,6 @@
 //! A mount that several callers share.
 ghost use Rattle.std.specs.Prelude.{◌≡◌, ◌+◌, ◌<◌, ◌≤◌, [], vec_len, All, IfOk, IfErr};
+ghost use mathlib.Core.List.{IsPrefix};
 ghost use Rattle.nofs_turn.specs.Turn.{view_of, IsPassOf, IsFreshPass};
 ghost use Rattle.nofs_turn.specs.Rule.Views.{joined};
 ghost use Rattle.nofs_turn.specs.Passes.{Closes};
@@ -73,6 +74,8 @@ impl<V: Serves> SharedMount<V> {
         requires of { IsPassOf self.now.turn into.old × IsPassOf self.now.turn from }
         ensures of { IsPassOf self.now.turn into.new }
         ensures joined { view_of into.new ≡ joined (view_of into.old) (view_of from) }
+        ensures knows { IsPrefix (view_of into.old).seen (view_of into.new).seen
+            × IsPrefix (view_of from).seen (view_of into.new).seen }
     {
         self.turn.join(into, from);
     }

@@ -1,13 +1,15 @@
 //! Passes by which callers make steps at a shared mount. Workers take one as their way to it.
 //!
-//! Promise: a step is made under one turn, and its entry is the pass's own. A batch is looked at under one turn, and
+//! Promise: a step is made under one turn, and its entry is the pass's own and lies behind all that the pass had seen.
+//! A step of a sweep wants for no memory while room for its entry was taken. A batch is looked at under one turn, and
 //! each of its verdicts is committed under a later one. A write-out makes no step, and takes the turn only where a
 //! block may be kept back.
-ghost use Rattle.std.specs.Prelude.{◌≡◌, ◌+◌, ◌/◌, ◌%◌, ◌<◌, ◌≤◌, true, [], length, IfOk, IfErr};
+ghost use Rattle.std.specs.Prelude.{◌≡◌, ℕ, ◌+◌, ◌/◌, ◌%◌, ◌<◌, ◌≤◌, true, [], length, IfOk, IfErr, OnErr};
 ghost use Rattle.nofs_turn.specs.Turn.{view_of, IsPassOf};
 ghost use Rattle.nofs_turn.specs.Rule.Views.{looked};
 ghost use Rattle.nofs_history.specs.Steps.{Fits, with_made};
 ghost use Rattle.nofs_shared.specs.Passes.Entries.{all_by, own_steps};
+ghost use Rattle.nofs_shared.specs.Passes.Rooms.{StepRan};
 ghost use Rattle.nofs_shared.specs.Passes.Seats.{SameSeat};
 
 use crate::mount::serves::Serves;
@@ -27,13 +29,15 @@ struct Move<'a> {
 }
 
 impl<V: Serves> Section<V> for Move<'_> {
+    ghost use Rattle.nofs_shared.specs.Acts.Sees.{FindsRoom};
     ghost use Rattle.nofs_shared.specs.Passes.Entries.{TellsStep};
 
     type Out = Reply;
 
     ghost asks = { λ _ _ _. Unit {0} };
 
-    ghost tells = { λ s _ xs ys r. TellsStep s.caller s.step xs ys r };
+    ghost tells = { λ s f xs ys r. TellsStep s.caller s.step xs ys r
+        × FindsRoom (V.room_in f) s.caller s.step xs r };
 
     ghost lasts = { λ _ _ _ _ _. tt };
 
@@ -88,15 +92,21 @@ impl<'a, R, V: Serves> SharedPass<'a, R, V> {
         }
     }
 
-    /// Makes the step where the turn is free.
+    /// Makes the step where the turn is free, and else answers `BusyStep` with the step and the odd word found. It
+    /// makes one look, waits for nobody and takes no memory of its own. A pass that stands for all passes never finds
+    /// the turn busy.
     pub fn try_step(&mut self, step: Step) -> Result<Reply, BusyStep>
-        ensures same { (self.new.turn.now ≡ self.old.turn.now) × (self.new.caller ≡ self.old.caller) }
+        ensures same { (self.new.turn.now ≡ self.old.turn.now) × (self.new.caller ≡ self.old.caller)
+            × SameSeat (view_of self.old.pass) (view_of self.new.pass) }
         ensures made { IfOk result
             (λ r. (own_steps (view_of self.new.pass).mine ≡ with_made (own_steps (view_of self.old.pass).mine) step r)
             × Fits step r) }
+        ensures ran { IfOk result
+            (StepRan V.room_in self.old.caller step (view_of self.old.pass) (view_of self.new.pass)) }
         ensures one_look { (view_of self.new.pass).looks ≡ (view_of self.old.pass).looks + 1 }
         ensures busy { IfErr result (λ b. (b.step ≡ step) × (b.word % 2 ≡ 1)
             × (view_of self.new.pass ≡ looked (view_of self.old.pass) b.word)) }
+        ensures others { OnErr result ((view_of self.old.pass).stands < (view_of self.old.pass).seats) }
     {
         let section = Move {
             alloc: self.alloc,
@@ -116,11 +126,15 @@ impl<'a, R, V: Serves> SharedPass<'a, R, V> {
         }
     }
 
-    /// The number of entries, from one look.
+    /// The number of entries, at least as many as the pass had seen. It makes one look and no step, waits for nobody
+    /// and takes no memory.
     pub fn progress(&mut self) -> u64
-        ensures same { (self.new.turn.now ≡ self.old.turn.now) × (self.new.caller ≡ self.old.caller) }
+        ensures same { (self.new.turn.now ≡ self.old.turn.now) × (self.new.caller ≡ self.old.caller)
+            × SameSeat (view_of self.old.pass) (view_of self.new.pass) }
         ensures at_least { length (view_of self.old.pass).seen ≤ result }
         ensures look { result ≡ (view_of self.new.pass).last / 2 }
+        ensures one_look { (found : ℕ) × (result ≡ found / 2)
+            × (view_of self.new.pass ≡ looked (view_of self.old.pass) found) }
     {
         self.turn.count(&mut self.pass)
     }
@@ -150,7 +164,14 @@ impl<R: Wait, V: Serves> Steps for SharedPass<'_, R, V> {
     ghost goes_on = { λ a b c p q.
         (q.0 ∙ p.0, q.1 ∙ p.1, same_seats (view_of a.pass) (view_of b.pass) (view_of c.pass) p.2 q.2) };
 
-    fn step(&mut self, step: Step) -> Reply {
+    fn step(&mut self, step: Step) -> Reply
+        ensures made { own_steps (view_of self.new.pass).mine
+            ≡ with_made (own_steps (view_of self.old.pass).mine) step result }
+        ensures fits { Fits step result }
+        ensures goes { (self.new.turn.now ≡ self.old.turn.now) × (self.new.caller ≡ self.old.caller)
+            × SameSeat (view_of self.old.pass) (view_of self.new.pass) }
+        ensures ran { StepRan V.room_in self.old.caller step (view_of self.old.pass) (view_of self.new.pass) result }
+    {
         let section = Move {
             alloc: self.alloc,
             clean: self.clean,

@@ -1,4 +1,5 @@
-use Rattle.nofs_upgrade.proofs.OnUpgrading.{images-written, upgraded}
+use Rattle.std.proofs.Common.{arith, rules}
+use Rattle.nofs_upgrade.proofs.OnUpgrading.{cells-written, images-written, upgraded}
 use Rattle.nofs_upgrade.proofs.upgrading.upgrade.Goals as goal
 
 pub returns-in-Ok-clause-upgraded : goal.returns-in-Ok-clause-upgraded
@@ -21,3 +22,20 @@ returns-in-Err-clause-images g c =
     let is = g.met.D.Disk.is_disk in
     images-written _ _ _ c.in_ok-old.old (is c.args.disk.now) (is c.prepare.new.disk) (is c.write_second.new.disk)
     c.prepare.ensures.disk c.prepare.ensures.cells c.in_ok-old.ensures.ok c.write_second.ensures.adds
+
+pub returns-in-Err-clause-stopped : goal.returns-in-Err-clause-stopped
+returns-in-Err-clause-stopped g c =
+    let is = g.met.D.Disk.is_disk in
+    let e = c.prepare.ensures in
+    let m = e.cells.moment in
+    λ why. record {
+      before = c.in_ok-old.old;
+      can = c.in_ok-old.ensures.ok;
+      cause = search rules;
+      began = search rules;
+      most = search rules;
+      now = search rules;
+      cells = cells-written _ _ _ c.in_ok-old.old (is c.args.disk.now) (is c.prepare.new.disk)
+          (is c.write_second.new.disk)
+          e.disk e.cells c.in_ok-old.ensures.ok c.write_second.ensures.adds;
+    }

@@ -80,7 +80,7 @@ returns-clause-leaves g c = subst (λ (d : DiskState). KeepsCells (g.D.Disk.stat
 pub returns-then-core-clause-leaves : goal.returns-then-core-clause-leaves
 returns-then-core-clause-leaves g c =
     see-leaves (g.D.Disk.state c.args.core.now.disk) (g.D.Disk.state c.step_in.new.core.disk) _
-    c.step_of-step.result c.step_in.result
+    c.step_of-step.result c.step_in.result _
     (ap is_see (c.step_of-step.ensures ∙ ap (see_step c.args.evidence.now.kind) c.item-item.ensures)
     ∙ see-is c.args.evidence.now.kind (verdict_at c.args.evidence.now.verdicts c.args.at).item)
     c.step_in.ensures.order

@@ -21,28 +21,32 @@ use Rattle.nofs_shared.proofs.mount.steps.step_in.Goals as goal
 
 -- no memory for the step
 
-pub returns-then-wants_memory-clause-keeps : goal.returns-then-wants_memory-clause-keeps
-returns-then-wants_memory-clause-keeps g c = λ found first m.
+pub returns-then-is_out_of_memory-clause-keeps : goal.returns-then-is_out_of_memory-clause-keeps
+returns-then-is_out_of_memory-clause-keeps g c = λ found first m.
     mount-none (g.D.Disk.state found) (g.D.Disk.state c.args.core.now.disk) (g.D.Disk.state c.act-reply.new.core.disk)
     first c.args.core.now.books c.act-reply.new.core.books m
     c.act-reply.result.reply (goes-safely c.act-reply.ensures.goes)
-    (sym c.wants_memory.ensures ∙ c.if-wants_memory.true)
+    (sym c.is_out_of_memory.ensures ∙ c.if-is_out_of_memory.true)
 
-pub returns-then-wants_memory-clause-claims : goal.returns-then-wants_memory-clause-claims
-returns-then-wants_memory-clause-claims g c = λ found first m q.
+pub returns-then-is_out_of_memory-clause-claims : goal.returns-then-is_out_of_memory-clause-claims
+returns-then-is_out_of_memory-clause-claims g c = λ found first m q.
     unowned-none (g.D.Disk.state c.args.core.now.disk).now c.args.core.now.books.history.entries
     c.act-reply.new.core.books.history.entries
     (ap (λ h. h.entries) c.act-reply.ensures.goes.history)
 
-pub returns-then-wants_memory-clause-causes : goal.returns-then-wants_memory-clause-causes
-returns-then-wants_memory-clause-causes g c =
+pub returns-then-is_out_of_memory-clause-causes : goal.returns-then-is_out_of_memory-clause-causes
+returns-then-is_out_of_memory-clause-causes g c =
     causes-none (g.D.Disk.state c.args.core.now.disk) (g.D.Disk.state c.act-reply.new.core.disk)
     c.args.core.now.books c.act-reply.new.core.books
     c.act-reply.result.reply (goes-safely c.act-reply.ensures.goes)
 
-pub returns-then-wants_memory-clause-order : goal.returns-then-wants_memory-clause-order
-returns-then-wants_memory-clause-order g c =
-    record { claims = c.act-reply.result.claims; order = c.act-reply.ensures.goes.order }
+pub returns-then-is_out_of_memory-clause-order : goal.returns-then-is_out_of_memory-clause-order
+returns-then-is_out_of_memory-clause-order g c =
+    record {
+      claims = c.act-reply.result.claims;
+      entry = λ e. absurd (let m = sym c.is_out_of_memory.ensures ∙ c.if-is_out_of_memory.true in cc (e, m));
+      order = c.act-reply.ensures.goes.order;
+    }
 
 -- no memory for a second reply
 
@@ -82,6 +86,7 @@ returns-in-Err-clause-causes g c = causes-none (g.D.Disk.state c.args.core.now.d
 pub returns-in-Err-clause-order : goal.returns-in-Err-clause-order
 returns-in-Err-clause-order g c = record {
   claims = no_claims;
+  entry = λ e. cc;
   order = (c.act-reply.ensures.memory (c.in-Err.ensures.memory c.args.step c.act-reply.ensures.fits)).order;
 }
 
@@ -94,7 +99,7 @@ returns-in-Ok-clause-keeps g c = λ found first m.
     (mount-goes (g.D.Disk.state found) (g.D.Disk.state c.args.core.now.disk) (g.D.Disk.state c.act-reply.new.core.disk)
     first c.args.core.now.books c.act-reply.new.core.books m
     c.args.step c.act-reply.result.claims c.act-reply.result.reply c.args.caller c.act-reply.ensures.goes
-    (sym c.wants_memory.ensures ∙ c.if-wants_memory.false) _ refl
+    (sym c.is_out_of_memory.ensures ∙ c.if-is_out_of_memory.false) _ refl
     (ap (λ (x : ℕ × Reply). c.act-reply.new.core.books.history.entries
     ++ record {
       caller = c.args.caller;
@@ -112,7 +117,7 @@ returns-in-Ok-clause-claims g c = λ found first m q.
     unowned-more (g.D.Disk.state found) (g.D.Disk.state c.args.core.now.disk) (g.D.Disk.state c.act-reply.new.core.disk)
     first c.args.core.now.books c.act-reply.new.core.books
     c.args.step c.act-reply.result.claims c.act-reply.result.reply c.args.caller c.act-reply.ensures.goes m
-    (sym c.wants_memory.ensures ∙ c.if-wants_memory.false) q c.keep_step.new.self.books.history.entries
+    (sym c.is_out_of_memory.ensures ∙ c.if-is_out_of_memory.false) q c.keep_step.new.self.books.history.entries
     (ap (λ (l : Books). l.history.entries) c.keep_step.ensures.books
     ∙ ap (λ (x : List Entry1 × ℕ × Reply). x.0
     ++ record {
@@ -150,6 +155,11 @@ returns-in-Ok-clause-causes g c = subst₂ (λ (d : DiskState) (l : Books). Step
 
 pub returns-in-Ok-clause-order : goal.returns-in-Ok-clause-order
 returns-in-Ok-clause-order g c = subst (λ (d : DiskState). StepOrder (g.D.Disk.state c.args.core.now.disk) d (MeetsOpen
-    (g.D.Disk.state c.args.core.now.disk) c.args.core.now.books) c.args.step c.act-reply.result.reply)
+    (g.D.Disk.state c.args.core.now.disk) c.args.core.now.books) c.args.step c.act-reply.result.reply
+    c.keep_step.new.self.books.history.entries)
     (ap g.D.Disk.state (sym c.keep_step.ensures.disk))
-    (record { claims = c.act-reply.result.claims; order = c.act-reply.ensures.goes.order })
+    (record {
+      claims = c.act-reply.result.claims;
+      entry = λ e. (_, _, ap (λ (l : Books). l.history.entries) c.keep_step.ensures.books, refl);
+      order = c.act-reply.ensures.goes.order;
+    })

@@ -1,10 +1,11 @@
-use Rattle.std.proofs.Common.{List, refl, sym, ap, ◌∙◌, subst, arith}
+use Rattle.std.proofs.Common.{◌+◌, ◌≤◌, List, refl, sym, ap, ◌∙◌, subst, arith}
 use Rattle.std.proofs.Math.Logic.{∥∥₁_elim, ∥∥₁_prop}
 use mathlib.Core.List.{IsPrefix}
 use Rattle.nofs_history.specs.declared.machine.history.Entry1.{Entry1}
 use Rattle.nofs_history.specs.declared.machine.steps.Step.{Step}
 use Rattle.nofs_scan.specs.Steps.Elements.{see_step, verdict_at}
-use Rattle.nofs_shared.specs.Acts.Sees.{is_of_sweep}
+use Rattle.nofs_super.specs.declared.superblock.SuperBlock.{SuperBlock}
+use Rattle.nofs_shared.specs.Acts.Sees.{is_of_sweep, sweep_entries}
 use Rattle.nofs_shared.specs.Passes.Entries.{TellsStep}
 use Rattle.nofs_turn.proofs.OnLists.Words.{prefix_self}
 use Rattle.nofs_shared.specs.Mount.Earlier.{earlier-on}
@@ -12,7 +13,7 @@ use Rattle.nofs_shared.proofs.OnPasses.Entries.{adds-prefix}
 use Rattle.nofs_shared.proofs.OnMount.Commits.{commit-beside, commit-unmade}
 use Rattle.nofs_shared.proofs.OnMount.Histories.{mount-history}
 use Rattle.nofs_shared.proofs.OnActs.OtherRoom.{roomed}
-use Rattle.nofs_shared.proofs.OnActs.Room.{adds-none, few-left, sweep-served}
+use Rattle.nofs_shared.proofs.OnActs.Room.{adds-none, few-left, taken-left, taken-same, takes-kept}
 use Rattle.nofs_shared.proofs.mount.mount.Mount.commit.Goals as goal
 
 pub commit_in-requires-clause-earlier : goal.commit_in-requires-clause-earlier
@@ -28,7 +29,13 @@ pub invariant_of-self : goal.invariant_of-self
 invariant_of-self g c =
     let kept = roomed _ _ _ _ c.take_room.new.history _ c.take_room.ensures.stays c.args.self.now.few
     c.args.self.now.safe c.args.self.now.stands in
-    record { few = kept.few; room = c.take_room.ensures.kept; safe = kept.safe; stands = kept.stands }
+    record {
+      few = kept.few;
+      room = c.take_room.ensures.kept;
+      safe = kept.safe;
+      stands = kept.stands;
+      taken = taken-same _ _ c.take_room.new.history.entries c.take_room.ensures.stays.0 c.args.self.now.taken;
+    }
 
 pub invariant_of-self-in-Some : goal.invariant_of-self-in-Some
 invariant_of-self-in-Some g c = record {
@@ -44,6 +51,24 @@ invariant_of-self-in-Some g c = record {
       (mount-history (g.D.Disk.state c.args.self.now.found.value) (g.D.Disk.state c.args.self.now.core.disk)
       c.args.self.now.first c.args.self.now.core.books c.take_room.new.history c.take_room.ensures.stays.1
       c.take_room.ensures.stays.0 m) ∣₁));
+  taken =
+      (let same = c.step_of-step.ensures ∙ ap (see_step c.args.evidence.now.kind) c.item-item.ensures in
+      subst (λ (s : SuperBlock).
+      s.inodes + s.blocks ≤ c.in-Some.left + sweep_entries c.commit_in.new.core.books.history.entries)
+      (sym c.commit_in.ensures.goes_on.same.1)
+      (taken-left c.args.caller
+      (see_step c.args.evidence.now.kind (verdict_at c.args.evidence.now.verdicts c.args.at).item)
+      c.commit_in.result c.take_room.new.history.entries
+      c.commit_in.new.core.books.history.entries c.args.self.now.kept c.in-Some.left
+      (c.args.self.now.core.books.at.inodes + c.args.self.now.core.books.at.blocks) c.commit_in.ensures.tells.adds
+      (takes-kept c.args.caller
+      (see_step c.args.evidence.now.kind (verdict_at c.args.evidence.now.verdicts c.args.at).item)
+      c.commit_in.result c.args.self.now.kept c.in-Some.left
+      (λ e some. sym c.in-Some.is
+      ∙ c.take_room.ensures.sweep (ap (λ (s : Step). is_of_sweep c.args.caller s) same ∙ e) some)
+      (λ e. c.commit_in.ensures.sees)
+      (λ e. c.in-Some.ensures.others (ap (λ (s : Step). is_of_sweep c.args.caller s) same ∙ e)))
+      (taken-same _ _ c.take_room.new.history.entries c.take_room.ensures.stays.0 c.args.self.now.taken)));
 }
 
 pub returns-in-None-clause-commits : goal.returns-in-None-clause-commits
@@ -90,15 +115,13 @@ returns-in-None-clause-kept g c =
 pub returns-clause-kept : goal.returns-clause-kept
 returns-clause-kept g c =
     let same = c.step_of-step.ensures ∙ ap (see_step c.args.evidence.now.kind) c.item-item.ensures in
-    record {
-      sweeps = sweep-served c.args.caller
-          (see_step c.args.evidence.now.kind (verdict_at c.args.evidence.now.verdicts c.args.at).item)
-          c.commit_in.result c.args.self.now.kept c.in-Some.left
-          (λ e some. sym c.in-Some.is
-          ∙ c.take_room.ensures.sweep (ap (λ (s : Step). is_of_sweep c.args.caller s) same ∙ e) some)
-          (λ e. c.commit_in.ensures.sees);
-      others = λ e. c.in-Some.ensures.others (ap (λ (s : Step). is_of_sweep c.args.caller s) same ∙ e);
-    }
+    takes-kept c.args.caller
+    (see_step c.args.evidence.now.kind (verdict_at c.args.evidence.now.verdicts c.args.at).item)
+    c.commit_in.result c.args.self.now.kept c.in-Some.left
+    (λ e some. sym c.in-Some.is
+    ∙ c.take_room.ensures.sweep (ap (λ (s : Step). is_of_sweep c.args.caller s) same ∙ e) some)
+    (λ e. c.commit_in.ensures.sees)
+    (λ e. c.in-Some.ensures.others (ap (λ (s : Step). is_of_sweep c.args.caller s) same ∙ e))
 
 pub returns-in-None-clause-own : goal.returns-in-None-clause-own
 returns-in-None-clause-own g c = earlier-on c.requires.own c.take_room.new.history.start c.args.self.now.core.books.at

@@ -1,6 +1,7 @@
 use Rattle.std.proofs.Common.{◌+◌, ◌^◌, ◌≤◌, length, sym, subst}
 use Rattle.std.proofs.Math.Logic.{∥∥₁_elim, ∥∥₁_prop}
 use Rattle.nofs_state.specs.declared.books.maps.Books.{Books}
+use Rattle.nofs_shared.specs.Acts.Sees.{sweep_entries}
 use Rattle.nofs_shared.proofs.OnMount.Looks.{looked-own, mount-looked, safe-looked}
 use Rattle.nofs_shared.proofs.mount.mount.Mount.look_batch.Goals as goal
 
@@ -20,6 +21,9 @@ invariant_of-self g c = record {
       c.args.self.now.first c.args.self.now.core.books c.look_batch.new.core.books c.look_batch.ensures.only.stays
       c.look_batch.ensures.only.books
       c.look_batch.ensures.only.learns m ∣₁);
+  taken = subst (λ (b : Books).
+      b.at.inodes + b.at.blocks ≤ c.args.self.now.kept + sweep_entries b.history.entries)
+      (sym c.look_batch.ensures.only.books) c.args.self.now.taken;
 }
 
 pub returns-clause-own : goal.returns-clause-own

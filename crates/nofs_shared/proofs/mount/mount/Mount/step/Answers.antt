@@ -1,13 +1,15 @@
-use Rattle.std.proofs.Common.{List, refl, sym, ◌∙◌, subst, arith}
+use Rattle.std.proofs.Common.{◌+◌, ◌≤◌, List, refl, sym, ◌∙◌, subst, arith}
 use Rattle.std.proofs.Math.Logic.{∥∥₁_elim, ∥∥₁_prop}
 use Rattle.nofs_history.specs.declared.machine.history.Entry1.{Entry1}
+use Rattle.nofs_super.specs.declared.superblock.SuperBlock.{SuperBlock}
+use Rattle.nofs_shared.specs.Acts.Sees.{sweep_entries}
 use Rattle.nofs_shared.specs.Mount.Entries.{Unowned}
 use Rattle.nofs_shared.specs.Passes.Entries.{TellsStep}
 use Rattle.nofs_shared.proofs.OnMount.Causes.{causes-roomed, causes-unroomed, order-sound, order-unroomed}
 use Rattle.nofs_shared.proofs.OnMount.Claims.{unowned-none}
 use Rattle.nofs_shared.proofs.OnMount.Histories.{mount-history}
 use Rattle.nofs_shared.proofs.OnActs.OtherRoom.{roomed}
-use Rattle.nofs_shared.proofs.OnActs.Room.{adds-none, few-left, settles-memory, sweep-served}
+use Rattle.nofs_shared.proofs.OnActs.Room.{adds-none, few-left, settles-memory, taken-left, taken-same, takes-kept}
 use Rattle.nofs_shared.proofs.mount.mount.Mount.step.Goals as goal
 
 pub invariant_of-self-in-Some : goal.invariant_of-self-in-Some
@@ -22,13 +24,28 @@ invariant_of-self-in-Some g c = record {
       (mount-history (g.D.Disk.state c.args.self.now.found.value) (g.D.Disk.state c.args.self.now.core.disk)
       c.args.self.now.first c.args.self.now.core.books c.take_room.new.history c.take_room.ensures.stays.1
       c.take_room.ensures.stays.0 m) ∣₁);
+  taken = subst (λ (s : SuperBlock).
+      s.inodes + s.blocks ≤ c.in-Some.left + sweep_entries c.step_in.new.core.books.history.entries)
+      (sym c.step_in.ensures.goes_on.same.1)
+      (taken-left c.args.caller c.args.step c.step_in.result c.take_room.new.history.entries
+      c.step_in.new.core.books.history.entries c.args.self.now.kept c.in-Some.left
+      (c.args.self.now.core.books.at.inodes + c.args.self.now.core.books.at.blocks) c.step_in.ensures.tells.adds
+      (takes-kept c.args.caller c.args.step c.step_in.result c.args.self.now.kept c.in-Some.left
+      (λ e some. sym c.in-Some.is ∙ c.take_room.ensures.sweep e some) c.step_in.ensures.sees c.in-Some.ensures.others)
+      (taken-same _ _ c.take_room.new.history.entries c.take_room.ensures.stays.0 c.args.self.now.taken));
 }
 
 pub invariant_of-self : goal.invariant_of-self
 invariant_of-self g c =
     let kept = roomed _ _ _ _ c.take_room.new.history _ c.take_room.ensures.stays c.args.self.now.few
     c.args.self.now.safe c.args.self.now.stands in
-    record { few = kept.few; room = c.take_room.ensures.kept; safe = kept.safe; stands = kept.stands }
+    record {
+      few = kept.few;
+      room = c.take_room.ensures.kept;
+      safe = kept.safe;
+      stands = kept.stands;
+      taken = taken-same _ _ c.take_room.new.history.entries c.take_room.ensures.stays.0 c.args.self.now.taken;
+    }
 
 pub returns-in-None-clause-tells : goal.returns-in-None-clause-tells
 returns-in-None-clause-tells g c = record {
@@ -57,11 +74,9 @@ returns-in-Some-clause-claims g c = λ q. ∥∥₁_elim c.args.self.now.stands 
     c.take_room.ensures.stays.0 m) q) ∣₁)
 
 pub returns-in-Some-clause-kept : goal.returns-in-Some-clause-kept
-returns-in-Some-clause-kept g c = record {
-  sweeps = sweep-served c.args.caller c.args.step c.step_in.result c.args.self.now.kept c.in-Some.left
-      (λ e some. sym c.in-Some.is ∙ c.take_room.ensures.sweep e some) c.step_in.ensures.sees;
-  others = c.in-Some.ensures.others;
-}
+returns-in-Some-clause-kept g c =
+    takes-kept c.args.caller c.args.step c.step_in.result c.args.self.now.kept c.in-Some.left
+    (λ e some. sym c.in-Some.is ∙ c.take_room.ensures.sweep e some) c.step_in.ensures.sees c.in-Some.ensures.others
 
 pub returns-in-None-clause-kept : goal.returns-in-None-clause-kept
 returns-in-None-clause-kept g c = record {
@@ -83,11 +98,11 @@ returns-in-Some-clause-causes g c =
     c.step_in.result c.take_room.new.history c.step_in.ensures.causes
 
 pub returns-in-None-clause-order : goal.returns-in-None-clause-order
-returns-in-None-clause-order g c = order-unroomed (g.D.Disk.state c.args.self.now.core.disk) _ c.args.step
+returns-in-None-clause-order g c = order-unroomed (g.D.Disk.state c.args.self.now.core.disk) _ c.args.step _
 
 pub returns-in-Some-clause-order : goal.returns-in-Some-clause-order
 returns-in-Some-clause-order g c =
     order-sound (g.D.Disk.state c.args.self.now.found.value) (g.D.Disk.state c.args.self.now.core.disk)
     (g.D.Disk.state c.step_in.new.core.disk) c.args.self.now.first
-    c.args.self.now.core.books c.args.step c.step_in.result c.take_room.new.history c.take_room.ensures.stays.1
+    c.args.self.now.core.books c.args.step c.step_in.result _ c.take_room.new.history c.take_room.ensures.stays.1
     c.args.self.now.stands c.step_in.ensures.order

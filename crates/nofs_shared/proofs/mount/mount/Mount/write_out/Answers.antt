@@ -3,6 +3,7 @@ use Rattle.std.proofs.Math.Logic.{∥∥₁_elim, ∥∥₁_prop}
 use Rattle.nofs_state.specs.Books.Maps.{IsSafe}
 use Rattle.nofs_state.specs.declared.books.maps.Books.{Books}
 use Rattle.nofs_state.proofs.OnCores.WriteOuts.{safe-out}
+use Rattle.nofs_shared.specs.Acts.Sees.{sweep_entries}
 use Rattle.nofs_shared.proofs.OnMount.WriteOuts.{mount-out-of}
 use Rattle.nofs_shared.proofs.mount.mount.Mount.write_out.Goals as goal
 
@@ -19,4 +20,7 @@ invariant_of-self g c =
           (safe-out _ _ _ out c.args.self.now.core.books c.args.self.now.safe);
       stands = ∥∥₁_elim c.args.self.now.stands ∥∥₁_prop (λ m. ∣ mount-out-of (S c.args.self.now.found.value)
           _ _ c.args.self.now.first c.args.self.now.core.books _ out m c.write_out.new.self.books same ∣₁);
+      taken = subst (λ (b : Books).
+          b.at.inodes + b.at.blocks ≤ c.args.self.now.kept + sweep_entries b.history.entries)
+          (sym same) c.args.self.now.taken;
     }
