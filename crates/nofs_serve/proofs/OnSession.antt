@@ -1,102 +1,62 @@
--- A whole team: its sweepers, its flusher and its users, and what it leaves in a history.
-use Rattle.std.proofs.Common.{◌≡◌, ◌≢◌, inr, ℕ, ◌+◌, ◌-◌, ◌≤◌, eqb, eqb-true, eq-eqb, Bool, true, false, ◌||◌, List, []}
-use Rattle.std.proofs.Common.{◌∷◌, length}
+-- A whole team: its users beside its sweepers and its flusher, and what it leaves in a history.
+use Rattle.std.proofs.Common.{◌≡◌, inr, ℕ, ◌+◌, ◌-◌, ◌≤◌, Bool, true, false, List, [], ◌∷◌, length, Some}
 use Rattle.std.proofs.Common.{drop, refl, sym, ap, ◌∙◌, subst, arith}
 use mathlib.Core.List.{IsPrefix}
 use Rattle.nofs_turn.specs.declared.rule.view.View.{View}
-use Rattle.nofs_turn.specs.Lists.{numbered, chosen}
-use Rattle.nofs_turn.proofs.OnLists.Words.{prefix_self, prefix_trans}
-use Rattle.nofs_history.specs.declared.machine.callers.TheConstants.{BLOCK_SWEEPER, FLUSHER, INODE_SWEEPER, MOST_USERS}
+use Rattle.nofs_turn.specs.Lists.{numbered}
+use Rattle.nofs_turn.proofs.OnLists.Words.{prefix_self}
+use Rattle.nofs_history.specs.declared.machine.callers.TheConstants.{BLOCK_SWEEPER, INODE_SWEEPER, MOST_USERS}
 use Rattle.nofs_history.specs.Steps.{Made}
 use Rattle.nofs_history.specs.declared.machine.history.Entry1.{Entry1}
 use Rattle.nofs_history.specs.declared.machine.steps.ElementKind.{ElementKind}
 use Rattle.nofs_history.specs.declared.machine.steps.ElementKind.TheVariants.{Inode, Block}
-use Rattle.nofs_history.specs.Callers.{is_by, steps_by}
+use Rattle.nofs_history.specs.Callers.{steps_by}
 use Rattle.nofs_client.specs.declared.task.commands.Command.{Command}
 use Rattle.nofs_client.specs.declared.task.lines.Line.{Line}
 use Rattle.nofs_client.specs.Driver.{IsBegun}
-use Rattle.nofs_shared.specs.Passes.Entries.{all_by, own_steps}
-use Rattle.nofs_shared.specs.Passes.Seats.{SameSeat}
-use Rattle.nofs_shared.proofs.OnPasses.Joined.{steps_of}
 use Rattle.nofs_workers.specs.Sweep.{Sweeps}
-use Rattle.nofs_serve.specs.Teams.Joins.{JoinsOwn, Gathers, made_by}
-use Rattle.nofs_serve.specs.Teams.Users.{UsersBegun}
-use Rattle.nofs_serve.specs.Session.{TeamMade, TeamGathered, TeamServed, UsersGathered}
-use Rattle.nofs_serve.proofs.OnTeams.Joins.{made_by-own, made_by-other, joins-own, joins-other, gathers-one}
-use Rattle.nofs_serve.proofs.OnTeams.Joins.{gathers-more}
-use Rattle.nofs_serve.proofs.OnTeams.Gathered.{neither}
+use Rattle.nofs_serve.specs.Teams.Beside.{BesideGathered, SweepsMade}
+use Rattle.nofs_serve.specs.Teams.Joins.{Gathers, made_by}
+use Rattle.nofs_serve.specs.Teams.Users.{UsersBegun, UsersEnded}
+use Rattle.nofs_serve.specs.Session.{TeamEnded, TeamMade, TeamGathered, TeamServed, UsersGathered}
+use Rattle.nofs_serve.proofs.OnTeams.Joins.{closes-grown, closes-made}
+use Rattle.nofs_serve.proofs.OnTeams.Sweeps.{has-no-room, no-room-left, sweeps-served, sweeps-told}
 
--- a sweep that is told of only where more was done
-sweeps-told : (Item : ℕ → ℕ → Type 0) (kind : ElementKind) (count : ℕ) (out short : Bool) (new now : List Made)
-    → (short ≡ false → out ≡ false) → now ≡ new
-    → Sweeps Item kind 0 count out [] new → Sweeps Item kind 0 count short [] now
-sweeps-told Item kind count out short new now less is s = record {
-  elements = s.elements;
-  at_most = s.at_most;
-  whole = λ e. s.whole (less e);
-  ordered = s.ordered;
-  makes = record { made = s.makes.made; more = is ∙ s.makes.more; steps = s.makes.steps };
-}
-
-module _ {F : Type 0} (scripts : List (List Command)) (inodes blocks : ℕ) (short out out_inodes out_blocks : Bool)
-    (lines : List (List Line))
-    (v p w q f z u : View Entry1 F)
-    (few : length scripts ≤ MOST_USERS) (one : v.stands ≡ 1) (same : SameSeat v p)
-    (own : all_by INODE_SWEEPER p.mine ≡ true)
-    (up : Sweeps (λ place item. item ≡ place) Inode 0 inodes out_inodes [] (own_steps p.mine))
-    (same_blocks : SameSeat v w) (j : JoinsOwn BLOCK_SWEEPER p w q)
-    (down : Sweeps (λ place item. item ≡ blocks - 1 - place) Block 0 blocks out_blocks [] (own_steps w.mine))
-    (same_flusher : SameSeat v f) (joined_flusher : JoinsOwn FLUSHER q f z) (no_step : own_steps f.mine ≡ [])
-    (either : out ≡ (out_inodes || out_blocks)) where
-  none_of_sweeps : (c : ℕ) → c ≢ INODE_SWEEPER → c ≢ BLOCK_SWEEPER → made_by c q ≡ []
-  none_of_sweeps c not_inodes not_blocks =
-      joins-other BLOCK_SWEEPER c p w q j not_blocks ∙ made_by-other c INODE_SWEEPER p own not_inodes
-
-  -- the flusher adds nothing
-  flusher-adds : (c : ℕ) → made_by c z ≡ made_by c q
-  flusher-adds c = go (eqb c FLUSHER) refl
-    where
-      go : (b : Bool) → eqb c FLUSHER ≡ b → made_by c z ≡ made_by c q
-      go true e =
-          let is : c ≡ FLUSHER = eqb-true c FLUSHER e in
-          let none : made_by FLUSHER q ≡ [] =
-          none_of_sweeps FLUSHER (λ n. absurd (omega (arith, n))) (λ n. absurd (omega (arith, n))) in
-          subst (λ (n : ℕ). made_by n z ≡ made_by n q) (sym is)
-          (joins-own FLUSHER q f z joined_flusher none ∙ no_step ∙ sym none)
-      go false e = joins-other FLUSHER c q f z joined_flusher
-          (λ n. absurd (let t : eqb c FLUSHER ≡ true = eq-eqb c FLUSHER n in cc (t, e)))
-
-  none_before : (c : ℕ) → c ≢ INODE_SWEEPER → c ≢ BLOCK_SWEEPER → made_by c z ≡ []
-  none_before c not_inodes not_blocks = flusher-adds c ∙ none_of_sweeps c not_inodes not_blocks
-
+module _ {F : Type 0} (room : F → ℕ) (scripts : List (List Command)) (inodes blocks : ℕ) (out short : Bool)
+    (early : List Bool) (lines : List (List Line)) (v z u : View Entry1 F) (few : length scripts ≤ MOST_USERS)
+    (b : BesideGathered room inodes blocks out v z) where
+  -- the users are joined to the sweepers and the flusher
   pub team-gathers : (((c : ℕ) → 1 ≤ c → c ≤ length scripts → made_by c z ≡ []) → Gathers v z 3
-      → Gathers v u (3 + length scripts) × UsersGathered scripts out short lines z u)
-      → TeamGathered scripts inodes blocks short lines v u
+      → Gathers v u (3 + length scripts) × UsersGathered scripts out short early lines z u)
+      → TeamGathered room scripts inodes blocks short early lines v u
   team-gathers users =
-      let two = gathers-more BLOCK_SWEEPER 1 v p w q one (gathers-one v p one same) j same_blocks in
-      let three = gathers-more FLUSHER 2 v q f z one two joined_flusher same_flusher in
-      let r = users (λ c low high. none_before c (λ e. absurd (omega (arith, few, high, e)))
-      (λ e. absurd (omega (arith, few, high, e)))) three in
+      let r = users (λ c low high. b.others c (λ e. absurd (omega (arith, few, high, e)))
+      (λ e. absurd (omega (arith, few, high, e)))) b.gathers in
       let g = r.1 in
-      let of_inodes : made_by INODE_SWEEPER u ≡ own_steps p.mine = g.others INODE_SWEEPER (inr (omega (arith, few)))
-      ∙ (flusher-adds INODE_SWEEPER ∙ (joins-other BLOCK_SWEEPER INODE_SWEEPER p w q j (λ e. absurd (omega (arith, e)))
-      ∙ made_by-own INODE_SWEEPER p own)) in
-      let of_blocks : made_by BLOCK_SWEEPER u ≡ own_steps w.mine = g.others BLOCK_SWEEPER (inr (omega (arith, few)))
-      ∙ (flusher-adds BLOCK_SWEEPER ∙ joins-own BLOCK_SWEEPER p w q j
-      (made_by-other BLOCK_SWEEPER INODE_SWEEPER p own (λ e. absurd (omega (arith, e))))) in
-      let less : short ≡ false → (out_inodes ≡ false) × (out_blocks ≡ false) =
-      λ e. neither out_inodes out_blocks (sym either ∙ g.was_short e) in
+      let of_inodes : made_by INODE_SWEEPER u ≡ made_by INODE_SWEEPER z =
+      g.others INODE_SWEEPER (inr (omega (arith, few))) in
+      let of_blocks : made_by BLOCK_SWEEPER u ≡ made_by BLOCK_SWEEPER z =
+      g.others BLOCK_SWEEPER (inr (omega (arith, few))) in
       record {
         gathers = subst (λ n. Gathers v u n) (omega arith) r.0;
         made = record {
           begun = g.begun;
           served = g.served;
-          inodes_seen = sweeps-told (λ place item. item ≡ place) Inode inodes out_inodes short (own_steps p.mine)
-              (made_by INODE_SWEEPER u) (λ e. (less e).0) of_inodes up;
-          blocks_seen = sweeps-told (λ place item. item ≡ blocks - 1 - place) Block blocks out_blocks short
-              (own_steps w.mine) (made_by BLOCK_SWEEPER u) (λ e. (less e).1) of_blocks down;
-          others = λ c nobody. g.others c nobody.2 ∙ none_before c nobody.0 nobody.1;
+          inodes_seen = sweeps-told (λ place item. item ≡ place) Inode inodes out short (made_by INODE_SWEEPER z)
+              (made_by INODE_SWEEPER u) g.was_short of_inodes b.made.inodes_seen;
+          blocks_seen = sweeps-told (λ place item. item ≡ blocks - 1 - place) Block blocks out short
+              (made_by BLOCK_SWEEPER z) (made_by BLOCK_SWEEPER u) g.was_short of_blocks b.made.blocks_seen;
+          others = λ c nobody. g.others c nobody.2 ∙ b.others c nobody.0 nobody.1;
         };
+        users = g.each;
+        swept = out;
+        sweeps = record {
+          inodes_seen = sweeps-told (λ place item. item ≡ place) Inode inodes out out (made_by INODE_SWEEPER z)
+              (made_by INODE_SWEEPER u) (λ e. e) of_inodes b.made.inodes_seen;
+          blocks_seen = sweeps-told (λ place item. item ≡ blocks - 1 - place) Block blocks out out
+              (made_by BLOCK_SWEEPER z) (made_by BLOCK_SWEEPER u) (λ e. e) of_blocks b.made.blocks_seen;
+        };
+        lacks = λ e. has-no-room room z u (b.lacks e) (r.0.fixed ∙ sym b.gathers.fixed) g.knew;
       }
 
 module _ (scripts : List (List Command)) (inodes blocks : ℕ) where
@@ -158,17 +118,24 @@ module _ (scripts : List (List Command)) (inodes blocks : ℕ) where
       }
 
   -- the passes in one are closed
-  pub team-closed : {F : Type 0} (short : Bool) (lines : List (List Line)) (H K : List Entry1) (v u : View Entry1 F)
-      → v.seen ≡ H → v.start ≡ length H
-      → TeamGathered scripts inodes blocks short lines v u
-      → IsPrefix u.seen K → u.mine ≡ numbered u.start (drop u.start K)
-      → TeamServed scripts inodes blocks short lines H K
-  team-closed short lines H K v u seen start g begins all =
-      let from : u.start ≡ length H = g.gathers.start ∙ start in
-      let same : (c : ℕ) → made_by c u ≡ steps_by c (drop (length H) K) =
-      λ c. ap (λ m. own_steps (chosen (is_by c) m)) (all ∙ ap (λ (n : ℕ). numbered n (drop n K)) from)
-      ∙ sym (steps_of c (length H) (drop (length H) K)) in
-      record {
-        grown = prefix_trans H u.seen K (subst (λ l. IsPrefix l u.seen) seen g.gathers.seen) begins;
-        made = subst (λ (by : ℕ → List Made). TeamMade scripts inodes blocks short lines by) (λ i c. same c i) g.made;
-      }
+  module _ {F : Type 0} (room : F → ℕ) (short : Bool) (early : List Bool) (lines : List (List Line))
+      (H K : List Entry1) (v u : View Entry1 F) (seen : v.seen ≡ H) (start : v.start ≡ length H)
+      (g : TeamGathered room scripts inodes blocks short early lines v u) (begins : IsPrefix u.seen K)
+      (all : u.mine ≡ numbered u.start (drop u.start K)) where
+    same : (c : ℕ) → made_by c u ≡ steps_by c (drop (length H) K)
+    same = closes-made (length scripts + 3) H K v u start g.gathers all
+
+    pub team-closed : TeamServed scripts inodes blocks short lines H K
+    team-closed = record {
+      grown = closes-grown (length scripts + 3) H K v u seen g.gathers begins;
+      made = subst (λ (by : ℕ → List Made). TeamMade scripts inodes blocks short lines by) (λ i c. same c i) g.made;
+    }
+
+    pub team-ended : (f : F) → v.fixed ≡ Some f → TeamEnded scripts (room f) inodes blocks early lines H K
+    team-ended f fixed = record {
+      users = subst (λ (by : ℕ → List Made). UsersEnded 1 scripts early lines by) (λ i c. same c i) g.users;
+      sweeps = sweeps-served (room f) inodes blocks g.swept H K
+          (closes-grown (length scripts + 3) H K v u seen g.gathers begins)
+          (subst (λ (by : ℕ → List Made). SweepsMade inodes blocks g.swept by) (λ i c. same c i) g.sweeps)
+          (λ e. no-room-left room u f K (g.lacks e) (g.gathers.fixed ∙ fixed) begins);
+    }

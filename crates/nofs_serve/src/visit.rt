@@ -1,21 +1,23 @@
 //! Serving one visitor at a mount, on the calling thread.
 //!
 //! Promise: the history has of `FIRST_USER` just the steps of the visit, and of each sweep one step for each element.
-//! The flusher has none, nor has any other caller.
+//! The flusher has none, nor has any other caller. No sweep ends early for which room was taken.
 ghost use Rattle.std.specs.Prelude.{◌≡◌, ◌+◌, ◌<◌, ◌^◌, [], All, IfErr, IfOk, vec_len};
 ghost use Rattle.nofs_turn.specs.declared.rule.view.View.{View};
 ghost use Rattle.nofs_turn.specs.Turn.{view_of, IsPassOf};
 ghost use Rattle.nofs_history.specs.declared.machine.history.Entry1.{Entry1};
+ghost use Rattle.nofs_serve.specs.Teams.Beside.{SweepsServed};
 ghost use Rattle.nofs_serve.specs.Visit.{VisitGathered, VisitServed};
 
-use crate::teams::gather::{either, join_way};
+use crate::teams::beside::{Beside, Joined, gather_beside, seat_beside};
+use crate::teams::gather::join_way;
 use crate::teams::lend::work_beside;
 use crate::teams::team::{Sweeps, WriteOuts, seat};
 use crate::teams::works::Visits;
-use nofs_history::{BLOCK_SWEEPER, FIRST_USER, FLUSHER, INODE_SWEEPER};
+use nofs_history::FIRST_USER;
 use nofs_shared::{Serves, ShareFault, SharedMount};
 use nofs_turn::Pass;
-use nofs_workers::{BlockSweeper, Downwards, Flusher, Gate, InodeSweeper, Upwards};
+use nofs_workers::Gate;
 use std::alloc::Global;
 use std::sync::Wait;
 use std::thread::Threads;
@@ -26,13 +28,6 @@ pub struct Visited<V> {
     pub mount: V,
     /// Whether memory was wanting for a sweep.
     pub out_of_memory: bool,
-}
-
-// The passes of a visit in one, and whether memory was wanting for a sweep.
-#[derive(Drop)]
-struct Joined<V: Serves> {
-    pass: Pass<V>,
-    out_of_memory: bool,
 }
 
 // Seats a visitor, the sweepers and the flusher, lets all work at once, and joins their passes.
@@ -53,39 +48,21 @@ where
         × All (λ p. IsPassOf shared.now.turn p × ((view_of p).mine ≡ [])) passes.items }
     ensures of { IsPassOf shared.now.turn result.pass }
     ensures gathered { (v : View Entry1 V.Fixed) → v.stands ≡ 1 → v.mine ≡ [] → All (λ p. view_of p ≡ v) passes.items
-        → VisitGathered (G.visited visitor.old visitor.new []) sweeps.inodes sweeps.blocks result.out_of_memory v
-        (view_of result.pass) }
+        → VisitGathered V.room_in (G.visited visitor.old visitor.new []) sweeps.inodes sweeps.blocks
+        result.out_of_memory v (view_of result.pass) }
 {
     let mut passes = passes;
     let mut visit = seat(rt, alloc, shared, FIRST_USER, &mut passes);
-    let Sweeps {
+    let mut beside = seat_beside(rt, alloc, shared, &mut passes, sweeps, outs);
+    let Beside {
         inodes,
         blocks,
-        gates: (gate, next_gate),
-    } = sweeps;
-    let way = seat(rt, alloc, shared, INODE_SWEEPER, &mut passes);
-    let mut inodes = InodeSweeper::new(way, Upwards { count: inodes }, gate);
-    let way = seat(rt, alloc, shared, BLOCK_SWEEPER, &mut passes);
-    let mut blocks = BlockSweeper::new(way, Downwards { count: blocks }, next_gate);
-    let way = seat(rt, alloc, shared, FLUSHER, &mut passes);
-    let mut flusher = Flusher::new(way, outs.gate, outs.turns);
-    work_beside(
-        rt,
-        &mut inodes,
-        &mut blocks,
-        &mut flusher,
-        visitor,
-        &mut visit,
-    );
-    let out_of_memory = either(inodes.out_of_memory, blocks.out_of_memory);
-    let mut pass = inodes.into_inner().back();
-    join_way(shared, &mut pass, blocks.into_inner());
-    join_way(shared, &mut pass, flusher.into_inner());
-    join_way(shared, &mut pass, visit);
-    Joined {
-        pass,
-        out_of_memory,
-    }
+        flusher,
+    } = &mut beside;
+    work_beside(rt, inodes, blocks, flusher, visitor, &mut visit);
+    let mut joined = gather_beside(shared, beside);
+    join_way(shared, &mut joined.pass, visit);
+    joined
 }
 
 /// Serves a visitor on the calling thread beside the two sweepers and the flusher, and hands the mount back when all
@@ -106,6 +83,9 @@ where
     ensures visited { IfOk result
         (λ done. VisitServed (G.visited visitor.old visitor.new []) sweeps.inodes sweeps.blocks
         done.out_of_memory (V.entries mount) (V.entries done.mount)) }
+    ensures sweeps { IfOk result
+        (λ done. SweepsServed (V.room_in (V.fixed mount)) sweeps.inodes sweeps.blocks (V.entries mount)
+        (V.entries done.mount)) }
     ensures unvisited { IfErr result (λ same. (same ≡ mount) × (visitor.new ≡ visitor.old)) }
 {
     let (shared, passes) = match SharedMount::new(alloc, mount, 4) {

@@ -1,12 +1,13 @@
 //! Ways to the mount that look at several elements at once.
 //!
 //! Promise: whoever judges a batch hears for each element the verdict that was seen for it, and each
-//! commit is one step.
-ghost use Rattle.std.specs.Prelude.{◌≡◌, ◌<◌, ◌≤◌, length, IfOk, get_or};
-ghost use Rattle.nofs_history.specs.Steps.{Fits, with_made};
-ghost use Rattle.nofs_workers.specs.Sweep.{Looked, AreInRange, see_of};
+//! commit is one step. Where memory was wanting for a step, no room for such steps is left.
+ghost use Rattle.std.specs.Prelude.{◌≡◌, ◌^◌, ◌<◌, ◌≤◌, true, length, IfOk, get_or};
+ghost use Rattle.nofs_history.specs.Steps.{Fits, is_out_of_memory, with_made};
+ghost use Rattle.nofs_history.specs.declared.machine.steps.ElementKind.TheVariants.{Inode};
+ghost use Rattle.nofs_workers.specs.Sweep.{Looked, AreInRange, see_of as step_to_see};
 
-use nofs_history::{ElementKind, Refusal, Reply, Steps};
+use nofs_history::{ElementKind, Refusal, Reply, Step, Steps};
 
 /// A way to the mount whose steps on elements can be made in two parts: a look at up to 64 of them,
 /// and then a commit for each.
@@ -19,6 +20,9 @@ pub trait Batches: Steps {
 
     /// Which evidence is its own.
     ghost owns: { Self → Self.Evidence → Type 0 };
+
+    /// What is so where memory was wanting for a step on an element.
+    ghost lacks_room: { Self → Type 0 };
 
     /// Looks at the elements. It makes no step.
     fn look_batch(&mut self, kind: ElementKind, items: &[u64]) -> Result<Self::Evidence, Refusal>
@@ -41,8 +45,28 @@ pub trait Batches: Steps {
         requires at { at < length (looked evidence.now).items }
         requires judged { used ≡ (looked evidence.now).verdict at }
         ensures made { Self.made self.new ≡ with_made (Self.made self.old)
-            (see_of (looked evidence.now).kind (get_or (looked evidence.now).items at 0)) result }
-        ensures fits { Fits (see_of (looked evidence.now).kind (get_or (looked evidence.now).items at 0)) result }
+            (step_to_see (looked evidence.now).kind (get_or (looked evidence.now).items at 0)) result }
+        ensures fits { Fits (step_to_see (looked evidence.now).kind (get_or (looked evidence.now).items at 0)) result }
         ensures own { owns self.new evidence.now }
+        ensures memory { is_out_of_memory result ≡ true → lacks_room self.new }
         ensures goes { Self.goes self.old self.new };
+
+    /// Makes the step that examines an element.
+    fn see(&mut self, kind: ElementKind, item: u64) -> Reply
+        requires in_range { kind ≡ Inode → item < 2 ^ 32 }
+        ensures made { Self.made self.new ≡ with_made (Self.made self.old) (step_to_see kind item) result }
+        ensures fits { Fits (step_to_see kind item) result }
+        ensures memory { is_out_of_memory result ≡ true → lacks_room self.new }
+        ensures goes { Self.goes self.old self.new };
+}
+
+/// The step that examines an element.
+pub fn see_of(kind: ElementKind, item: u64) -> Step
+    requires { kind ≡ Inode → item < 2 ^ 32 }
+    ensures { result ≡ step_to_see kind item }
+{
+    match kind {
+        ElementKind::Inode => Step::SeeInode { inode: item as u32 },
+        ElementKind::Block => Step::SeeBlock { block: item },
+    }
 }

@@ -20,7 +20,7 @@ mod sweepers;
 mod tasks;
 mod user;
 
-pub use batches::Batches;
+pub use batches::{Batches, see_of};
 pub use course::Course;
 pub use flusher::{Flusher, WritesOut};
 pub use gate::{Gate, Gated, OpenGate};

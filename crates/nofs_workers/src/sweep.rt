@@ -1,33 +1,22 @@
 //! How a sweep goes over its order, batch by batch.
 //!
-//! Promise: one step for each place of the order, in order; fewer only where memory was wanting.
-ghost use Rattle.std.specs.Prelude.{◌≡◌, ◌+◌, ◌-◌, ◌^◌, ◌<◌, ◌≤◌, length, false};
+//! Promise: one step for each place of the order, in order; fewer only where memory was wanting, and no room for such
+//! steps is then left.
+ghost use Rattle.std.specs.Prelude.{◌≡◌, ◌+◌, ◌-◌, ◌^◌, ◌<◌, ◌≤◌, length, true, false};
 ghost use Rattle.nofs_history.specs.Steps.{is_out_of_memory};
 ghost use Rattle.nofs_history.specs.declared.machine.steps.ElementKind.TheVariants.{Inode};
 ghost use Rattle.nofs_workers.specs.Sweep.{AreInRange, AreOrdered, MakesFirst, Sweeps, element_number as number_in};
-ghost use Rattle.nofs_workers.specs.Sweep.{see_of as step_to_see};
 
 use crate::batches::Batches;
 use crate::course::Course;
 use crate::gate::Gate;
-use nofs_history::{ElementKind, Step, Steps};
+use nofs_history::ElementKind;
 
 /// The most elements of one batch.
 const BATCH: u64 = 64;
 
-/// The step that examines an element.
-pub fn see_of(kind: ElementKind, item: u64) -> Step
-    requires { kind ≡ Inode → item < 2 ^ 32 }
-    ensures { result ≡ step_to_see kind item }
-{
-    match kind {
-        ElementKind::Inode => Step::SeeInode { inode: item as u32 },
-        ElementKind::Block => Step::SeeBlock { block: item },
-    }
-}
-
 /// Examines each element by a step of its own. True where memory was wanting.
-fn see_each<S: Steps, T: Gate>(
+fn see_each<S: Batches, T: Gate>(
     steps: &mut S,
     kind: ElementKind,
     elements: &[u64],
@@ -35,11 +24,12 @@ fn see_each<S: Steps, T: Gate>(
 ) -> bool
     requires { AreInRange kind elements.now }
     ensures made { MakesFirst kind elements.now result (S.made steps.old) (S.made steps.new) }
+    ensures room { result ≡ true → S.lacks_room steps.new }
     ensures goes { S.goes steps.old steps.new }
 {
     for element in elements {
         gate.before();
-        let reply = steps.step(see_of(kind, *element));
+        let reply = steps.see(kind, *element);
         gate.after();
         if reply.is_out_of_memory() {
             return true;
@@ -83,6 +73,7 @@ fn commit_each<S: Batches, T: Gate>(
     requires count { count ≡ length (S.looked evidence.now).items }
     ensures made { MakesFirst (S.looked evidence.now).kind (S.looked evidence.now).items result (S.made steps.old)
         (S.made steps.new) }
+    ensures room { result ≡ true → S.lacks_room steps.new }
     ensures goes { S.goes steps.old steps.new }
 {
     for at in 0..count {
@@ -107,6 +98,7 @@ fn examine<S: Batches, T: Gate>(
     requires count { (1 ≤ length elements.now) × (length elements.now ≤ 64) }
     requires in_range { AreInRange kind elements.now }
     ensures made { MakesFirst kind elements.now result (S.made steps.old) (S.made steps.new) }
+    ensures room { result ≡ true → S.lacks_room steps.new }
     ensures goes { S.goes steps.old steps.new }
 {
     match steps.look_batch(kind, elements) {
@@ -128,6 +120,7 @@ fn sweep_batch<S: Batches, O: Course, T: Gate>(
     requires fits { (place + count ≤ O.count_of order.now) × (O.count_of order.now < 2 ^ 64) }
     requires small { kind ≡ Inode → O.count_of order.now < 2 ^ 32 }
     ensures swept { Sweeps (O.has_item order.now) kind place count result (S.made steps.old) (S.made steps.new) }
+    ensures room { result ≡ true → S.lacks_room steps.new }
     ensures goes { S.goes steps.old steps.new }
 {
     let mut elements = [0; BATCH as usize];
@@ -146,6 +139,7 @@ pub fn sweep<S: Batches, O: Course, T: Gate>(
     requires { kind ≡ Inode → O.count_of order.now < 2 ^ 32 }
     ensures swept { Sweeps (O.has_item order.now) kind 0 (O.count_of order.now) result (S.made steps.old)
         (S.made steps.new) }
+    ensures room { result ≡ true → S.lacks_room steps.new }
     ensures goes { S.goes steps.old steps.new }
 {
     let (end, mut place) = (order.count(), 0);

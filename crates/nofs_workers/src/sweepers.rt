@@ -1,7 +1,8 @@
 //! The worker that examines all inodes, and the one that examines all blocks.
 //!
-//! Promise: one step for each place of the order, in order; fewer only where memory was wanting.
-ghost use Rattle.std.specs.Prelude.{◌≡◌, ◌^◌, ◌<◌, false};
+//! Promise: one step for each place of the order, in order; fewer only where memory was wanting, and no room for such
+//! steps is then left.
+ghost use Rattle.std.specs.Prelude.{◌≡◌, ◌^◌, ◌<◌, true, false};
 ghost use Rattle.nofs_history.specs.declared.machine.steps.ElementKind.TheVariants.{Inode, Block};
 ghost use Rattle.nofs_workers.specs.Sweep.{Sweeps};
 
@@ -43,6 +44,7 @@ impl<S: Batches, O: Course, T: Gate> InodeSweeper<S, O, T> {
         ensures order { self.new.inodes ≡ self.old.inodes }
         ensures swept { Sweeps (O.has_item self.old.inodes.order) Inode 0 (O.count_of self.old.inodes.order)
             self.new.out_of_memory (S.made self.old.steps) (S.made self.new.steps) }
+        ensures room { self.new.out_of_memory ≡ true → S.lacks_room self.new.steps }
         ensures goes { S.goes self.old.steps self.new.steps }
     {
         let InodeSweeper {
@@ -95,6 +97,7 @@ impl<S: Batches, O: Course, T: Gate> BlockSweeper<S, O, T> {
         ensures order { self.new.order ≡ self.old.order }
         ensures swept { Sweeps (O.has_item self.old.order) Block 0 (O.count_of self.old.order)
             self.new.out_of_memory (S.made self.old.steps) (S.made self.new.steps) }
+        ensures room { self.new.out_of_memory ≡ true → S.lacks_room self.new.steps }
         ensures goes { S.goes self.old.steps self.new.steps }
     {
         let BlockSweeper {

@@ -5,6 +5,7 @@ use Rattle.std.proofs.Common.{sym, ap, ◌∙◌, subst, arith, length-append}
 use Rattle.std.specs.List.{AllByRecursion}
 use Rattle.std.proofs.lemmas.List.Elements.{recursion_from_All, All-from_recursion}
 use Rattle.nofs_turn.specs.declared.rule.view.View.{View}
+use Rattle.nofs_turn.proofs.OnLists.Words.{prefix_self, prefix_trans}
 use Rattle.nofs_history.specs.Steps.{Made}
 use Rattle.nofs_history.specs.declared.machine.history.Entry1.{Entry1}
 use Rattle.nofs_client.specs.declared.task.commands.Command.{Command}
@@ -13,7 +14,7 @@ use Rattle.nofs_client.specs.Driver.{IsDriven, IsPartlyDriven}
 use Rattle.nofs_shared.specs.Passes.Entries.{own_steps}
 use Rattle.nofs_shared.specs.Passes.Seats.{SameSeat}
 use Rattle.nofs_serve.specs.Teams.Joins.{JoinsOwn, Gathers, made_by}
-use Rattle.nofs_serve.specs.Teams.Users.{Stand, StandInTurn, UsersBegun, UsersServed}
+use Rattle.nofs_serve.specs.Teams.Users.{Stand, StandInTurn, UsersBegun, UsersEnded, UsersServed}
 use Rattle.nofs_serve.specs.Session.{UsersGathered}
 use Rattle.nofs_serve.proofs.OnTeams.Joins.{joins-own, joins-other, gathers-more}
 
@@ -106,7 +107,54 @@ module _ (by : ℕ → List Made) where
     served-snoc (c + 1) d done b.1 s said (omega (arith, is)) b.4 p,
   )
 
+  pub ended-snoc : (c d : ℕ) (done : List (List Command)) (early : List Bool) (lines : List (List Line))
+      (s : List Command) (cut : Bool) (said : List Line) → d ≡ c + length done
+      → UsersEnded c done early lines by → IsPartlyDriven s (by d) said → (cut ≡ false → IsDriven s (by d) said)
+      → UsersEnded c (done ++ s ∷ []) (early ++ cut ∷ []) (lines ++ said ∷ []) by
+  ended-snoc c d [] early lines s cut said is b some all =
+      let e : d ≡ c = omega (arith, is) in (
+        cut,
+        [],
+        said,
+        [],
+        ap (λ l. l ++ cut ∷ []) b.0,
+        ap (λ l. l ++ said ∷ []) b.1,
+        subst (λ k. IsPartlyDriven s (by k) said) e some,
+        (λ whole. subst (λ k. IsDriven s (by k) said) e (all whole)),
+        (refl, refl),
+      )
+  ended-snoc c d (x ∷ done) early lines s cut said is b some all =
+      let (first, cuts, told, others, early_are, lines_are, part, whole, rest) = b in (
+        first,
+        cuts ++ cut ∷ [],
+        told,
+        others ++ said ∷ [],
+        ap (λ l. l ++ cut ∷ []) early_are,
+        ap (λ l. l ++ said ∷ []) lines_are,
+        part,
+        whole,
+        ended-snoc (c + 1) d done cuts others s cut said (omega (arith, is)) rest some all,
+      )
+
 module _ (by now : ℕ → List Made) where
+  pub ended-same : (c : ℕ) (done : List (List Command)) (early : List Bool) (lines : List (List Line))
+      → ((d : ℕ) → c ≤ d → d < c + length done → now d ≡ by d)
+      → UsersEnded c done early lines by → UsersEnded c done early lines now
+  ended-same c [] early lines same b = b
+  ended-same c (s ∷ done) early lines same b =
+      let (first, cuts, told, others, early_are, lines_are, part, whole, rest) = b in
+      let here = sym (same c (omega arith) (omega arith)) in (
+        first,
+        cuts,
+        told,
+        others,
+        early_are,
+        lines_are,
+        subst (λ (m : List Made). IsPartlyDriven s m told) here part,
+        (λ e. subst (λ (m : List Made). IsDriven s m told) here (whole e)),
+        ended-same (c + 1) done cuts others (λ d low high. same d (omega (arith, low)) (omega (arith, high))) rest,
+      )
+
   pub begun-same : (c : ℕ) (done : List (List Command)) → ((d : ℕ) → c ≤ d → d < c + length done → now d ≡ by d)
       → UsersBegun c done by → UsersBegun c done now
   begun-same c [] same b = tt
@@ -137,23 +185,35 @@ neither false b e = (refl, e)
 
 module _ {F : Type 0} where
   -- before the first
-  pub users-none : (was : Bool) (v : View Entry1 F) → UsersGathered [] was was [] v v
-  users-none was v = record { begun = tt; served = λ e. refl; was_short = λ e. e; others = λ c none. refl }
+  pub users-none : (was : Bool) (v : View Entry1 F) → UsersGathered [] was was [] [] v v
+  users-none was v = record {
+    knew = prefix_self v.seen;
+    each = (refl, refl);
+    begun = tt;
+    served = λ e. refl;
+    was_short = λ e. e;
+    others = λ c none. refl;
+  }
 
   -- one more
-  pub users-more : (done : List (List Command)) (was short out : Bool) (lines : List (List Line)) (said : List Line)
-      (s : List Command) (c : ℕ)
+  pub users-more : (done : List (List Command)) (was short out : Bool) (early : List Bool) (lines : List (List Line))
+      (said : List Line) (s : List Command) (c : ℕ)
       (v u w x : View Entry1 F)
-      → UsersGathered done was short lines v u → JoinsOwn c u w x → c ≡ 1 + length done → made_by c v ≡ []
+      → UsersGathered done was short early lines v u → JoinsOwn c u w x → c ≡ 1 + length done → made_by c v ≡ []
       → IsPartlyDriven s (own_steps w.mine) said → (out ≡ false → IsDriven s (own_steps w.mine) said)
-      → UsersGathered (done ++ s ∷ []) was (short || out) (lines ++ said ∷ []) v x
-  users-more done was short out lines said s c v u w x g j is none some all =
+      → UsersGathered (done ++ s ∷ []) was (short || out) (early ++ out ∷ []) (lines ++ said ∷ []) v x
+  users-more done was short out early lines said s c v u w x g j is none some all =
       let none_yet : made_by c u ≡ [] = g.others c (inr (omega (arith, is))) ∙ none in
       let own : made_by c x ≡ own_steps w.mine = joins-own c u w x j none_yet in
       let same : (d : ℕ) → d ≢ c → made_by d x ≡ made_by d u = λ d apart. joins-other c d u w x j apart in
       let before : (d : ℕ) → 1 ≤ d → d < 1 + length done → made_by d x ≡ made_by d u =
       λ d low high. same d (λ e. absurd (omega (arith, is, high, e))) in
       record {
+        knew = prefix_trans v.seen u.seen x.seen g.knew j.knew;
+        each = ended-snoc (λ d. made_by d x) 1 c done early lines s out said is
+            (ended-same (λ d. made_by d u) (λ d. made_by d x) 1 done early lines before g.each)
+            (subst (λ (m : List Made). IsPartlyDriven s m said) (sym own) some)
+            (λ e. subst (λ (m : List Made). IsDriven s m said) (sym own) (all e));
         begun = begun-snoc (λ d. made_by d x) 1 c done s said is
             (begun-same (λ d. made_by d u) (λ d. made_by d x) 1 done before g.begun)
             (subst (λ (m : List Made). IsPartlyDriven s m said) (sym own) some);
@@ -175,19 +235,20 @@ module _ {F : Type 0} where
       older d (inr e) = inr (omega (arith, e, length-append done (s ∷ [])))
 
   -- one user is taken apart: w is what its pass knows, and `own` what its worker's pass knew
-  pub gather-step : (done : List (List Command)) (was short out gone next : Bool) (lines lines2 : List (List Line))
-      (said told : List Line)
+  pub gather-step : (done : List (List Command)) (was short out gone next : Bool) (early early2 : List Bool)
+      (lines lines2 : List (List Line)) (said told : List Line)
       (s : List Command) (c k count : ℕ) (v b u w own x : View Entry1 F)
-      → v.stands ≡ 1 → Gathers v u (count + length done) → UsersGathered done was short lines b u → JoinsOwn k u w x
-      → k ≡ c → c ≡ 1 + length done
+      → v.stands ≡ 1 → Gathers v u (count + length done) → UsersGathered done was short early lines b u
+      → JoinsOwn k u w x → k ≡ c → c ≡ 1 + length done
       → made_by c b ≡ []
-      → w ≡ own → said ≡ told → out ≡ gone → next ≡ (short || out) → lines2 ≡ lines ++ said ∷ []
+      → w ≡ own → said ≡ told → out ≡ gone → next ≡ (short || out) → early2 ≡ early ++ out ∷ []
+      → lines2 ≡ lines ++ said ∷ []
       → SameSeat v own → IsPartlyDriven s (own_steps own.mine) told
       → (gone ≡ false → IsDriven s (own_steps own.mine) told)
-      → Gathers v x (count + length (done ++ s ∷ [])) × UsersGathered (done ++ s ∷ []) was next lines2 b x
-  gather-step done was short out gone next lines lines2 said told s c k count v b u w own x one g ug j caller is none
-      same_view same_lines same_out next_is
-      lines_are same some all =
+      → Gathers v x (count + length (done ++ s ∷ [])) × UsersGathered (done ++ s ∷ []) was next early2 lines2 b x
+  gather-step done was short out gone next early early2 lines lines2 said told s c k count v b u w own x one g ug j
+      caller is none same_view same_lines same_out next_is
+      early_are lines_are same some all =
       let j' : JoinsOwn c u w x = subst (λ n. JoinsOwn n u w x) caller j in
       let seat : SameSeat v w = subst (λ (z : View Entry1 F). SameSeat v z) (sym same_view) same in
       let some' : IsPartlyDriven s (own_steps w.mine) said =
@@ -200,7 +261,7 @@ module _ {F : Type 0} where
       let long : count + length done + 1 ≡ count + length (done ++ s ∷ []) =
       omega (arith, length-append done (s ∷ [])) in (
         subst (λ n. Gathers v x n) long (gathers-more c (count + length done) v u w x one g j' seat),
-        subst (λ (q : Bool × List (List Line)). UsersGathered (done ++ s ∷ []) was q.0 q.1 b x)
-            (λ i. (sym next_is i, sym lines_are i))
-            (users-more done was short out lines said s c b u w x ug j' is none some' all'),
+        subst (λ (q : Bool × List Bool × List (List Line)). UsersGathered (done ++ s ∷ []) was q.0 q.1 q.2 b x)
+            (λ i. (sym next_is i, sym early_are i, sym lines_are i))
+            (users-more done was short out early lines said s c b u w x ug j' is none some' all'),
       )

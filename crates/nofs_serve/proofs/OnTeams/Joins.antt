@@ -1,15 +1,16 @@
 -- Passes that are joined: what each caller made.
 use Rattle.std.proofs.Common.{◌≡◌, ◌≢◌, ℕ, ◌+◌, Bool, true, false, cond, List, [], ◌∷◌, length, ltb, refl, sym, ap, ◌∙◌}
-use Rattle.std.proofs.Common.{subst, arith}
+use Rattle.std.proofs.Common.{drop, subst, arith}
 use mathlib.Core.List.{IsPrefix}
 use Rattle.nofs_turn.specs.declared.rule.view.View.{View}
-use Rattle.nofs_turn.specs.Lists.{chosen}
+use Rattle.nofs_turn.specs.Lists.{chosen, numbered}
+use Rattle.nofs_turn.proofs.OnLists.Words.{prefix_trans}
 use Rattle.nofs_turn.proofs.OnPasses.{joined_own, joined_other}
 use Rattle.nofs_history.specs.declared.machine.history.Entry1.{Entry1}
-use Rattle.nofs_history.specs.Callers.{is_by}
+use Rattle.nofs_history.specs.Callers.{is_by, steps_by}
 use Rattle.nofs_shared.specs.Passes.Entries.{all_by, own_steps}
 use Rattle.nofs_shared.specs.Passes.Seats.{SameSeat}
-use Rattle.nofs_shared.proofs.OnPasses.Joined.{chosen_by, chosen_not}
+use Rattle.nofs_shared.proofs.OnPasses.Joined.{chosen_by, chosen_not, steps_of}
 use Rattle.nofs_serve.specs.Teams.Joins.{JoinsOwn, Gathers, made_by}
 
 none_chosen : (m : List (ℕ × Entry1)) → own_steps m ≡ [] → m ≡ []
@@ -39,6 +40,17 @@ module _ {F : Type 0} where
   joins-other c d v w u j apart =
       ap (λ (z : View Entry1 F). made_by d z) j.now
       ∙ ap own_steps (joined_other (is_by d) v.mine w.mine j.rising j.rising_own (chosen_not d c w.mine j.own apart))
+
+  -- once the passes are one and closed, its steps are those of the history
+  pub closes-made : (n : ℕ) (H K : List Entry1) (v u : View Entry1 F) → v.start ≡ length H → Gathers v u n
+      → u.mine ≡ numbered u.start (drop u.start K) → (c : ℕ) → made_by c u ≡ steps_by c (drop (length H) K)
+  closes-made n H K v u start g all c =
+      ap (λ m. own_steps (chosen (is_by c) m)) (all
+      ∙ ap (λ (n : ℕ). numbered n (drop n K)) (g.start ∙ start)) ∙ sym (steps_of c (length H) (drop (length H) K))
+
+  pub closes-grown : (n : ℕ) (H K : List Entry1) (v u : View Entry1 F) → v.seen ≡ H → Gathers v u n
+      → IsPrefix u.seen K → IsPrefix H K
+  closes-grown n H K v u seen g begins = prefix_trans H u.seen K (subst (λ l. IsPrefix l u.seen) seen g.seen) begins
 
   -- the first pass
   pub gathers-one : (v u : View Entry1 F) → v.stands ≡ 1 → SameSeat v u → Gathers v u 1

@@ -16,6 +16,8 @@ module _ {F : Type 0} where
     pub own : all_by caller w.mine ≡ true
     pub rising : rises 0 v.mine ≡ true
     pub rising_own : rises 0 w.mine ≡ true
+    pub knew : IsPrefix v.seen u.seen
+    pub heard : IsPrefix w.seen u.seen
 
   -- the steps of a caller that a pass has made
   abbrev pub made_by : ℕ → View Entry1 F → List Made

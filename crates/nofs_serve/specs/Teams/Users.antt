@@ -1,5 +1,5 @@
 -- Users at work at one mount, each with a caller of its own.
-use Rattle.std.specs.Prelude.{◌≡◌, ℕ, ◌+◌, false, List, [], ◌∷◌, ◌++◌}
+use Rattle.std.specs.Prelude.{◌≡◌, ℕ, ◌+◌, Bool, false, List, [], ◌∷◌, ◌++◌}
 use Rattle.nofs_history.specs.Steps.{Made}
 use Rattle.nofs_client.specs.declared.task.commands.Command.{Command}
 use Rattle.nofs_client.specs.declared.task.lines.Line.{Line}
@@ -44,3 +44,11 @@ UsersServed c [] lines by = lines ≡ []
 UsersServed c (script ∷ scripts) lines by =
     (said : List Line) × (others : List (List Line)) × (lines ≡ said ∷ others) × IsDriven script (by c) said
     × UsersServed (c + 1) scripts others by
+
+-- each user ended by a flag of its own: where it did not end early its commands were all run, else the first of them
+abbrev pub UsersEnded : ℕ → List (List Command) → List Bool → List (List Line) → (ℕ → List Made) → Type 0
+UsersEnded c [] early lines by = (early ≡ []) × (lines ≡ [])
+UsersEnded c (script ∷ scripts) early lines by =
+    (cut : Bool) × (cuts : List Bool) × (said : List Line) × (others : List (List Line))
+    × (early ≡ cut ∷ cuts) × (lines ≡ said ∷ others) × IsPartlyDriven script (by c) said
+    × (cut ≡ false → IsDriven script (by c) said) × UsersEnded (c + 1) scripts cuts others by

@@ -18,11 +18,13 @@ use nofs_turn::Pass;
 use nofs_workers::{Gate, UserEnd, UserWorker};
 use std::sync::Wait;
 
-/// The passes of some workers in one, the lines of the users among them, and whether memory was wanting.
+/// The passes of some workers in one; of the users among them the lines, and whether each ended early, since memory was
+/// wanting; and whether memory was wanting for some worker.
 #[derive(Drop)]
 pub struct Gathered<V: Serves> {
     pub pass: Pass<V>,
     pub lines: Vec<LineList>,
+    pub ended_early: Vec<bool>,
     pub out_of_memory: bool,
 }
 
@@ -47,7 +49,7 @@ pub(crate) fn either(one: bool, two: bool) -> bool
     one || two
 }
 
-/// Takes the users apart, of whom the last one is the first user. The list of lines has room for them.
+/// Takes the users apart, of whom the last one is the first user. The lists of lines and of flags have room for them.
 pub(crate) fn gather_users<R: Wait, V: Serves, T: Gate + Drop>(
     shared: &SharedMount<V>,
     users: Vec<UserWorker<SharedPass<'_, R, V>, T>>,
@@ -55,8 +57,9 @@ pub(crate) fn gather_users<R: Wait, V: Serves, T: Gate + Drop>(
 ) -> Gathered<V>
     requires of { IsPassOf shared.now.turn begun.pass }
     requires ways { All (λ w. w.client.steps.steps.turn.now ≡ shared.now.turn) users.items }
-    requires lines { begun.lines.items ≡ [] }
-    requires room { vec_len begun.lines + vec_len users ≤ vec_capacity begun.lines }
+    requires none { (begun.lines.items ≡ []) × (begun.ended_early.items ≡ []) }
+    requires room { (vec_len begun.lines + vec_len users ≤ vec_capacity begun.lines)
+        × (vec_len begun.ended_early + vec_len users ≤ vec_capacity begun.ended_early) }
     ensures of { IsPassOf shared.now.turn result.pass }
     ensures gathered { (v : View Entry1 V.Fixed) (scripts : List (List Command)) (count : ℕ) → v.stands ≡ 1
         → ((c : ℕ) → 1 ≤ c → c ≤ length scripts → made_by c (view_of begun.pass) ≡ [])
@@ -64,8 +67,8 @@ pub(crate) fn gather_users<R: Wait, V: Serves, T: Gate + Drop>(
         → Stand (HasRun (λ c way. (way.caller ≡ c) × SameSeat v (view_of way.pass))
         (λ way. own_steps (view_of way.pass).mine)) 1 scripts users.entry.items
         → Gathers v (view_of result.pass) (count + length scripts)
-        × UsersGathered scripts begun.out_of_memory result.out_of_memory result.lines.items (view_of begun.pass)
-        (view_of result.pass) }
+        × UsersGathered scripts begun.out_of_memory result.out_of_memory result.ended_early.items result.lines.items
+        (view_of begun.pass) (view_of result.pass) }
 {
     let (mut users, mut whole) = (users, begun);
     while let Some(user) = users.pop() {
@@ -76,6 +79,7 @@ pub(crate) fn gather_users<R: Wait, V: Serves, T: Gate + Drop>(
         } = user.into_inner();
         join_way(shared, &mut whole.pass, steps);
         whole.lines.push_reserved(lines);
+        whole.ended_early.push_reserved(out_of_memory);
         whole.out_of_memory = either(whole.out_of_memory, out_of_memory);
     }
     whole

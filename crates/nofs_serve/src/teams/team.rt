@@ -2,7 +2,7 @@
 //!
 //! Promise: each worker has a caller of its own. Users are `FIRST_USER` and up, in their order; the sweeper of the
 //! inodes is `INODE_SWEEPER`, that of the blocks `BLOCK_SWEEPER`, and the flusher, which makes no step, `FLUSHER`.
-ghost use Rattle.std.specs.Prelude.{◌≡◌, ◌+◌, ◌<◌, ◌≤◌, ◌^◌, [], All, map, vec_len, vec_capacity};
+ghost use Rattle.std.specs.Prelude.{◌≡◌, ◌+◌, ◌<◌, ◌≤◌, ◌^◌, [], All, IfOk, map, vec_len, vec_capacity};
 ghost use Rattle.nofs_turn.specs.declared.rule.view.View.{View};
 ghost use Rattle.nofs_turn.specs.Turn.{view_of, IsPassOf};
 ghost use Rattle.nofs_history.specs.declared.machine.history.Entry1.{Entry1};
@@ -10,14 +10,15 @@ ghost use Rattle.nofs_client.specs.Task.Commands.{AreWellFormed};
 ghost use Rattle.nofs_serve.specs.Teams.Users.{Stand, IsReady};
 ghost use Rattle.nofs_serve.specs.Session.{TeamGathered};
 
-use crate::teams::gather::{Gathered, either, gather_users, join_way};
+use crate::teams::beside::{Beside, Joined, gather_beside, seat_beside};
+use crate::teams::gather::{Gathered, gather_users};
 use crate::teams::lend::work_team;
 use nofs_client::{CommandList, LineList};
-use nofs_history::{BLOCK_SWEEPER, FLUSHER, INODE_SWEEPER, MOST_USERS};
+use nofs_history::MOST_USERS;
 use nofs_shared::{Serves, SharedMount, SharedPass};
 use nofs_turn::Pass;
-use nofs_workers::{BlockSweeper, Downwards, Flusher, Gate, InodeSweeper, Upwards, UserWorker};
-use std::alloc::Global;
+use nofs_workers::{Gate, UserWorker};
+use std::alloc::{AllocError, Global};
 use std::sync::Wait;
 use std::thread::Threads;
 
@@ -43,11 +44,28 @@ pub struct WriteOuts<T> {
     pub gate: T,
 }
 
-/// What a team is put together in: room for its users, and for their lines.
+/// What a team is put together in: room for its users, for their lines, and for whether each ended early.
 #[derive(Drop)]
 pub struct TeamRoom<'a, R: Wait, V: Serves, T: Gate> {
     pub users: Vec<UserWorker<SharedPass<'a, R, V>, T>>,
     pub lines: Vec<LineList>,
+    pub ended_early: Vec<bool>,
+}
+
+/// The room for so many users.
+pub(crate) fn room_for<'a, R: Wait, V: Serves, T: Gate + Drop>(
+    alloc: Global,
+    count: usize,
+) -> Result<TeamRoom<'a, R, V, T>, AllocError>
+    ensures users { IfOk result (λ room. (room.users.items ≡ []) × (count ≤ vec_capacity room.users)) }
+    ensures lines { IfOk result (λ room. (room.lines.items ≡ []) × (count ≤ vec_capacity room.lines)) }
+    ensures early { IfOk result (λ room. (room.ended_early.items ≡ []) × (count ≤ vec_capacity room.ended_early)) }
+{
+    Ok(TeamRoom {
+        users: Vec::with_capacity(alloc, count)?,
+        lines: Vec::with_capacity(alloc, count)?,
+        ended_early: Vec::with_capacity(alloc, count)?,
+    })
 }
 
 /// The pass that comes last, for this caller.
@@ -128,36 +146,35 @@ where
         × All (λ p. IsPassOf shared.now.turn p × ((view_of p).mine ≡ [])) passes.items }
     requires users { (room.users.items ≡ []) × (vec_len plans ≤ vec_capacity room.users) }
     requires lines { (room.lines.items ≡ []) × (vec_len plans ≤ vec_capacity room.lines) }
+    requires early { (room.ended_early.items ≡ []) × (vec_len plans ≤ vec_capacity room.ended_early) }
     ensures of { IsPassOf shared.now.turn result.pass }
     ensures gathered { (v : View Entry1 V.Fixed) → v.stands ≡ 1 → v.mine ≡ [] → All (λ p. view_of p ≡ v) passes.items
-        → TeamGathered (map (λ p. p.commands) plans.items) sweeps.inodes sweeps.blocks
-        result.out_of_memory result.lines.items v (view_of result.pass) }
+        → TeamGathered V.room_in (map (λ p. p.commands) plans.items) sweeps.inodes sweeps.blocks
+        result.out_of_memory result.ended_early.items result.lines.items v (view_of result.pass) }
 {
-    let (mut passes, TeamRoom { users, lines }) = (passes, room);
+    let TeamRoom {
+        users,
+        lines,
+        ended_early,
+    } = room;
+    let mut passes = passes;
     let mut users = seat_users(rt, alloc, shared, plans, &mut passes, users);
-    let Sweeps {
+    let mut beside = seat_beside(rt, alloc, shared, &mut passes, sweeps, outs);
+    let Beside {
         inodes,
         blocks,
-        gates: (gate, next_gate),
-    } = sweeps;
-    let way = seat(rt, alloc, shared, INODE_SWEEPER, &mut passes);
-    let mut inodes = InodeSweeper::new(way, Upwards { count: inodes }, gate);
-    let way = seat(rt, alloc, shared, BLOCK_SWEEPER, &mut passes);
-    let mut blocks = BlockSweeper::new(way, Downwards { count: blocks }, next_gate);
-    let way = seat(rt, alloc, shared, FLUSHER, &mut passes);
-    let mut flusher = Flusher::new(way, outs.gate, outs.turns);
-    work_team(rt, &mut users, &mut inodes, &mut blocks, &mut flusher);
-    let out_of_memory = either(inodes.out_of_memory, blocks.out_of_memory);
-    let mut pass = inodes.into_inner().back();
-    join_way(shared, &mut pass, blocks.into_inner());
-    join_way(shared, &mut pass, flusher.into_inner());
-    gather_users(
-        shared,
-        users,
-        Gathered {
-            pass,
-            lines,
-            out_of_memory,
-        },
-    )
+        flusher,
+    } = &mut beside;
+    work_team(rt, &mut users, inodes, blocks, flusher);
+    let Joined {
+        pass,
+        out_of_memory,
+    } = gather_beside(shared, beside);
+    let begun = Gathered {
+        pass,
+        lines,
+        ended_early,
+        out_of_memory,
+    };
+    gather_users(shared, users, begun)
 }

@@ -56,14 +56,15 @@ impl<S: WritesOut, T: Gate> Works for Flusher<S, T> {
 }
 
 impl<S: Batches, O: Course, T: Gate> Works for InodeSweeper<S, O, T> {
-    ghost use Rattle.std.specs.Prelude.{◌≡◌};
+    ghost use Rattle.std.specs.Prelude.{◌≡◌, true};
     ghost use Rattle.nofs_history.specs.declared.machine.steps.ElementKind.TheVariants.{Inode};
     ghost use Rattle.nofs_workers.specs.Sweep.{Sweeps};
 
     ghost worked = { λ old new. (new.inodes ≡ old.inodes)
         × Sweeps (O.has_item old.inodes.order) Inode 0 (O.count_of old.inodes.order) new.out_of_memory
         (S.made old.steps) (S.made new.steps)
-        × S.goes old.steps new.steps };
+        × S.goes old.steps new.steps
+        × (new.out_of_memory ≡ true → S.lacks_room new.steps) };
 
     fn work(&mut self) {
         InodeSweeper::work(self);
@@ -71,14 +72,15 @@ impl<S: Batches, O: Course, T: Gate> Works for InodeSweeper<S, O, T> {
 }
 
 impl<S: Batches, O: Course, T: Gate> Works for BlockSweeper<S, O, T> {
-    ghost use Rattle.std.specs.Prelude.{◌≡◌};
+    ghost use Rattle.std.specs.Prelude.{◌≡◌, true};
     ghost use Rattle.nofs_history.specs.declared.machine.steps.ElementKind.TheVariants.{Block};
     ghost use Rattle.nofs_workers.specs.Sweep.{Sweeps};
 
     ghost worked = { λ old new. (new.order ≡ old.order)
         × Sweeps (O.has_item old.order) Block 0 (O.count_of old.order) new.out_of_memory (S.made old.steps)
         (S.made new.steps)
-        × S.goes old.steps new.steps };
+        × S.goes old.steps new.steps
+        × (new.out_of_memory ≡ true → S.lacks_room new.steps) };
 
     fn work(&mut self) {
         BlockSweeper::work(self);

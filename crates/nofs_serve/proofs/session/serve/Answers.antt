@@ -1,30 +1,37 @@
-use Rattle.std.proofs.Common.{rules, ◌≡◌, ◌∙◌, length, map, vec_len, refl, sym, ap, arith}
+use Rattle.std.proofs.Common.{rules, ◌≡◌, inl, inr, ◌∙◌, length, map, vec_len, refl, sym, ap, arith}
 use Rattle.std.specs.Option.{option_map_or}
 use Rattle.nofs_turn.specs.Turn.{view_of}
 use Rattle.nofs_turn.specs.Rule.Views.{fresh}
 use Rattle.nofs_serve.proofs.OnTeams.Gathered.{length-scripts}
-use Rattle.nofs_serve.proofs.OnSession.{team-unserved, team-closed}
+use Rattle.nofs_serve.proofs.OnSession.{team-closed, team-ended, team-unserved}
 use Rattle.nofs_serve.proofs.session.serve.Goals as goal
 
 pub returns-in_default-clause-served : goal.returns-in_default-clause-served
 returns-in_default-clause-served g c =
     team-unserved (map (λ p. p.commands) c.args.plans.items) c.args.sweeps.inodes c.args.sweeps.blocks _ _
-    (g.V.Kept.entries c.args.mount) _
-    (let same : c.unserved.result.mount ≡ c.args.mount = search rules in ap g.V.Kept.entries same) c.unserved.ensures.1
+    (g.V.Kept.entries c.args.mount) _ (ap g.V.Kept.entries c.unserved.ensures.same) c.unserved.ensures.none.2
 
-pub returns-in_default-with_capacity-clause-served : goal.returns-in_default-with_capacity-clause-served
-returns-in_default-with_capacity-clause-served g c =
-    team-unserved (map (λ p. p.commands) c.args.plans.items) c.args.sweeps.inodes c.args.sweeps.blocks _ _
-    (g.V.Kept.entries c.args.mount) _ (let same : c.unserved-in_default-with_capacity.result.mount ≡ c.args.mount =
-    search rules in ap g.V.Kept.entries same)
-    c.unserved-in_default-with_capacity.ensures.1
+pub returns-in_default-clause-ended : goal.returns-in_default-clause-ended
+returns-in_default-clause-ended g c = inl (record {
+  wants = c.unserved.ensures.none.2;
+  no_user = (c.unserved.ensures.none.1, c.unserved.ensures.none.0);
+  stays = ap g.V.Kept.entries c.unserved.ensures.same;
+})
 
 pub returns-in-Err-clause-served : goal.returns-in-Err-clause-served
 returns-in-Err-clause-served g c =
+    let same : c.unserved-in-Err.result.mount ≡ c.args.mount = search rules in
     team-unserved (map (λ p. p.commands) c.args.plans.items) c.args.sweeps.inodes c.args.sweeps.blocks _ _
-    (g.V.Kept.entries c.args.mount) _
-    (let same : c.unserved-in-Err.result.mount ≡ c.args.mount = search rules in ap g.V.Kept.entries same)
-    c.unserved-in-Err.ensures.1
+    (g.V.Kept.entries c.args.mount) _ (ap g.V.Kept.entries same) c.unserved-in-Err.ensures.none.2
+
+pub returns-in-Err-clause-ended : goal.returns-in-Err-clause-ended
+returns-in-Err-clause-ended g c =
+    let same : c.unserved-in-Err.result.mount ≡ c.args.mount = search rules in
+    inl (record {
+      wants = c.unserved-in-Err.ensures.none.2;
+      no_user = (c.unserved-in-Err.ensures.none.1, c.unserved-in-Err.ensures.none.0);
+      stays = ap g.V.Kept.entries same;
+    })
 
 pub run_team-pass-requires-clause-passes : goal.run_team-pass-requires-clause-passes
 run_team-pass-requires-clause-passes g c κs within =
@@ -59,7 +66,19 @@ returns-clause-served g c =
     (λ k d h. (c.in-Ok-new.ensures.passes.1 k d h).1) in
     let closes = c.in-Ok-close.ensures.closed.0 in
     team-closed (map (λ p. p.commands) c.args.plans.items) c.args.sweeps.inodes c.args.sweeps.blocks
-    c.run_team-pass.result.out_of_memory
+    g.V.Serves.room_in c.run_team-pass.result.out_of_memory c.run_team-pass.result.ended_early.items
     c.run_team-pass.result.lines.items (g.V.Kept.entries c.args.mount) (g.V.Kept.entries c.in-Ok-close.mount) _
     (view_of c.run_team-pass.result.pass)
     refl refl t closes.begins closes.all_mine
+
+pub returns-clause-ended : goal.returns-clause-ended
+returns-clause-ended g c =
+    let t = c.run_team-pass.ensures.gathered
+    (fresh (g.V.Kept.fixed c.args.mount) (g.V.Kept.entries c.args.mount) _) refl refl
+    (λ k d h. (c.in-Ok-new.ensures.passes.1 k d h).1) in
+    let closes = c.in-Ok-close.ensures.closed.0 in
+    inr (team-ended (map (λ p. p.commands) c.args.plans.items) c.args.sweeps.inodes c.args.sweeps.blocks
+    g.V.Serves.room_in c.run_team-pass.result.out_of_memory c.run_team-pass.result.ended_early.items
+    c.run_team-pass.result.lines.items (g.V.Kept.entries c.args.mount) (g.V.Kept.entries c.in-Ok-close.mount) _
+    (view_of c.run_team-pass.result.pass)
+    refl refl t closes.begins closes.all_mine (g.V.Kept.fixed c.args.mount) refl)

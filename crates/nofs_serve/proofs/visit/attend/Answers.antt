@@ -2,7 +2,7 @@ use Rattle.std.proofs.Common.{rules, ◌∙◌, [], refl, sym, ap, arith}
 use Rattle.std.specs.Option.{option_map_or}
 use Rattle.nofs_turn.specs.Turn.{view_of}
 use Rattle.nofs_turn.specs.Rule.Views.{fresh}
-use Rattle.nofs_serve.proofs.OnVisit.{visit-closed}
+use Rattle.nofs_serve.proofs.OnVisit.{visit-closed, visit-sweeps}
 use Rattle.nofs_serve.proofs.visit.attend.Goals as goal
 
 pub run_visit-pass-requires-clause-passes : goal.run_visit-pass-requires-clause-passes
@@ -35,7 +35,18 @@ returns-clause-visited g c =
     (fresh (g.V.Kept.fixed c.args.mount) (g.V.Kept.entries c.args.mount) _) refl refl
     (λ k d h. (c.in-Ok.ensures.passes.1 k d h).1) in
     let closes = c.in-Ok-close.ensures.closed.0 in
-    visit-closed (g.G.Visits.visited c.args.visitor.now c.run_visit-pass.new.visitor [])
+    visit-closed g.V.Serves.room_in (g.G.Visits.visited c.args.visitor.now c.run_visit-pass.new.visitor [])
     c.args.sweeps.inodes c.args.sweeps.blocks c.run_visit-pass.result.out_of_memory (g.V.Kept.entries c.args.mount)
     (g.V.Kept.entries c.in-Ok-close.mount) _
     (view_of c.run_visit-pass.result.pass) refl refl t closes.begins closes.all_mine
+
+pub returns-clause-sweeps : goal.returns-clause-sweeps
+returns-clause-sweeps g c =
+    let t = c.run_visit-pass.ensures.gathered
+    (fresh (g.V.Kept.fixed c.args.mount) (g.V.Kept.entries c.args.mount) _) refl refl
+    (λ k d h. (c.in-Ok.ensures.passes.1 k d h).1) in
+    let closes = c.in-Ok-close.ensures.closed.0 in
+    visit-sweeps g.V.Serves.room_in (g.G.Visits.visited c.args.visitor.now c.run_visit-pass.new.visitor [])
+    c.args.sweeps.inodes c.args.sweeps.blocks c.run_visit-pass.result.out_of_memory (g.V.Kept.entries c.args.mount)
+    (g.V.Kept.entries c.in-Ok-close.mount) _
+    (view_of c.run_visit-pass.result.pass) refl refl t closes.begins closes.all_mine (g.V.Kept.fixed c.args.mount) refl

@@ -1,4 +1,4 @@
-use Rattle.std.proofs.Common.{rules, ◌≡◌, ◌∙◌, ◌+◌, ◌++◌, ◌∷◌, [], List, length, refl, sym, ap, subst, arith}
+use Rattle.std.proofs.Common.{rules, ◌≡◌, ◌∙◌, ◌+◌, ◌++◌, ◌∷◌, [], Bool, List, length, refl, sym, ap, subst, arith}
 use Rattle.std.proofs.Common.{append_assoc, length-append, append-nil}
 use Rattle.nofs_turn.specs.Turn.{view_of}
 use Rattle.nofs_client.specs.declared.task.lines.Line.{Line}
@@ -19,9 +19,9 @@ loop-user-init g c = record {
     refl,
     stand,
     subst (λ n. Gathers v (view_of c.args.begun.pass) n) (omega arith) gathers,
-    subst (λ (l : List (List Line)). UsersGathered [] c.args.begun.out_of_memory c.args.begun.out_of_memory l
-        (view_of c.args.begun.pass)
-        (view_of c.args.begun.pass)) (sym c.requires.lines)
+    subst (λ (l : List (List Line) × List Bool). UsersGathered [] c.args.begun.out_of_memory c.args.begun.out_of_memory
+        l.1 l.0 (view_of c.args.begun.pass)
+        (view_of c.args.begun.pass)) (λ i. (sym c.requires.none.0 i, sym c.requires.none.1 i))
         (users-none c.args.begun.out_of_memory (view_of c.args.begun.pass)),
   );
 }
@@ -46,7 +46,7 @@ loop-user-preserved g c =
           (let (done, rest, whole, st, ga, ug) = i.gathered v scripts count one absent gathers stand in
           let (script, rest2, rest_is, run, st2) = stand-pop (1 + length done) rest c.loop-user.users.items
           c.pop.new.self.items c.in-Some.user is st in
-          let step = gather-step done _ _ _ _ _ _ _ _ _ script (1 + length done) _ count v _ _ _ (view_of
+          let step = gather-step done _ _ _ _ _ _ _ _ _ _ _ script (1 + length done) _ count v _ _ _ (view_of
           (steps_in c.in-Some.user).pass)
           _ one ga ug c.join_way.ensures.joined
           (ap (λ s. s.caller) c.into_inner-steps.ensures.steps ∙ run.back.0) refl
@@ -54,7 +54,7 @@ loop-user-preserved g c =
           (let n = ap length whole in let m = ap length rest_is in omega (arith, n, m, length-append done rest)))
           (ap (λ s. view_of s.pass) c.into_inner-steps.ensures.steps)
           c.into_inner-steps.ensures.lines c.into_inner-steps.ensures.out_of_memory c.either.ensures (search rules)
-          run.back.1 run.some run.all in (
+          (search rules) run.back.1 run.some run.all in (
             done ++ script ∷ [],
             rest2,
             whole ∙ (ap (λ l. done ++ l) rest_is ∙ sym (append_assoc done (script ∷ []) rest2)),
@@ -71,6 +71,6 @@ returns-clause-gathered g c v scripts count one absent gathers stand =
     let is : scripts ≡ done = whole ∙ (ap (λ l. done ++ l) (stand-none _ rest _ none st) ∙ append-nil done) in (
       subst (λ l. Gathers v (view_of c.loop-user.whole.pass) (count + length l)) (sym is) ga,
       subst (λ l. UsersGathered l c.args.begun.out_of_memory c.loop-user.whole.out_of_memory
-          c.loop-user.whole.lines.items (view_of c.args.begun.pass)
+          c.loop-user.whole.ended_early.items c.loop-user.whole.lines.items (view_of c.args.begun.pass)
           (view_of c.loop-user.whole.pass)) (sym is) ug,
     )

@@ -12,7 +12,8 @@ abbrev pub invariant-loop-user : goal.invariant-loop-user
 invariant-loop-user g l = record {
   of : IsPassOf l.shared.turn l.whole.pass;
   ways : All (λ w. w.client.steps.steps.turn.now ≡ l.shared.turn) l.users.items;
-  room : vec_len l.whole.lines + vec_len l.users ≤ vec_capacity l.whole.lines;
+  room : (vec_len l.whole.lines + vec_len l.users ≤ vec_capacity l.whole.lines)
+      × (vec_len l.whole.ended_early + vec_len l.users ≤ vec_capacity l.whole.ended_early);
   gathered : (v : _) (scripts : List (List Command)) (count : ℕ) → v.stands ≡ 1
       → ((c : ℕ) → 1 ≤ c → c ≤ length scripts → made_by c (view_of l.fn.begun.pass) ≡ [])
       → Gathers v (view_of l.fn.begun.pass) count
@@ -24,8 +25,8 @@ invariant-loop-user g l = record {
       (view_of way.pass).mine))
       (1 + length done) rest l.users.items
       × Gathers v (view_of l.whole.pass) (count + length done)
-      × UsersGathered done l.fn.begun.out_of_memory l.whole.out_of_memory l.whole.lines.items (view_of l.fn.begun.pass)
-      (view_of l.whole.pass);
+      × UsersGathered done l.fn.begun.out_of_memory l.whole.out_of_memory l.whole.ended_early.items l.whole.lines.items
+      (view_of l.fn.begun.pass) (view_of l.whole.pass);
 }
 
 abbrev pub decreases-loop-user : goal.decreases-loop-user
