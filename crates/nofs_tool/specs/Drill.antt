@@ -1,10 +1,11 @@
--- The drill: the session of its users, what caller 0 then reads of their files, and the line that tells of it.
+-- The drill: the session of its users, what PROGRAM then reads of their files, and the line that tells of it.
 use Rattle.std.specs.Prelude.{◌≡◌, ℕ, ◌+◌, ◌*◌, Bool, true, false, List, [], ◌∷◌, ◌++◌, length, take, map, codes, sum}
 use Rattle.std.specs.Prelude.{sum_by, count_by, bytes_eq, ◌≤◌}
 use Rattle.std.specs.Prelude.{if◌then◌else◌, Some, None, Result, IfOk, ⊤}
+use mathlib.Core.List.{IsPrefix}
 use Rattle.std.specs.Fmt.{decimal}
 use Rattle.std.specs.declared.option.Option.{Option}
-use Rattle.nofs_model.specs.Cells.{SuperBlock}
+use Rattle.nofs_super.specs.declared.superblock.SuperBlock.{SuperBlock}
 use Rattle.nofs_model.specs.declared.image.value.Value.{Value}
 use Rattle.nofs_model.specs.declared.image.value.Value.TheVariants as value
 use Rattle.nofs_history.specs.declared.machine.callers.TheConstants.{PROGRAM}
@@ -95,8 +96,9 @@ AreRead user (read ∷ reads) made = (front : List Made) × (back : List Made) �
     × IsFileRead user read front × AreRead (user + 1)
     reads back
 
--- caller 0 added these steps with their replies, and no other caller anything
+-- behind these entries PROGRAM added these steps with their replies, and no other caller anything
 pub record AddsOwn (made : List Made) (H K : List Entry1) : Type 0 where
+  pub behind : IsPrefix H K
   pub own : steps_by PROGRAM K ≡ steps_by PROGRAM H ++ made
   pub others : (c : ℕ) → 1 ≤ c → steps_by c K ≡ steps_by c H
 
@@ -116,7 +118,7 @@ AreReadings (m ∷ made) = (is_reading m.0 ≡ true) × AreReadings made
 abbrev pub IsOneStep : Step → Reply → List Made → Type 0
 IsOneStep s r made = made ≡ (s, r) ∷ []
 
--- Whatever the result is, caller 0 added steps that read, and no other caller anything; and where it is Ok, more is
+-- Whatever the result is, PROGRAM added steps that read, and no other caller anything; and where it is Ok, more is
 -- said of it and of these steps
 pub record ReadsBy {T E : Type 0} (Is : T → List Made → Type 0) (result : Result T E) (H K : List Entry1) : Type 0 where
   pub made : List Made
@@ -192,7 +194,7 @@ drill_line start steps refused bytes total wrong =
     ++ codes ", refused " ++ decimal refused ++ codes ", bytes " ++ decimal bytes ++ codes ", sum " ++ decimal total
     ++ codes ", wrong " ++ decimal wrong ++ codes "\n"
 
--- Caller 0 read the four files and made all durable; and the line has the numbers that follow from the replies to these
+-- PROGRAM read the four files and made all durable; and the line has the numbers that follow from the replies to these
 -- reads and a replay of the history
 pub record IsReadOut (start steps refused : ℕ) (served H : List Entry1) (text : List ℕ) : Type 0 where
   pub seen : List Entry1
@@ -218,8 +220,9 @@ pub record IsDrilled (start steps : ℕ) (H : List Entry1) (text : List ℕ) : T
       (count_by is_refused_line (session_lines 1 (drill_session start steps) H)) served H text
 
 -- What a drill adds to the history of a new mount, whatever comes of it: the steps of the drawn users and of the
--- sweeps, which are as those of every session; then of caller 0 none but such as read; then its flush of the whole
--- disk. Where memory was wanting (`short`), each may have ended early; else the reads are just those of the four files
+-- sweeps, which are as those of every session; behind them those by which PROGRAM reads the four files; then its flush
+-- of the whole disk. Where memory was wanting (`short`), each may have ended early. Where it was wanting to the reads
+-- they were cut, and nothing was flushed
 pub record IsDrillRun (start steps inodes blocks : ℕ) (short : Bool) (H : List Entry1) : Type 0 where
   pub served : List Entry1
   pub seen : List Entry1
@@ -229,7 +232,9 @@ pub record IsDrillRun (start steps inodes blocks : ℕ) (short : Bool) (H : List
   pub team : TeamMade (drill_session start steps) inodes blocks short lines (λ c. steps_by c served)
   pub adds : AddsOwn made served seen
   pub readings : AreReadings made
-  pub read : short ≡ false → (reads : List (Option FileRead)) × AreRead 1 reads made
+  pub cut : Bool
+  pub read : cut ≡ false → (reads : List (Option FileRead)) × AreRead 1 reads made
+  pub unflushed : cut ≡ true → (short ≡ true) × (H ≡ seen)
   pub closes : AddsStep PROGRAM (step.Flush 0 0) flush seen H
   pub closed : short ≡ false → is_out_of_memory flush ≡ false
 
@@ -249,7 +254,9 @@ pub record IsReadFollowed (out : Bool) (served : List Entry1) (text : Option (Li
   pub flush : Reply
   pub adds : AddsOwn made served seen
   pub readings : AreReadings made
-  pub read : short ≡ false → (reads : List (Option FileRead)) × AreRead 1 reads made
+  pub cut : Bool
+  pub read : cut ≡ false → (reads : List (Option FileRead)) × AreRead 1 reads made
+  pub unflushed : cut ≡ true → (short ≡ true) × (H ≡ seen)
   pub closes : AddsStep PROGRAM (step.Flush 0 0) flush seen H
   pub closed : short ≡ false → is_out_of_memory flush ≡ false
 

@@ -1,12 +1,13 @@
 -- What an upgrade leaves, by its status.
-use Rattle.std.specs.Prelude.{◌≡◌, ◌⊎◌, ℕ, ◌<◌, IsTrue, Err}
+use Rattle.std.specs.Prelude.{◌≡◌, ◌≢◌, ◌⊎◌, ℕ, ◌<◌, IsTrue, Err}
 use Rattle.nofs_disk.specs.Disk.{DiskState, KeepsCells, Rose, cell_at}
 use Rattle.nofs_super.specs.declared.superblock.MountFault.TheVariants as fault
 use Rattle.nofs_io.specs.Calls.{SinkState}
 use Rattle.nofs_io.specs.Texts.{AppendsAll}
 use Rattle.nofs_tool.specs.Begin.Lines.{fixed_line}
 use Rattle.nofs_tool.specs.declared.begin.lines.FixedLine.TheVariants.{Upgraded as UpgradedLine}
-use Rattle.nofs_upgrade.specs.Upgrades.{IsUpgraded, StaysOrUpgrades, check_upgrade}
+use Rattle.nofs_upgrade.specs.Upgrades.{IsUpgradeRefused, IsUpgradeStopped, IsUpgraded, StaysOrUpgrades}
+use Rattle.nofs_upgrade.specs.Upgrades.{check_upgrade}
 use Rattle.nofs_upgrade.specs.declared.fault.UpgradeFault.{UpgradeFault}
 use Rattle.nofs_upgrade.specs.declared.fault.UpgradeFault.TheVariants as why
 
@@ -22,6 +23,11 @@ abbrev pub IsRefusedUpgrade : DiskState → DiskState → Type 0
 IsRefusedUpgrade old new = KeepsCells old new
     × (0 < old.blocks → IsTrue old.tells
     → (why : UpgradeFault) × (check_upgrade old.blocks (cell_at old.now 0).payload ≡ Err why))
+
+-- what an upgrade with this fault left of the device
+pub record UpgradeFails (old new : DiskState) (had : UpgradeFault) : Type 0 where
+  pub stopped : had ≡ why.Mount fault.WriteFault → IsUpgradeStopped old new
+  pub refused : had ≢ why.Mount fault.WriteFault → IsUpgradeRefused old new had
 
 -- what comes of an upgrade: at status 0 it was made and the sink took its line
 pub record UpgradeEnds (old new : DiskState) (sink_old sink_new : SinkState) (status : ℕ) : Type 0 where

@@ -3,7 +3,7 @@
 //! Promise: status 0 says that the version is 2, durably, and that the line was taken. No mount begins, so there is no
 //! history.
 
-ghost use Rattle.std.specs.Prelude.{◌≡◌, ◌⊎◌, None};
+ghost use Rattle.std.specs.Prelude.{◌≡◌, ◌⊎◌, [], None};
 ghost use Rattle.nofs_disk.specs.Disk.{Rose};
 ghost use Rattle.nofs_io.specs.Texts.{AppendsAll};
 ghost use Rattle.nofs_tool.specs.Begin.Lines.{fixed_line};
@@ -55,8 +55,9 @@ pub(crate) fn upgrade_outcome<K: Sink, D: Disk + Drop>(
     ensures history { result.history ≡ None }
     ensures ends { UpgradeEnds (D.state disk) (D.state result.disk) (K.state sink.old)
         (K.state sink.new) result.status }
-    ensures says { (result.status ≡ 3) ⊎ (result.status ≡ 4) ⊎ (result.status ≡ 5)
-        → SaysUpgrade (K.state sink.old) (K.state sink.new) result.status }
+    ensures says { SaysUpgrade (D.state disk) (D.state result.disk) (K.state sink.old)
+        (K.state sink.new) result.status }
+    ensures silent { result.status ≡ 7 → AppendsAll (K.state sink.old) (K.state sink.new) [] }
 {
     let mut disk = disk;
     match upgrade(&mut disk) {

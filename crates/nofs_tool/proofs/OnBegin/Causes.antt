@@ -25,10 +25,13 @@ by-table : (old new : DiskState) (why : MountFault) → BeginFails old new why
     → IsMountRefusal old why
 by-table old new why b write read memory some tells = sym ((b.refused write).1.table read memory some tells)
 
-refused-by : (old new : DiskState) (why : MountFault) (cause : Cause) → BeginFails old new why
+refused-by : (old new : DiskState) (why : MountFault) (cause : Cause) → cause ≡ mount_cause why → BeginFails old new why
     → why ≢ fault.WriteFault → why ≢ fault.ReadFault
     → why ≢ fault.OutOfMemory → status_of cause ≡ 4 → IsUnmounted old new cause
-refused-by old new why cause b write read memory is = record {
+refused-by old new why cause told b write read memory is = record {
+  why = why;
+  told = told;
+  fails = b;
   caused = record { later = b.disk.faults; device = λ e. absurd (let s = ap status_of e in omega (arith, s, is)) };
   unwritten = λ e. (b.refused write).0;
   table = λ e. (why, by-table old new why b write read memory);
@@ -37,32 +40,41 @@ refused-by old new why cause b write read memory is = record {
 pub unmounted_by : (old new : DiskState) (why : MountFault) → BeginFails old new why
     → IsUnmounted old new (mount_cause why)
 unmounted_by old new fault.ReadFault b = record {
+  why = fault.ReadFault;
+  told = refl;
+  fails = b;
   caused = record { later = b.disk.faults; device = λ e. (b.refused (λ h. cc h)).1.read refl };
-  unwritten = λ e. absurd (omega (arith, e));
+  unwritten = λ e. absurd (e refl);
   table = λ e. absurd (omega (arith, e));
 }
 unmounted_by old new fault.WriteFault b = record {
+  why = fault.WriteFault;
+  told = refl;
+  fails = b;
   caused = record { later = b.disk.faults; device = λ e. b.wrote refl };
-  unwritten = λ e. absurd (omega (arith, e));
+  unwritten = λ e. absurd (e refl);
   table = λ e. absurd (omega (arith, e));
 }
 unmounted_by old new fault.OutOfMemory b = record {
+  why = fault.OutOfMemory;
+  told = refl;
+  fails = b;
   caused = record { later = b.disk.faults; device = λ e. absurd (let s = ap status_of e in omega (arith, s)) };
-  unwritten = λ e. absurd (omega (arith, e));
+  unwritten = λ e. (b.refused (λ h. cc h)).0;
   table = λ e. absurd (omega (arith, e));
 }
 unmounted_by old new (fault.BadMagic x) b =
-    refused-by old new (fault.BadMagic x) _ b (λ h. cc h) (λ h. cc h) (λ h. cc h) refl
+    refused-by old new (fault.BadMagic x) _ refl b (λ h. cc h) (λ h. cc h) (λ h. cc h) refl
 unmounted_by old new (fault.BadVersion x) b =
-    refused-by old new (fault.BadVersion x) _ b (λ h. cc h) (λ h. cc h) (λ h. cc h) refl
+    refused-by old new (fault.BadVersion x) _ refl b (λ h. cc h) (λ h. cc h) (λ h. cc h) refl
 unmounted_by old new (fault.BadGeometry x y) b =
-    refused-by old new (fault.BadGeometry x y) _ b (λ h. cc h) (λ h. cc h) (λ h. cc h) refl
+    refused-by old new (fault.BadGeometry x y) _ refl b (λ h. cc h) (λ h. cc h) (λ h. cc h) refl
 unmounted_by old new (fault.DeviceTooSmall x) b =
-    refused-by old new (fault.DeviceTooSmall x) _ b (λ h. cc h) (λ h. cc h) (λ h. cc h) refl
+    refused-by old new (fault.DeviceTooSmall x) _ refl b (λ h. cc h) (λ h. cc h) (λ h. cc h) refl
 unmounted_by old new (fault.MountsSpent x) b =
-    refused-by old new (fault.MountsSpent x) _ b (λ h. cc h) (λ h. cc h) (λ h. cc h) refl
+    refused-by old new (fault.MountsSpent x) _ refl b (λ h. cc h) (λ h. cc h) (λ h. cc h) refl
 unmounted_by old new (fault.BadRest x) b =
-    refused-by old new (fault.BadRest x) _ b (λ h. cc h) (λ h. cc h) (λ h. cc h) refl
+    refused-by old new (fault.BadRest x) _ refl b (λ h. cc h) (λ h. cc h) (λ h. cc h) refl
 
 module _ (blocks inodes : ℕ) (old new : DiskState) (later : old.faults ≤ new.faults) where
   -- the numbers were refused
@@ -114,7 +126,8 @@ refused-later blocks inodes old mid new cause f adds cells u = record {
     later = (let a = adds.disk.faults in let b = u.caused.later in omega (arith, a, b));
     device = λ e. (let a = adds.disk.faults in let b = u.caused.device e in omega (arith, a, b));
   };
-  unwritten = λ e. inr (let a = f.moment in let b = (u.unwritten e).moment in omega (arith, a, b));
+  unwritten = λ e.
+      inr (let a = f.moment in let b = (u.unwritten (λ z. omega (arith, e, z))).moment in omega (arith, a, b));
   table = λ tells e. absurd (clash tells (u.table e));
   accepted = λ e. f.accepted;
 }

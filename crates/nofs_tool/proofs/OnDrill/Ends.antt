@@ -1,7 +1,6 @@
 -- What a drill leaves, put together.
 use Rattle.std.proofs.Common.{◌≡◌, ◌≢◌, ℕ, ◌≤◌, Bool, true, false, not, List, [], ◌∷◌, ◌++◌, length, map, drop, Result}
-use Rattle.std.proofs.Common.{Ok, Err, None, Some, refl}
-use Rattle.std.proofs.Common.{sym, ap, ◌-◌, subst, arith, ◌∙◌}
+use Rattle.std.proofs.Common.{Ok, Err, None, Some, refl, sym, ap, ◌-◌, subst, arith, ◌∙◌}
 use Rattle.std.specs.Prelude.{IfOk, IfSome, count_by, sum_by}
 use Rattle.std.specs.Result.{result_ok}
 use Rattle.std.specs.declared.option.Option.{Option}
@@ -24,13 +23,12 @@ use Rattle.nofs_script.specs.Session.{IsSession}
 use Rattle.nofs_gen.proofs.OnScript.{script-formed}
 use Rattle.nofs_tool.specs.declared.drill.reads.FileRead.{FileRead}
 use Rattle.nofs_tool.specs.Drill.{AddsOwn, AreRead, IsDrillDone, IsDrilled, IsReadOut, drill_line, drill_session}
-use Rattle.nofs_tool.specs.Drill.{is_refused_line, size_told}
-use Rattle.nofs_tool.specs.Drill.{sum_told, wrong_told, IsDrillRun}
+use Rattle.nofs_tool.specs.Drill.{is_refused_line, size_told, sum_told, wrong_told, IsDrillRun}
 use Rattle.nofs_tool.proofs.OnSession.Serve.{adds-others}
 use Rattle.nofs_tool.proofs.OnSession.Whole.{whole-by}
 use Rattle.nofs_tool.proofs.OnDrill.Tally.{refusals-from}
-use Rattle.nofs_model.specs.Cells.{SuperBlock}
-use Rattle.nofs_model.specs.Image.{Image}
+use Rattle.nofs_super.specs.declared.superblock.SuperBlock.{SuperBlock}
+use Rattle.nofs_model.specs.Geometry.{Image}
 use Rattle.nofs_history.specs.Next.{Run}
 use Rattle.nofs_history.specs.World.{World, world_of}
 use Rattle.nofs_history.specs.declared.machine.steps.ElementKind.TheVariants.{Inode, Block}
@@ -160,7 +158,7 @@ drill-session start steps = record {
   );
 }
 
--- so it is in a drill, whose caller 0 then reads
+-- so it is in a drill, whose PROGRAM then reads
 pub whole-drill : (start steps : ℕ) (at : SuperBlock) (H : List Entry1) (begun first : ℕ) (B : Image)
     (V : World) (X : Image)
     → IsDrillRun start steps at.inodes at.blocks false H → Run begun (world_of B first) H V

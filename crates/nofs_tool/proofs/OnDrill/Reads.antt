@@ -1,10 +1,10 @@
--- The steps of caller 0, the files that it reads, and the line of a drill.
+-- The steps of PROGRAM, the files that it reads, and the line of a drill.
 use Rattle.std.proofs.Common.{◌≡◌, ℕ, ◌+◌, ◌==◌, Bool, true, false, not, List, [], ◌∷◌, ◌++◌, length, map, drop, cond}
 use Rattle.std.proofs.Common.{Result, Ok, Err, Some, None, refl, sym}
 use Rattle.std.proofs.Common.{ap, ◌∙◌, subst, arith, append_assoc, append-nil, length-append}
 use Rattle.std.specs.Prelude.{filter, IfOk, IsErrAnd}
 use Rattle.std.specs.declared.option.Option.{Option}
-use Rattle.nofs_model.specs.Cells.{SuperBlock}
+use Rattle.nofs_super.specs.declared.superblock.SuperBlock.{SuperBlock}
 use Rattle.nofs_history.specs.Steps.{Made, is_out_of_memory}
 use Rattle.nofs_history.specs.declared.machine.history.Entry1.{Entry1}
 use Rattle.nofs_history.specs.declared.machine.steps.Step.{Step}
@@ -21,11 +21,10 @@ use Rattle.nofs_serve.specs.Session.{TeamMade, TeamServed}
 use Rattle.nofs_serve.proofs.OnSession.{team-unserved}
 use Rattle.nofs_tool.specs.declared.drill.reads.FileRead.{FileRead}
 use Rattle.nofs_tool.specs.Drill.{AddsOwn, AreRead, AreReadings, FollowsAnswer, IsDrillFollowed, IsFileRead, IsLookedUp}
-use Rattle.nofs_tool.specs.Drill.{IsOneStep, IsReadFollowed, ReadsBy}
-use Rattle.nofs_tool.specs.Drill.{drill_session, found_in, gets_from, is_reading}
+use Rattle.nofs_tool.specs.Drill.{IsOneStep, IsReadFollowed, ReadsBy, drill_session, found_in, gets_from, is_reading}
 use Rattle.nofs_tool.proofs.OnSession.Serve.{adds-others, sweeps-shorter}
 
--- an entry of caller 0 is its last step
+-- an entry of PROGRAM is its last step
 own-more : (es : List Entry1) (e : Entry1) → is_by 0 e ≡ true → steps_by 0 (es ++ e ∷ []) ≡ steps_by 0 es
     ++ done_of e ∷ []
 own-more [] e own = go (is_by 0 e) own
@@ -48,15 +47,22 @@ adds-own s r H K a given =
     let own : is_by 0 x ≡ true = ap (λ (c : ℕ). c == 0) caller_is in
     let pair : done_of x ≡ (s, r) = λ i. (step_is i, reply_is i) in
     record {
+      behind = (x ∷ [], sym whole);
       own = ap (steps_by 0) whole ∙ (own-more H x own ∙ ap (λ (m : Made). steps_by 0 H ++ m ∷ []) pair);
       others = λ c low. adds-others 0 c s r H K a (λ e. absurd (omega (arith, low, e)));
     }
 
 pub adds-none : (H : List Entry1) → AddsOwn [] H H
-adds-none H = record { own = sym (append-nil (steps_by 0 H)); others = λ c low. refl }
+adds-none H =
+    record { behind = ([], append-nil H); own = sym (append-nil (steps_by 0 H)); others = λ c low. refl }
 
 pub adds-both : (a b : List Made) (H K L : List Entry1) → AddsOwn a H K → AddsOwn b K L → AddsOwn (a ++ b) H L
 adds-both a b H K L first next = record {
+  behind = (
+    first.behind.0 ++ next.behind.0,
+    sym (append_assoc H first.behind.0 next.behind.0)
+        ∙ (ap (λ l. l ++ next.behind.0) first.behind.1 ∙ next.behind.1),
+  );
   own = next.own ∙ (ap (λ m. m ++ b) first.own ∙ append_assoc (steps_by 0 H) a b);
   others = λ c low. next.others c low ∙ first.others c low;
 }
@@ -65,7 +71,7 @@ readings-both : (a b : List Made) → AreReadings a → AreReadings b → AreRea
 readings-both [] b first next = next
 readings-both (m ∷ a) b first next = (first.0, readings-both a b first.1 next)
 
--- caller 0 added steps that read, and no other caller anything
+-- PROGRAM added steps that read, and no other caller anything
 abbrev pub OnlyReads : List Entry1 → List Entry1 → Type 0
 OnlyReads H K = (made : List Made) × AddsOwn made H K × AreReadings made
 
@@ -93,7 +99,7 @@ only-failed Is (Ok t) P H K failed r = absurd failed
 only-failed Is (Err e) P H K failed r = let (made, adds, readings) = r in
     record { made = made; adds = adds; readings = readings; read = tt }
 
--- one step of caller 0
+-- one step of PROGRAM
 pub one-asked : {E : Type 0} (s : Step) (r : Reply) (H K : List Entry1) → is_reading s ≡ true → AddsStep 0 s r H K
     → is_out_of_memory r ≡ false
     → ReadsBy {T = Reply} {E = E} (IsOneStep s) (Ok r) H K
@@ -166,7 +172,7 @@ abbrev pub Leads : {A : Type 0} → (Reply → Option A) → (A → Option FileR
 Leads f Next s read made = (q : Reply) × (rest : List Made) × (made ≡ (s, q) ∷ rest)
     × FollowsAnswer Next (f q) read rest
 
--- a step of caller 0 after which nothing is asked for
+-- a step of PROGRAM after which nothing is asked for
 pub reads-end : {A E : Type 0} (f : Reply → Option A) (Next : A → Option FileRead → List Made → Type 0) (s : Step)
     (r : Reply) (H K : List Entry1)
     → ReadsBy {T = Reply} {E = E} (IsOneStep s) (Ok r) H K
@@ -266,7 +272,7 @@ four-read a b c d H H1 H2 H3 H4 l l1 l2 l3 l4 one two three four empty =
       ),
     )
 
--- the flush of caller 0
+-- the flush of PROGRAM
 abbrev pub Flushes : Bool → List Entry1 → List Entry1 → Type 0
 Flushes closed seen H = (flush : Reply) × AddsStep 0 (step.Flush 0 0) flush seen H
     × (closed ≡ not (is_out_of_memory flush))
@@ -275,24 +281,47 @@ flush-told : (b : Bool) → not (not b) ≡ false → b ≡ false
 flush-told true e = e
 flush-told false e = refl
 
--- memory was wanting on the way, and nothing said
-pub read-short : {T E : Type 0} (Is : T → List Made → Type 0) (reads : Result T E) (out closed : Bool)
-    (served seen H entries : List Entry1)
-    (text : Option (List ℕ))
-    → entries ≡ H → text ≡ None → ReadsBy Is reads served seen → Flushes closed seen H
+-- memory was wanting to the reads: they were cut, and nothing was flushed or said
+pub read-cut : {T E : Type 0} (Is : T → List Made → Type 0) (reads : Result T E) (out : Bool)
+    (served seen entries : List Entry1)
+    (text : Option (List ℕ)) → entries ≡ seen → text ≡ None → ReadsBy Is reads served seen
     → IsReadFollowed out served text entries
-read-short Is reads out closed served seen H entries text ends said read close =
+read-cut Is reads out served seen entries text ends said read = record {
+  short = true;
+  early = λ e. said;
+  less = λ e. absurd (cc);
+  seen = seen;
+  made = read.made;
+  flush = reply.Refused refusal.OutOfMemory;
+  adds = read.adds;
+  readings = read.readings;
+  cut = true;
+  read = λ e. absurd (cc);
+  unflushed = λ e. (refl, ends);
+  closes = record { none = λ e. ends; one = λ e. cc };
+  closed = λ e. absurd (cc);
+}
+
+-- memory was wanting to another part, and nothing said
+pub read-short : (made : List Made) (reads : List (Option FileRead)) (out closed : Bool)
+    (served seen H entries : List Entry1) (text : Option (List ℕ))
+    → entries ≡ H → text ≡ None → AddsOwn made served seen → AreReadings made → AreRead 1 reads made
+    → Flushes closed seen H
+    → IsReadFollowed out served text entries
+read-short made reads out closed served seen H entries text ends said adds readings read close =
     let (flush, closes, is) = close in
     record {
       short = true;
       early = λ e. said;
       less = λ e. absurd (cc);
       seen = seen;
-      made = read.made;
+      made = made;
       flush = flush;
-      adds = read.adds;
-      readings = read.readings;
-      read = λ e. absurd (cc);
+      adds = adds;
+      readings = readings;
+      cut = false;
+      read = λ e. (reads, read);
+      unflushed = λ e. absurd (cc);
       closes = subst (λ (h : List Entry1). AddsStep 0 (step.Flush 0 0) flush seen h) (sym ends) closes;
       closed = λ e. absurd (cc);
     }
@@ -314,7 +343,9 @@ read-whole made reads out closed served seen H entries text ends whole done adds
       flush = flush;
       adds = adds;
       readings = readings;
+      cut = false;
       read = λ e. (reads, read);
+      unflushed = λ e. absurd (cc);
       closes = subst (λ (h : List Entry1). AddsStep 0 (step.Flush 0 0) flush seen h) (sym ends) closes;
       closed = λ e. flush-told (is_out_of_memory flush) (ap not (sym is ∙ done));
     }
@@ -349,7 +380,9 @@ drill-follows start steps at out lines scripts before served H text same empty t
         };
         adds = r.adds;
         readings = r.readings;
+        cut = r.cut;
         read = r.read;
+        unflushed = r.unflushed;
         closes = r.closes;
         closed = r.closed;
       };
@@ -370,7 +403,9 @@ drill-unserved start steps at text H none said =
       flush = reply.Refused refusal.OutOfMemory;
       adds = adds-none [];
       readings = tt;
+      cut = true;
       read = λ e. absurd (cc);
+      unflushed = λ e. (refl, none);
       closes = record { none = λ e. none; one = λ e. cc };
       closed = λ e. absurd (cc);
     })

@@ -12,17 +12,18 @@ use Rattle.nofs_super.specs.Super.{check_rest, check_super, has_magic, is_super,
 use Rattle.nofs_super.specs.declared.superblock.SuperBlock.{SuperBlock}
 use Rattle.nofs_super.specs.declared.superblock.MountFault.{MountFault}
 use Rattle.nofs_super.specs.declared.superblock.MountFault.TheVariants as fault
-use Rattle.nofs_model.specs.Image.{super_at}
+use Rattle.nofs_model.specs.Geometry.{super_at}
 use Rattle.nofs_io.specs.Calls.{SourceState, SinkState}
 use Rattle.nofs_io.specs.Texts.{TakesJust}
 use Rattle.nofs_script.specs.Session.{session_of}
 use Rattle.nofs_history.specs.HistoryState.{HistoryState}
 use Rattle.nofs_tool.specs.declared.begin.mounts.Numbers.{Numbers}
+use Rattle.nofs_tool.specs.declared.begin.words.Request.{Request}
 use Rattle.nofs_tool.specs.declared.begin.words.Request.TheVariants.{Run}
 use Rattle.nofs_upgrade.specs.Upgrades.{check_upgrade, check_version}
 use Rattle.nofs_upgrade.specs.declared.fault.UpgradeFault.TheVariants.{Already}
 use Rattle.nofs_tool.specs.Upgrade.{UpgradeEnds}
-use Rattle.nofs_tool.specs.Runs.Complete.{CanBeFormatted, CanBeMounted, HoldsSession, NoneRose}
+use Rattle.nofs_tool.specs.Runs.Complete.{CanBeFormatted, CanBeMounted, HoldsSession, IsReady, NoneRose}
 use Rattle.nofs_tool.specs.Runs.Statuses.{IsExplained}
 use Rattle.nofs_tool.specs.Runs.Tool.{IsNoSession, IsRefusedBy, IsStatus, SessionEnds, WithText}
 
@@ -127,6 +128,12 @@ completes s (inr (inr (inr (inr (inr (inl e)))))) a b c d f g h = absurd (f e)
 completes s (inr (inr (inr (inr (inr (inr (inl e))))))) a b c d f g h = absurd (g e)
 completes s (inr (inr (inr (inr (inr (inr (inr (inl e)))))))) a b c d f g h = inr e
 completes s (inr (inr (inr (inr (inr (inr (inr (inr e)))))))) a b c d f g h = absurd (h e)
+
+-- what the words ask for is this task, which is ready then
+pub ready-as : (asked found task : Option Request) (source : SourceState) (limit : ℕ) (d : DiskState)
+    → found ≡ asked → found ≡ task → IsReady asked source limit d → IsReady task source limit d
+ready-as asked found task source limit d is named ready =
+    subst (λ (t : Option Request). IsReady t source limit d) (sym is ∙ named) ready
 
 -- the device is ready for a session
 abbrev pub IsReadyFor : Option Numbers → DiskState → Type 0

@@ -1,17 +1,22 @@
 -- Where all is known, the counts of the machine are those of the full scan of the disk.
-use Rattle.std.proofs.Common.{◌≡◌, ◌≢◌, Option, Some, None, Result, Ok, Err, ℕ, zero, suc, ◌+◌, ◌<◌, Bool, true, false}
+use Rattle.std.proofs.Common.{◌≡◌, ◌≢◌, ◌⊎◌, Option, Some, None, Result, Ok, Err, ℕ, zero, suc, ◌+◌, ◌<◌, Bool, true}
+use Rattle.std.proofs.Common.{false}
 use Rattle.std.proofs.Common.{◌&&◌, cond, not, List, [], map, refl}
 use Rattle.std.proofs.Common.{sym, ap, ◌∙◌, subst, arith}
-use Rattle.std.specs.Prelude.{IfOk, IfSome}
+use Rattle.std.specs.Prelude.{IfOk, IfSome, slice_set}
 use Rattle.std.specs.Result.{result_ok}
 use Rattle.std.proofs.Math.Logic.{∥∥₁_elim, ∥∥₁_prop}
 use Rattle.nofs_disk.specs.Disk.{DiskState}
+use Rattle.nofs_super.specs.Format.{super_cell}
 use Rattle.nofs_super.specs.Raise.{raised}
-use Rattle.nofs_model.specs.Cells.{SuperBlock}
-use Rattle.nofs_model.specs.Image.{Image, super_at, is_used_block, is_used_inode}
+use Rattle.nofs_super.specs.declared.superblock.SuperBlock.{SuperBlock}
+use Rattle.nofs_model.specs.Geometry.{Image, super_at}
+use Rattle.nofs_model.specs.Owners.{is_used_block, is_used_inode}
 use Rattle.nofs_history.specs.Search.{count_below}
 use Rattle.nofs_history.specs.HistoryState.{HistoryState}
-use Rattle.nofs_history.specs.World.{World, uses_block, uses_inode}
+use Rattle.nofs_history.specs.History.{NoWriteFault}
+use Rattle.nofs_history.specs.Next.{Run}
+use Rattle.nofs_history.specs.World.{World, uses_block, uses_inode, world_of}
 use Rattle.nofs_io.specs.Calls.{SinkState}
 use Rattle.nofs_io.specs.Texts.{AppendsAll}
 use Rattle.nofs_history.specs.declared.machine.history.Entry1.{Entry1}
@@ -23,11 +28,13 @@ use Rattle.nofs_state.specs.declared.books.maps.Books.{Books}
 use Rattle.nofs_state.specs.declared.books.maps.Counts.{Counts}
 use Rattle.nofs_shared.specs.Mount.Invariant.{IsMount}
 use Rattle.nofs_state.proofs.OnBooks.Counts.{count-same}
-use Rattle.nofs_tool.specs.Session.Counts.{CountsDisk, counts_line, IsScanned}
+use Rattle.nofs_tool.specs.Session.Counts.{CountsDisk, CountsMachine, IsCounted, IsScanned, SaysCounts, counts_line}
+use Rattle.nofs_tool.specs.Runs.Says.{Prints}
 use Rattle.nofs_tool.specs.Session.Entries.{has_fault}
 use Rattle.nofs_tool.specs.Session.Serve.{IsSessionRun}
-use Rattle.nofs_tool.specs.Session.Whole.{IsMet, IsWholeScan, ShowsDisk}
-use Rattle.nofs_tool.proofs.OnSession.Whole.{open-still, shows-past, whole-scan}
+use Rattle.nofs_tool.specs.Session.Whole.{IsMet, IsWholeScan, ShowsDisk, found_world}
+use Rattle.nofs_tool.proofs.OnRuns.Said.{told-text}
+use Rattle.nofs_tool.proofs.OnSession.Whole.{open-still, open-unwritten, shows-past, whole-scan}
 
 count-none : (P : ℕ → Bool) (n : ℕ) → ((m : ℕ) → m < n → P m ≡ false) → count_below P n ≡ 0
 unfolding count_below
@@ -94,6 +101,25 @@ scan-counted found before d first first_before k_before k lines c stood stands r
     let n = counts s.past.world o.says in
     world-counted (raised (super_at found.now)) s.past.world d.now c n.0 n.1 shows whole) ∣₁))
 
+-- the counts of a mount are those of the machine's world, where no write failed
+pub machine-counted : (found d : DiskState) (first : ℕ) (k : Books) (c : Counts) → first ≡ 0
+    → ∥ IsMount found d first k ∥₁ → ((W : World) → Says k W → CountsInodes W c × CountsBlocks W c)
+    → ∥ (IsMet found → NoWriteFault k.history.entries → CountsMachine found k.history c) ∥₁
+machine-counted found d first k c none_before stands counts = ∥∥₁_elim stands ∥∥₁_prop (λ m. ∣ (λ q none.
+    let s = m.stands q in
+    let o = open-unwritten found d first k m s.past none s.now in
+    let n = counts s.past.world o.says in
+    let base : s.past.base ≡ slice_set found.now 0 (super_cell (raised (super_at found.now))) =
+    s.base ∙ (m.mounted.base ∙ ap (λ (a : SuperBlock). slice_set found.now 0 (super_cell a)) s.raised) in
+    let begins : world_of s.past.base s.past.first ≡ found_world found =
+    λ j. world_of (base j) ((s.serial ∙ none_before) j) in
+    record {
+      world = s.past.world;
+      run = subst (λ (W : World). Run k.history.start W k.history.entries s.past.world) begins o.run.run;
+      inodes = n.0;
+      blocks = n.1;
+    }) ∣₁)
+
 -- the line of the counts that were taken, and what is known of them
 pub counts-told : {E : Type 0} (T : Counts → Type 0) (made : Result (List ℕ) E) (text : Option (List ℕ)) (c : Counts)
     → text ≡ result_ok made
@@ -107,14 +133,24 @@ counts-told T (Err e) text c is line known =
 pub scan-done : (found last : DiskState) (text : Option (List ℕ)) (ran : HistoryState) (h : Option HistoryState)
     (old new : SinkState) → h ≡ Some ran
     → has_fault ran.entries ≡ false → text ≢ None → IfSome text (AppendsAll old new)
-    → IfSome text (λ t. (c : Counts) × (t ≡ counts_line c)
-    × ∥ (IsMet found → has_fault ran.entries ≡ false → CountsDisk last.now c) ∥₁)
+    → IfSome text (λ t. (c : Counts) × (t ≡ counts_line c) × IsCounted found last ran c)
     → IsScanned found last h old new
 scan-done found last None ran h old new some ok is a b = absurd (is refl)
 scan-done found last (Some t) ran h old new some ok is a told =
     let (c, line, counts) = told in
     subst (λ (o : Option HistoryState). IsScanned found last o old new) (sym some)
-    (ok, (c, subst (AppendsAll old new) line a, ∥∥₁_elim counts ∥∥₁_prop (λ f. ∣ (λ q. f q ok) ∣₁)))
+    (ok, (c, subst (AppendsAll old new) line a, ∥∥₁_elim counts.disk ∥∥₁_prop (λ f. ∣ (λ q. f q ok) ∣₁)))
+
+-- its line was told, in part where the run did not end well
+pub scan-said : (found last : DiskState) (text : Option (List ℕ)) (ran : HistoryState) (h : Option HistoryState)
+    (status : ℕ) (old new : SinkState)
+    → h ≡ Some ran → (text ≡ None → status ≡ 7) → IfSome text (Prints old new)
+    → IfSome text (λ t. (c : Counts) × (t ≡ counts_line c) × IsCounted found last ran c)
+    → (status ≡ 3) ⊎ (status ≡ 5) → SaysCounts found last h old new
+scan-said found last text ran h status old new some unsaid says told =
+    told-text old new (λ t. (c : Counts) × (t ≡ counts_line c) × IsCounted found last ran c)
+    (λ x. (c : Counts) × IsCounted found last x c × Prints old new (counts_line c)) text ran h status some unsaid says
+    told (λ t has said. (has.0, has.2, subst (Prints old new) has.1 said))
 
 -- a run of no users
 pub none-run : {W : Type 0} (ws : List W) (f : W → List Command) (inodes blocks : ℕ) (out : Bool)

@@ -1,14 +1,14 @@
 -- At the end of a session in which no call of the device failed the machine's verdicts are those of the disk.
 use Rattle.std.proofs.Common.{◌≡◌, ℕ, ◌-◌, ◌/◌, ◌<◌, Bool, true, false, ◌||◌, not, leb, List, [], ◌∷◌, ◌++◌, is_some}
-use Rattle.std.proofs.Common.{◌⊎◌, inl, inr, refl, sym, ap, ◌∙◌}
-use Rattle.std.proofs.Common.{subst, arith}
+use Rattle.std.proofs.Common.{◌⊎◌, inl, inr, refl, sym, ap, ◌∙◌, subst, arith}
 use Rattle.nofs_disk.specs.Disk.{DiskState, IsSettled}
 use Rattle.nofs_super.specs.Raise.{raised}
-use Rattle.nofs_model.specs.Cells.{SuperBlock}
-use Rattle.nofs_model.specs.Image.{Image, Files, is_special, super_at}
+use Rattle.nofs_super.specs.declared.superblock.SuperBlock.{SuperBlock}
+use Rattle.nofs_model.specs.Geometry.{Image, super_at}
+use Rattle.nofs_model.specs.Files.{Files, is_special}
 use Rattle.nofs_history.specs.declared.machine.callers.TheConstants.{BLOCK_SWEEPER, INODE_SWEEPER}
 use Rattle.nofs_history.specs.Good.{IsGood}
-use Rattle.nofs_history.specs.History.{FilesMatch}
+use Rattle.nofs_history.specs.History.{FilesMatch, NoWriteFault}
 use Rattle.nofs_history.specs.Machine.{is_write_fault, is_fault}
 use Rattle.nofs_history.specs.Next.{Run}
 use Rattle.nofs_history.specs.World.{World, world_of}
@@ -54,6 +54,14 @@ still-going (e ∷ es) moment end stopped last f ok =
     still-going es e.to end (stopped || is_write_fault e.reply) last f.1 none.1
     ∙ or-none stopped (is_write_fault e.reply) (not-write e.reply none.0)
 
+-- where no write failed, it is not
+unwritten-going : (es : List Entry1) (moment end : ℕ) (stopped last : Bool) → Forms moment stopped es end last
+    → NoWriteFault es → last ≡ stopped
+unwritten-going [] moment end stopped last f none = f.1
+unwritten-going (e ∷ es) moment end stopped last f none =
+    unwritten-going es e.to end (stopped || is_write_fault e.reply) last f.1 none.1
+    ∙ or-none stopped (is_write_fault e.reply) none.0
+
 same-world : (W V : World) → V ≡ W → SameState W V
 same-world W V e = record {
   blocks = ap (λ (q : World). q.blocks) e;
@@ -76,6 +84,13 @@ module _ (found d : DiskState) (first : ℕ) (k : Books) (m : IsMount found d fi
   open-still p ok (inr s) = absurd
       (let going = still-going k.history.entries k.history.start d.moment false k.stopped m.forms ok in let stopped =
       s.stopped in cc (going, stopped))
+
+  pub open-unwritten : (p : Past) → NoWriteFault k.history.entries
+      → IsOpen d k k.history.entries p ⊎ IsStopped d k k.history.entries p → IsOpen d k k.history.entries p
+  open-unwritten p none (inl o) = o
+  open-unwritten p none (inr s) = absurd
+      (let going = unwritten-going k.history.entries k.history.start d.moment false k.stopped m.forms none in
+      let stopped = s.stopped in cc (going, stopped))
 
   -- so does a world in which all is known say what the disk says
   good : (p : Past) → IsOpen d k k.history.entries p

@@ -5,7 +5,7 @@ use Rattle.std.specs.Prelude.{All, filter}
 use Rattle.std.specs.List.{AllByRecursion}
 use Rattle.std.proofs.lemmas.Bool.{cases_eq}
 use Rattle.std.proofs.lemmas.List.Elements.{All-nil, All-cons, All-head, All-tail}
-use Rattle.nofs_model.specs.Image.{FileState, Files}
+use Rattle.nofs_model.specs.Files.{FileState, Files}
 use Rattle.nofs_history.specs.declared.machine.callers.TheConstants.{BLOCK_SWEEPER, INODE_SWEEPER}
 use Rattle.nofs_history.specs.Machine.{file_after, files_after, gives, nothing}
 use Rattle.nofs_history.specs.Next.{Next, AfterFault, ByRow, Done, ByRead, ByWrite, Run}
@@ -204,7 +204,7 @@ visit-quiet inodes blocks short H run =
       ]
     ]
 
--- caller 1's steps are answered as in the world that a run began with
+-- FIRST_USER's steps are answered as in the world that a run began with
 pub visit-answered : (H : List Entry1) (start : ℕ) (W V : World) → Run start W H V
     → AllByRecursion (λ e. IsQuiet e.step) H → AreAnswered W [] (steps_by 1 H)
 visit-answered H start W V r q = record {

@@ -10,11 +10,13 @@ use Rattle.std.proofs.lemmas.List.Elements.{All-nil}
 use Rattle.nofs_disk.specs.Disk.{DiskState}
 use Rattle.nofs_super.specs.Format.{super_cell}
 use Rattle.nofs_super.specs.Raise.{raised}
-use Rattle.nofs_model.specs.Cells.{SuperBlock}
-use Rattle.nofs_model.specs.Image.{Image, FileState, super_at}
+use Rattle.nofs_super.specs.declared.superblock.SuperBlock.{SuperBlock}
+use Rattle.nofs_model.specs.Geometry.{Image, super_at}
+use Rattle.nofs_model.specs.Files.{FileState}
 use Rattle.nofs_io.specs.Calls.{SinkState}
 use Rattle.nofs_io.specs.Texts.{AppendsAll}
-use Rattle.nofs_history.specs.History.{SameFile, agreed_files}
+use Rattle.nofs_history.specs.History.{SameFile}
+use Rattle.nofs_history.specs.Since.{agreed_files}
 use Rattle.nofs_history.specs.HistoryState.{HistoryState}
 use Rattle.nofs_history.specs.Machine.{is_write_fault, is_fault}
 use Rattle.nofs_history.specs.Next.{Run}
@@ -34,7 +36,7 @@ use Rattle.nofs_script.specs.Text.{text_of}
 use Rattle.nofs_shared.specs.Mount.Forms.{Forms}
 use Rattle.nofs_tool.specs.Session.Entries.{has_fault}
 use Rattle.nofs_tool.specs.Runs.Says.{Prints}
-use Rattle.nofs_tool.specs.Session.Whole.{Finished}
+use Rattle.nofs_tool.specs.Session.Whole.{Finished, found_world}
 use Rattle.nofs_tool.specs.Begin.Words.{picks_in}
 use Rattle.nofs_salvage.specs.Walk.Answers.{AreAnswered}
 use Rattle.nofs_salvage.specs.Report.Filter.{begins_with}
@@ -45,9 +47,10 @@ use Rattle.nofs_salvage.specs.declared.report.report.Loss.{Loss}
 use Rattle.nofs_salvage.specs.declared.report.fault.SalvageFault.{SalvageFault}
 use Rattle.nofs_salvage.specs.declared.report.fault.SalvageFault.TheVariants as fault
 use Rattle.nofs_salvage.proofs.OnWalk.Roots.{matched-roots}
-use Rattle.nofs_tool.specs.Visits.Salvage.{SaysWalk, AreReads, IsSalvaged, IsWalk, IsWalkTold, found_world, has_both}
+use Rattle.nofs_tool.specs.Visits.Salvage.{SaysWalk, AreReads, IsSalvaged, IsWalk, IsWalkTold, has_both}
 use Rattle.nofs_tool.specs.Visits.Salvage.{losses_text, salvage_text, walk_text}
 use Rattle.nofs_tool.specs.Visits.Visit.{IsVisitFollowed, IsVisitRun}
+use Rattle.nofs_tool.proofs.OnRuns.Said.{told-text}
 use Rattle.nofs_tool.proofs.OnSession.Known.{no-fault}
 use Rattle.nofs_tool.proofs.OnVisits.Visit.{visit-closed, visit-none, visit-run-maps, visit-steps}
 use Rattle.nofs_tool.proofs.OnSession.Whole.{not-write, or-none}
@@ -207,7 +210,7 @@ walk-done picks told inodes blocks out found last first all ran text zero ends w
     let quiet = visit-quiet inodes blocks out ran.entries (run-reads picks told inodes blocks out ran.entries run) in
     record {
       result = told;
-      reads = walk.reads;
+      walk = walk;
       tells = is;
       whole = ∥∥₁_elim ends ∥∥₁_prop (λ e. ∣ (λ q ok.
           let c = e.ends.contents q in
@@ -243,15 +246,14 @@ salvage-done picks found (Some t) ran h old new some ok is a told =
 
 -- its text was told, in part where the run did not end well
 pub salvage-said : (picks : List ℕ → Bool) (found : DiskState) (text : Option (List ℕ)) (ran : HistoryState)
-    (status : ℕ) (old new : SinkState)
-    → (text ≡ None → status ≡ 7) → IfSome text (Prints old new) → IfSome text (IsWalkTold picks found ran)
-    → (status ≡ 3) ⊎ (status ≡ 5) → SaysWalk old new
-salvage-said picks found None ran status old new unsaid says told (inl e) =
-    absurd (let z = unsaid refl in omega (arith, e, z))
-salvage-said picks found None ran status old new unsaid says told (inr e) =
-    absurd (let z = unsaid refl in omega (arith, e, z))
-salvage-said picks found (Some t) ran status old new unsaid says told ended =
-    (told.result, subst (Prints old new) told.tells says)
+    (h : Option HistoryState) (status : ℕ) (old new : SinkState)
+    → h ≡ Some ran → (text ≡ None → status ≡ 7) → IfSome text (Prints old new)
+    → IfSome text (IsWalkTold picks found ran)
+    → (status ≡ 3) ⊎ (status ≡ 5) → SaysWalk picks found h old new
+salvage-said picks found text ran h status old new some unsaid says told =
+    told-text old new (IsWalkTold picks found ran)
+    (λ x. (t : List ℕ) × IsWalkTold picks found x t × Prints old new t) text ran h status some unsaid says told
+    (λ t has said. (t, has, said))
 
 -- Which names a salvage is about, by its words
 

@@ -1,11 +1,11 @@
 -- Frames: what serving them leaves, put together.
 use Rattle.std.proofs.Common.{◌≡◌, ◌≢◌, ◌⊎◌, inl, inr, ℕ, zero, suc, ◌∷◌, ◌+◌, ◌≤◌, Bool, true, false, List, [], ◌++◌}
-use Rattle.std.proofs.Common.{append-nil, take, drop, map, Option, Some, None, refl, sym, ap, ◌∙◌, subst, arith}
+use Rattle.std.proofs.Common.{append-nil, length, take, drop, map, Option, Some, None, refl, sym, ap, ◌∙◌, subst, arith}
 use Rattle.std.specs.Prelude.{IfSome}
 use Rattle.std.specs.Io.KnownBytes.{Consumes}
 use Rattle.nofs_disk.specs.Disk.{DiskState, Rose}
 use Rattle.nofs_io.specs.Calls.{SourceState, SinkState}
-use Rattle.nofs_io.specs.Texts.{TakesJust}
+use Rattle.nofs_io.specs.Texts.{TakesAtMost, TakesJust}
 use Rattle.nofs_history.specs.HistoryState.{HistoryState}
 use Rattle.nofs_history.specs.Steps.{Made}
 use Rattle.nofs_history.specs.Callers.{steps_by, made_step}
@@ -35,6 +35,21 @@ take-drop : {A : Type 0} (n : ℕ) (xs : List A) → take n xs ++ drop n xs ≡ 
 take-drop zero xs = refl
 take-drop (suc n) [] = refl
 take-drop (suc n) (x ∷ xs) = ap (λ l. x ∷ l) (take-drop n xs)
+
+-- the frames have at most one byte more than the limit
+pub serves-most : (most : ℕ) (e : WireEnd) (source_old source_new : SourceState) (given new_given : Option (List ℕ))
+    (made : List Made) → Serves most e source_old.left source_new.left given new_given [] made
+    → TakesAtMost source_old source_new (most + 1)
+serves-most most e source_old source_new given new_given made s = (s.taken, s.takes, go e s.ends)
+  where
+    go : (e : WireEnd) → EndsSo most e source_new.left s.taken s.steps s.written → length s.taken ≤ most + 1
+    go ended.End i = let n = i.3 in omega (arith, n)
+    go (ended.Cut at) i = let n = i.4 in omega (arith, n)
+    go (ended.Bad at) i = let n = i.3 in omega (arith, n)
+    go ended.TooLong i = let n = i.1 in omega (arith, n)
+    go ended.SourceFault i = let n = i.1 in omega (arith, n)
+    go ended.SinkFault i = let n = i.1 in omega (arith, n)
+    go ended.OutOfMemory i = let n = i.1 in omega (arith, n)
 
 -- what was served are first steps of what was taken
 pub serves-wired : (most : ℕ) (e : WireEnd) (left new_left given new_given : Option (List ℕ)) (made : List Made)
@@ -159,6 +174,7 @@ wire-ends found last source_old source_new sink_old sink_new first status short 
       named = (subst IsStatus (sym is) n.0, λ h. n.1 (sym is ∙ h));
       run = record { short = short; end = e; serves = serves; status_is = is };
       stood = λ s h. cc h;
+      unread = λ h. absurd (cc h);
       source = λ h. source (six short e f (sym is ∙ h));
       too_long = λ h. too-long e source_old source_new _ _ _ serves (eight short e f (sym is ∙ h));
       device = λ h.
@@ -178,6 +194,7 @@ wire-refused old new source sink_old sink_new status h none kinds device refused
       named = (is-status kinds, λ e. absurd (let low = (between kinds).0 in omega (arith, low, e)));
       run = tt;
       stood = λ s. absurd (not-these s);
+      unread = λ e. refl;
       source = λ e. absurd (not-these (inr (inr (inr (inl e)))));
       too_long = λ e. absurd (not-these (inr (inr (inr (inr e)))));
       device = λ e. (tt, device e);

@@ -1,5 +1,6 @@
 -- Which words are a command of the program.
-use Rattle.std.specs.Prelude.{ℕ, Bool, true, ◌&&◌, List, [], ◌∷◌, length, codes, nat_le, if◌then◌else◌, Some, None}
+use Rattle.std.specs.Prelude.{ℕ, ◌==◌, Bool, true, false, not, ◌&&◌, List, [], ◌∷◌, length, codes, nat_le}
+use Rattle.std.specs.Prelude.{if◌then◌else◌, Some, None}
 use Rattle.std.specs.Str.{bytes_eq}
 use Rattle.std.specs.declared.option.Option.{Option}
 use Rattle.nofs_script.specs.Words.{number_of}
@@ -30,9 +31,16 @@ plain_in word = if bytes_eq word (codes "run") then Some Run else (if bytes_eq w
     else (if bytes_eq word (codes "salvage") then Some Salvage else
     (if bytes_eq word (codes "wire") then Some Wire else None))))
 
--- salvage PREFIX, of 1 to 48 bytes
+-- a word that begins with a dash, as an option of other programs does
+abbrev pub is_dashed : List ℕ → Bool
+is_dashed [] = false
+is_dashed (byte ∷ rest) = byte == 45
+
+-- salvage PREFIX, of 1 to 48 bytes, of which the first is no dash
 abbrev pub prefixed_in : List ℕ → List ℕ → Option Request
-prefixed_in word prefix = if bytes_eq word (codes "salvage") && (nat_le 1 (length prefix) && nat_le (length prefix) 48)
+prefixed_in word prefix =
+    if bytes_eq word (codes "salvage")
+    && (nat_le 1 (length prefix) && (nat_le (length prefix) 48 && not (is_dashed prefix)))
     then Some Salvage else None
 
 -- the task that words ask for

@@ -3,7 +3,7 @@ use Rattle.std.specs.Prelude.{◌≡◌, ◌-◌, ◌^◌, ◌<◌, ◌≤◌, �
 use Rattle.std.specs.declared.option.Option.{Option}
 use Rattle.nofs_disk.specs.Disk.{DiskState, Rose}
 use Rattle.nofs_super.specs.Geometry.{format_fault}
-use Rattle.nofs_model.specs.Image.{is_mountable, super_at}
+use Rattle.nofs_model.specs.Geometry.{is_mountable, super_at}
 use Rattle.nofs_io.specs.Calls.{SourceState, SinkState}
 use Rattle.nofs_client.specs.declared.task.commands.Command.{Command}
 use Rattle.nofs_script.specs.Session.{session_of}

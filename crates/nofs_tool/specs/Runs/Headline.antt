@@ -4,8 +4,8 @@ use Rattle.std.specs.declared.option.Option.{Option}
 use Rattle.nofs_disk.specs.Disk.{DiskState, IsSettled}
 use Rattle.nofs_super.specs.Format.{IsFormatted}
 use Rattle.nofs_super.specs.Raise.{raised}
-use Rattle.nofs_model.specs.Cells.{SuperBlock}
-use Rattle.nofs_model.specs.Image.{super_at}
+use Rattle.nofs_super.specs.declared.superblock.SuperBlock.{SuperBlock}
+use Rattle.nofs_model.specs.Geometry.{super_at}
 use Rattle.nofs_io.specs.Calls.{SourceState}
 use Rattle.nofs_history.specs.HistoryState.{HistoryState}
 use Rattle.nofs_history.specs.declared.machine.history.Entry1.{Entry1}
@@ -64,7 +64,7 @@ module _ {D : Type 0} (state : D → DiskState) where
   HeadlineOf (Some numbers) scripts old last status h =
       IsNewHeadline numbers.blocks numbers.inodes scripts old last status h
 
-  -- of a drill, for which the device was formatted: its users have the drawn scripts, and then caller 0 reads their
+  -- of a drill, for which the device was formatted: its users have the drawn scripts, and then PROGRAM reads their
   -- files
   pub record IsDrillHeadline (start steps : ℕ) (old : D) (last : DiskState) (status : ℕ)
       (h : HistoryState) : Type 0 where

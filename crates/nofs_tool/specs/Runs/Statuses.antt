@@ -3,12 +3,13 @@ use Rattle.std.specs.Prelude.{◌≡◌, ◌⊎◌, ℕ, ◌+◌, List, Bool, Is
 use Rattle.std.specs.declared.option.Option.{Option}
 use Rattle.nofs_disk.specs.Disk.{DiskState, Rose}
 use Rattle.nofs_io.specs.Calls.{SourceState, SinkState}
-use Rattle.nofs_io.specs.Texts.{TakesJust}
+use Rattle.nofs_io.specs.Texts.{TakesAtMost, TakesJust}
 use Rattle.nofs_history.specs.HistoryState.{HistoryState}
 use Rattle.nofs_upgrade.specs.Upgrades.{StaysOrUpgrades}
 use Rattle.nofs_tool.specs.declared.begin.words.Request.{Request}
-use Rattle.nofs_tool.specs.declared.begin.words.Request.TheVariants.{Upgrade, Salvage, Wire}
-use Rattle.nofs_tool.specs.Visits.Salvage.{IsSalvaged}
+use Rattle.nofs_tool.specs.declared.begin.words.Request.TheVariants.{New, Run, Scan, Drill, Upgrade, Salvage, Wire}
+use Rattle.nofs_tool.specs.Session.Counts.{SaysCounts}
+use Rattle.nofs_tool.specs.Visits.Salvage.{IsSalvaged, SaysWalk}
 use Rattle.nofs_tool.specs.Runs.Tool.{HasFaultOf, HasSession, IsNoSession, IsFaulty, IsFaultlessIn, IsStatus}
 use Rattle.nofs_tool.specs.Runs.Tool.{UnlessWire, WithText}
 use Rattle.nofs_tool.specs.Visits.Wire.{WireEnds}
@@ -45,7 +46,18 @@ pub record KeepsDevice {
   -- 4: no mount stood, and why it was refused
   pub refused : status ≡ 4 → (h ≡ None) × Refused
 
--- What holds of one task alone: of an upgrade, of a salvage of the names that are picked, and of frames
+-- What a task took of its source: a session and frames at most one byte more than the limit, each other task nothing
+abbrev pub TakesOnly : Option Request → SourceState → SourceState → ℕ → Type 0
+TakesOnly None old new limit = new ≡ old
+TakesOnly (Some Scan) old new limit = new ≡ old
+TakesOnly (Some (Drill start steps)) old new limit = new ≡ old
+TakesOnly (Some Upgrade) old new limit = new ≡ old
+TakesOnly (Some Salvage) old new limit = new ≡ old
+TakesOnly (Some Run) old new limit = TakesAtMost old new (limit + 1)
+TakesOnly (Some (New blocks inodes)) old new limit = TakesAtMost old new (limit + 1)
+TakesOnly (Some Wire) old new limit = TakesAtMost old new (limit + 1)
+
+-- What holds of one task alone: of an upgrade, of a scan, of a salvage of the names that are picked, and of frames
 pub record HoldsOfTask (task : Option Request) (picks : List ℕ → Bool) (source_old source_new : SourceState)
     (sink_old sink_new : SinkState)
     (old new : DiskState) (status : ℕ) (h : Option HistoryState) : Type 0 where
@@ -53,5 +65,8 @@ pub record HoldsOfTask (task : Option Request) (picks : List ℕ → Bool) (sour
   pub upgrade : task ≡ Some Upgrade → IsTrue old.tells → StaysOrUpgrades old new
   -- at status 0 the sink took what is lost in the world that the mount found
   pub salvage : task ≡ Some Salvage → status ≡ 0 → IsSalvaged picks old h sink_old sink_new
+  -- at 3 and 5 with a history it took the line of the mount's counts, and the text of the walk that was made, or a part
+  pub scan_told : task ≡ Some Scan → (status ≡ 3) ⊎ (status ≡ 5) → SaysCounts old new h sink_old sink_new
+  pub salvage_told : task ≡ Some Salvage → (status ≡ 3) ⊎ (status ≡ 5) → SaysWalk picks old h sink_old sink_new
   -- they are served until they end, and the status is that of their end
   pub wire : task ≡ Some Wire → WireEnds old new source_old source_new sink_old sink_new status h

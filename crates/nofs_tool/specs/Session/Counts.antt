@@ -1,8 +1,13 @@
 -- The line of a scan, and the counts of the full scan of a disk.
-use Rattle.std.specs.Prelude.{◌≡◌, ℕ, suc, not, List, codes, ◌++◌, false, Some, None}
+use Rattle.std.specs.Prelude.{◌≡◌, ℕ, suc, not, List, codes, ◌++◌, false, IfSome, Some, None}
 use Rattle.std.specs.Fmt.{decimal}
-use Rattle.nofs_model.specs.Image.{Image, super_at, is_used_block, is_used_inode}
+use Rattle.nofs_model.specs.Geometry.{Image, super_at}
+use Rattle.nofs_model.specs.Owners.{is_used_block, is_used_inode}
 use Rattle.nofs_history.specs.Search.{count_below}
+use Rattle.nofs_history.specs.History.{NoWriteFault}
+use Rattle.nofs_history.specs.Next.{Run}
+use Rattle.nofs_history.specs.World.{World}
+use Rattle.nofs_state.specs.Books.Counts.{CountsBlocks, CountsInodes}
 use Rattle.nofs_state.specs.declared.books.maps.Counts.{Counts}
 use Rattle.std.specs.declared.option.Option.{Option}
 use Rattle.nofs_disk.specs.Disk.{DiskState}
@@ -10,7 +15,8 @@ use Rattle.nofs_io.specs.Calls.{SinkState}
 use Rattle.nofs_io.specs.Texts.{AppendsAll}
 use Rattle.nofs_history.specs.HistoryState.{HistoryState}
 use Rattle.nofs_tool.specs.Session.Entries.{has_fault}
-use Rattle.nofs_tool.specs.Session.Whole.{IsMet}
+use Rattle.nofs_tool.specs.Session.Whole.{IsMet, found_world}
+use Rattle.nofs_tool.specs.Runs.Says.{Prints}
 
 -- so many of one kind are used, free and not examined
 abbrev pub kind_text : List ℕ → ℕ → ℕ → ℕ → List ℕ
@@ -32,6 +38,24 @@ pub record CountsDisk (X : Image) (c : Counts) : Type 0 where
   pub blocks_used : c.blocks_used ≡ count_below (λ p. is_used_block X p) (super_at X).blocks
   pub blocks_free : c.blocks_free ≡ count_below (λ p. not (is_used_block X p)) (super_at X).blocks
   pub blocks_unchecked : c.blocks_unchecked ≡ 0
+
+-- these are the counts of the machine's world at the end of the history, which began with the disk that was found
+pub record CountsMachine (found : DiskState) (h : HistoryState) (c : Counts) : Type 0 where
+  pub world : World
+  pub run : Run h.start (found_world found) h.entries world
+  pub inodes : CountsInodes world c
+  pub blocks : CountsBlocks world c
+
+-- What the line of a scan counts, at each status that has one: where the premises are met and no write failed, the
+-- verdicts of the machine; and where no call of the device failed, those of the full scan of the disk handed back
+pub record IsCounted (found last : DiskState) (h : HistoryState) (c : Counts) : Type 0 where
+  pub machine : ∥ (IsMet found → NoWriteFault h.entries → CountsMachine found h c) ∥₁
+  pub disk : ∥ (IsMet found → has_fault h.entries ≡ false → CountsDisk last.now c) ∥₁
+
+-- the line of a scan
+abbrev pub SaysCounts : DiskState → DiskState → Option HistoryState → SinkState → SinkState → Type 0
+SaysCounts found last h old new =
+    IfSome h (λ x. (c : Counts) × IsCounted found last x c × Prints old new (counts_line c))
 
 -- a scan was made: no call of the device failed, and the sink took the line of these counts. Where the premises are
 -- met, they are those of the full scan of the disk handed back

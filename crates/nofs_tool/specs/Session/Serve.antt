@@ -13,10 +13,10 @@ use Rattle.nofs_client.specs.declared.task.lines.Line.{Line}
 use Rattle.nofs_shared.specs.Mount.Entries.{AddsStep}
 use Rattle.nofs_serve.specs.Session.{TeamMade}
 use Rattle.std.specs.declared.option.Option.{Option}
-use Rattle.nofs_model.specs.Cells.{SuperBlock}
+use Rattle.nofs_super.specs.declared.superblock.SuperBlock.{SuperBlock}
 
 -- Each user is a caller of its own and made just the steps that its commands ask for, in order; each element was
--- examined once; and then caller 0 made all durable. Where memory was wanting, each may have ended early
+-- examined once; and then PROGRAM made all durable. Where memory was wanting, each may have ended early
 pub record IsSessionRun (scripts : List (List Command)) (inodes blocks : ℕ) (short : Bool) (lines : List (List Line))
     (H : List Entry1) : Type 0 where
   pub served : List Entry1
@@ -25,7 +25,7 @@ pub record IsSessionRun (scripts : List (List Command)) (inodes blocks : ℕ) (s
   pub closed : short ≡ false → is_out_of_memory flush ≡ false
   pub team : TeamMade scripts inodes blocks short lines (λ c. steps_by c served)
 
--- Caller 0's last flush, of the whole disk: what came before it, and what is left on the device where it was made
+-- PROGRAM's last flush, of the whole disk: what came before it, and what is left on the device where it was made
 pub record IsClosed (d : DiskState) (H : List Entry1) : Type 0 where
   pub served : List Entry1
   pub flush : Reply
@@ -34,7 +34,7 @@ pub record IsClosed (d : DiskState) (H : List Entry1) : Type 0 where
   pub settled : flush ≡ reply.Flushed → IsSettled d
 
 -- The entries of a history are just the steps that a session asks for: of each user those of its commands, in order, by
--- the replies before; of the sweeps one for each element, the inodes upwards and the blocks downwards; then caller 0's
+-- the replies before; of the sweeps one for each element, the inodes upwards and the blocks downwards; then PROGRAM's
 -- flush of the whole disk; and no other caller has any. Where memory was wanting (`short`), each may have ended early
 abbrev pub FollowsScripts : List (List Command) → SuperBlock → Bool → List Entry1 → Type 0
 FollowsScripts scripts at short H = (lines : List (List Line)) × IsSessionRun scripts at.inodes at.blocks short lines H

@@ -1,12 +1,14 @@
 -- The premises of what is promised of a disk, and what the machine says of it at the end of a session in which no call
 -- failed.
-use Rattle.std.specs.Prelude.{◌≡◌, ℕ, ◌<◌, ◌≤◌, true, false}
+use Rattle.std.specs.Prelude.{◌≡◌, ℕ, ◌<◌, ◌≤◌, true, false, slice_set}
 use Rattle.nofs_disk.specs.Disk.{DiskState}
+use Rattle.nofs_super.specs.Format.{super_cell}
 use Rattle.nofs_super.specs.Raise.{raised}
-use Rattle.nofs_model.specs.Cells.{SuperBlock}
-use Rattle.nofs_model.specs.Image.{Image, super_at, is_used_block, is_used_inode}
+use Rattle.nofs_super.specs.declared.superblock.SuperBlock.{SuperBlock}
+use Rattle.nofs_model.specs.Geometry.{Image, super_at}
+use Rattle.nofs_model.specs.Owners.{is_used_block, is_used_inode}
 use Rattle.nofs_history.specs.HistoryState.{HistoryState}
-use Rattle.nofs_history.specs.World.{World, uses_block, uses_inode}
+use Rattle.nofs_history.specs.World.{World, uses_block, uses_inode, world_of}
 use Rattle.nofs_shared.specs.Mount.End.{Ends}
 use Rattle.nofs_shared.specs.Mount.Invariant.{IsSoundDisk}
 use Rattle.nofs_tool.specs.Session.Entries.{has_fault}
@@ -16,6 +18,10 @@ use Rattle.nofs_tool.specs.Session.Entries.{has_fault}
 -- keeps it, and so does a crash
 abbrev pub IsMet : DiskState → Type 0
 IsMet found = IsSoundDisk found
+
+-- the world as the mount found it: the disk with its mount number raised
+abbrev pub found_world : DiskState → World
+found_world found = world_of (slice_set found.now 0 (super_cell (raised (super_at found.now)))) 0
 
 -- the machine has these numbers, and says of each inode and each block what the full scan of the disk says
 pub record ShowsDisk (at : SuperBlock) (W : World) (X : Image) : Type 0 where

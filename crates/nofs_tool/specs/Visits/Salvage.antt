@@ -1,26 +1,23 @@
 -- What a salvage tells: a line for each loss, by the machine's world as the mount found it.
 use Rattle.std.specs.Prelude.{◌≡◌, ℕ, Bool, true, false, ◌&&◌, List, [], ◌++◌, All, IfOk, IfSome, flat_map, codes}
-use Rattle.std.specs.Prelude.{slice_set, Result, Ok, Err}
+use Rattle.std.specs.Prelude.{Result, Ok, Err}
 use Rattle.std.specs.Prelude.{if◌then◌else◌, None, Some}
 use Rattle.std.proofs.Common.{refl, sym, subst, append-nil}
 use Rattle.std.proofs.lemmas.List.Elements.{All-nil}
 use Rattle.std.specs.Fmt.{decimal}
 use Rattle.std.specs.declared.option.Option.{Option}
 use Rattle.nofs_disk.specs.Disk.{DiskState}
-use Rattle.nofs_super.specs.Format.{super_cell}
-use Rattle.nofs_super.specs.Raise.{raised}
-use Rattle.nofs_model.specs.Image.{super_at}
 use Rattle.nofs_io.specs.Calls.{SinkState}
 use Rattle.nofs_io.specs.Texts.{AppendsAll}
 use Rattle.nofs_history.specs.HistoryState.{HistoryState}
 use Rattle.nofs_history.specs.Steps.{Made}
-use Rattle.nofs_history.specs.World.{World, world_of}
+use Rattle.nofs_history.specs.World.{World}
 use Rattle.nofs_history.specs.declared.machine.replies.Refusal.TheVariants as refusal
 use Rattle.nofs_history.specs.Callers.{steps_by}
 use Rattle.nofs_client.specs.declared.task.lines.Line.TheVariants as line
 use Rattle.nofs_script.specs.Text.{text_of}
 use Rattle.nofs_tool.specs.Session.Entries.{has_fault}
-use Rattle.nofs_tool.specs.Session.Whole.{IsMet}
+use Rattle.nofs_tool.specs.Session.Whole.{IsMet, found_world}
 use Rattle.nofs_tool.specs.Runs.Says.{Prints}
 use Rattle.nofs_salvage.specs.Walk.Answers.{AreAnswered}
 use Rattle.nofs_salvage.specs.Walk.Steps.{IsReadingStep, MakesReads, refusal_by}
@@ -67,10 +64,6 @@ has_both W = is_there W.files 1 1 && is_there W.files 2 2
 abbrev pub salvage_text : World → (List ℕ → Bool) → List ℕ
 salvage_text W picks = if has_both W then losses_text (report_of W picks) else text_of (line.Refused refusal.Stale)
 
--- the world as the mount found it: the disk with its mount number raised
-abbrev pub found_world : DiskState → World
-found_world found = world_of (slice_set found.now 0 (super_cell (raised (super_at found.now)))) 0
-
 -- a walk that has not begun
 pub walk_none : (picks : List ℕ → Bool) (told : Result (List Loss) SalvageFault) (made : List Made)
     → told ≡ Err fault.OutOfMemory → IsWalk picks told made made
@@ -87,11 +80,11 @@ walk_none picks told made is =
       agreed = tt;
     })
 
--- Caller 1 walked, and the text tells of its walk. Where the premises are met and no call of the device failed, it is
+-- FIRST_USER walked, and the text tells of its walk. Where the premises are met and no call of the device failed, it is
 -- that of the report of the world that the mount found
 pub record IsWalkTold (picks : List ℕ → Bool) (found : DiskState) (h : HistoryState) (text : List ℕ) : Type 0 where
   pub result : Result (List Loss) SalvageFault
-  pub reads : MakesReads [] (steps_by 1 h.entries) (refusal_by result)
+  pub walk : IsWalk picks result [] (steps_by 1 h.entries)
   pub tells : text ≡ walk_text result
   pub whole : ∥ (IsMet found → has_fault h.entries ≡ false → text ≡ salvage_text (found_world found) picks) ∥₁
 
@@ -101,6 +94,6 @@ IsSalvaged picks found None old new = ⊥
 IsSalvaged picks found (Some h) old new = (has_fault h.entries ≡ false)
     × ((text : List ℕ) × IsWalkTold picks found h text × AppendsAll old new text)
 
--- the text of a walk
-abbrev pub SaysWalk : SinkState → SinkState → Type 0
-SaysWalk old new = (result : Result (List Loss) SalvageFault) × Prints old new (walk_text result)
+-- the text of the walk that was made
+abbrev pub SaysWalk : (List ℕ → Bool) → DiskState → Option HistoryState → SinkState → SinkState → Type 0
+SaysWalk picks found h old new = IfSome h (λ x. (text : List ℕ) × IsWalkTold picks found x text × Prints old new text)

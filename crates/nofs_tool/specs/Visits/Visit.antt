@@ -1,9 +1,8 @@
--- What the entries of a visit say: of caller 1, who works on the calling thread, of the sweeps, and of caller 0's last
+-- What the entries of a visit say: of FIRST_USER, who works on the calling thread, of the sweeps, and of PROGRAM's last
 -- flush.
-use Rattle.std.specs.Prelude.{◌≡◌, ℕ, Bool, true, false, List}
-use Rattle.std.specs.Prelude.{None}
+use Rattle.std.specs.Prelude.{◌≡◌, ℕ, Bool, true, false, List, None}
 use Rattle.std.specs.declared.option.Option.{Option}
-use Rattle.nofs_model.specs.Cells.{SuperBlock}
+use Rattle.nofs_super.specs.declared.superblock.SuperBlock.{SuperBlock}
 use Rattle.nofs_history.specs.declared.machine.callers.TheConstants.{PROGRAM}
 use Rattle.nofs_history.specs.Steps.{Made, is_out_of_memory}
 use Rattle.nofs_history.specs.declared.machine.history.Entry1.{Entry1}
@@ -13,7 +12,7 @@ use Rattle.nofs_history.specs.Callers.{steps_by}
 use Rattle.nofs_shared.specs.Mount.Entries.{AddsStep}
 use Rattle.nofs_serve.specs.Visit.{VisitMade}
 
--- Caller 1 made the steps of its visit, each element was examined once, and then caller 0 made all durable. Where
+-- FIRST_USER made the steps of its visit, each element was examined once, and then PROGRAM made all durable. Where
 -- memory was wanting, each may have ended early
 pub record IsVisitRun (Visits : List Made → Type 0) (inodes blocks : ℕ) (short : Bool) (H : List Entry1) : Type 0 where
   pub served : List Entry1

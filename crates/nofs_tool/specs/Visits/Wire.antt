@@ -58,7 +58,7 @@ end_status ended.End faulty = if faulty then 3 else 0
 abbrev pub wire_status : Bool → WireEnd → Bool → ℕ
 wire_status short end faulty = if short then 7 else end_status end faulty
 
--- A mount served the frames: caller 1 made just their steps, the sink took just their replies, and the status is that
+-- A mount served the frames: FIRST_USER made just their steps, the sink took just their replies, and the status is that
 -- of the end
 pub record IsWireRun (source_old source_new : SourceState) (sink_old sink_new : SinkState) (status : ℕ)
     (h : HistoryState) : Type 0 where
@@ -75,6 +75,8 @@ pub record WireEnds (old new : DiskState) (source_old source_new : SourceState) 
   pub named : IsStatus status × (status ≢ 1)
   pub run : IfSome h (IsWireRun source_old source_new sink_old sink_new status)
   pub stood : (status ≡ 0) ⊎ (status ≡ 2) ⊎ (status ≡ 5) ⊎ (status ≡ 6) ⊎ (status ≡ 8) → h ≢ None
+  -- without a mount nothing was taken
+  pub unread : h ≡ None → source_new ≡ source_old
   pub source : status ≡ 6 → Rose source_old.faults source_new.faults
   pub too_long : status ≡ 8 → TakesJust source_old source_new (16777216 + 1)
   pub device : status ≡ 3 → IsFaulty h × Rose old.faults new.faults

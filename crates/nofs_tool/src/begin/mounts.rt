@@ -3,10 +3,11 @@
 //! Promise: a mount that begins has raised the mount number, durably. A fault of the device is answered only where the
 //! device's count of faults rose.
 
-ghost use Rattle.std.specs.Prelude.{◌≡◌, ◌≤◌, [], IfErr, IfOk, IsTrue};
+ghost use Rattle.std.specs.Prelude.{◌≡◌, ◌≤◌, [], IfErr, IfOk, IsTrue, Some};
 ghost use Rattle.nofs_super.specs.Format.{IsFormatted};
 ghost use Rattle.nofs_tool.specs.Session.Whole.{IsMet};
-ghost use Rattle.nofs_tool.specs.Begin.Mounts.{IsUnformatted, IsUnmounted, format_cause as format_cause_in};
+ghost use Rattle.nofs_tool.specs.Begin.Mounts.{HasNoMount, IsUnformatted, IsUnmounted};
+ghost use Rattle.nofs_tool.specs.Begin.Mounts.{format_cause as format_cause_in};
 ghost use Rattle.nofs_tool.specs.Begin.Mounts.{mount_cause as mount_cause_in};
 ghost use Rattle.nofs_tool.specs.Begin.Mounts.{status_of as status_in};
 
@@ -104,6 +105,7 @@ pub(crate) fn format_and_mount<D: Disk + Drop>(
     ensures met { IfOk result (λ m. IsTrue (D.state disk).tells → IsMet (D.state m.found.value)) }
     ensures refused { IfErr result
         (λ r. IsUnformatted (D.state disk) (D.state r.disk) numbers.blocks numbers.inodes r.cause) }
+    ensures unmounted { IfErr result (λ r. HasNoMount D.state (Some numbers) disk r.disk r.cause) }
 {
     let mut disk = disk;
     match format(&mut disk, numbers.blocks, numbers.inodes) {

@@ -3,7 +3,8 @@
 //! Promise: words are a command exactly where they have a shape of one.
 
 ghost use Rattle.std.specs.Prelude.{◌≡◌, map, string_bytes};
-ghost use Rattle.nofs_tool.specs.Begin.Words.{drill_in, new_in, plain_in, prefixed_in, task_in};
+ghost use Rattle.nofs_tool.specs.Begin.Words.{drill_in, is_dashed as is_dashed_in, new_in, plain_in, prefixed_in};
+ghost use Rattle.nofs_tool.specs.Begin.Words.{task_in};
 
 use nofs_gen::MOST_STEPS;
 use nofs_script::number_of;
@@ -67,12 +68,26 @@ fn plain_task(word: &str) -> Option<Request>
     }
 }
 
+// Whether a word begins with a dash. No word of a command does.
+fn is_dashed(word: &[u8]) -> bool
+    ensures { result ≡ is_dashed_in word.now }
+{
+    match word {
+        [first, ..] => *first == b'-',
+        [] => false,
+    }
+}
+
 // A prefix has as many bytes as a name can have, and at least one.
 fn prefixed_task(word: &str, prefix: &str) -> Option<Request>
     ensures { result ≡ prefixed_in word.now prefix.now }
 {
     let count = prefix.len();
-    if word.as_bytes() == b"salvage".as_slice() && 1 <= count && count <= 48 {
+    if word.as_bytes() == b"salvage".as_slice()
+        && 1 <= count
+        && count <= 48
+        && !is_dashed(prefix.as_bytes())
+    {
         Some(Request::Salvage)
     } else {
         None

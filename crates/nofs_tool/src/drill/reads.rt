@@ -1,4 +1,4 @@
-//! What caller 0 reads of the files of a drill.
+//! What the program itself, caller `PROGRAM`, reads of the files of a drill.
 //!
 //! Promise: it looks up each file in its directory, asks for its size, and gets each slot below it, in order. A refused
 //! look or stat ends that file. Where memory is wanting it ends early, and has made no other steps than these.
@@ -6,7 +6,6 @@
 ghost use Rattle.std.specs.Prelude.{◌≡◌, ◌≤◌, ◌∷◌, ◌++◌, [], length, true};
 ghost use Rattle.std.specs.declared.option.Option.{Option};
 ghost use Rattle.nofs_history.specs.Machine as machine;
-ghost use Rattle.nofs_history.specs.Steps.{is_out_of_memory};
 ghost use Rattle.nofs_history.specs.declared.machine.steps.Step.TheVariants as step;
 ghost use Rattle.nofs_tool.specs.declared.drill.reads.FileRead.{FileRead as ReadOf};
 ghost use Rattle.nofs_tool.specs.Drill.{AreRead, IsFileRead, IsLookedUp, IsOneStep, IsReadAt, IsReadIn, IsWholeRead};
@@ -15,7 +14,7 @@ ghost use Rattle.nofs_tool.specs.Drill.{gets_from, is_reading, stat_in as stat_b
 
 use nofs_dirent::Name;
 use nofs_disk::Disk;
-use nofs_history::{Found, PROGRAM, Refusal, Reply, Stat, Step};
+use nofs_history::{Found, PROGRAM, Reply, Stat, Step};
 use nofs_shared::Mount;
 use std::alloc::{AllocError, Global};
 
@@ -25,12 +24,6 @@ pub struct FileRead {
     pub found: Found,
     pub size: u64,
     pub slots: Vec<Reply>,
-}
-
-fn is_memory_wanting(reply: &Reply) -> bool
-    ensures { result ≡ is_out_of_memory reply.now }
-{
-    matches!(reply, Reply::Refused(Refusal::OutOfMemory))
 }
 
 // One step of the program itself. Where memory was wanting for it, none was made.
@@ -45,7 +38,7 @@ fn ask<D: Disk + Drop>(
     ensures same { (mount.new.found ≡ mount.old.found) × (mount.new.first ≡ mount.old.first) }
 {
     let reply = mount.step(alloc, PROGRAM, asked);
-    if is_memory_wanting(&reply) {
+    if reply.is_out_of_memory() {
         return Err(AllocError);
     }
     Ok(reply)

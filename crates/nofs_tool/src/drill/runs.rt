@@ -1,9 +1,10 @@
 //! The drill: four users with drawn scripts at a fresh mount, and a line that tells whether their files have what was
 //! accepted.
 //!
-//! Promise: where the line is told, each user made just the steps of its script, caller 0 read the four files after
+//! Promise: where the line is told, each user made just the steps of its script, `PROGRAM` read the four files after
 //! them and made all durable, and the numbers are those of the lines, of these reads, and of a replay of the history.
-//! Where none is told each of them may have ended early, and made no other steps.
+//! Where none is told each of them may have ended early, and made no other steps; where the reads did, nothing was made
+//! durable.
 
 ghost use Rattle.std.specs.Prelude.{◌≡◌, ◌≤◌, ◌∷◌, ◌++◌, ◌+◌, [], false, sum_by, count_by, All, map, vec_len, IfOk};
 ghost use Rattle.std.specs.Prelude.{IfSome, OnOk};
@@ -106,10 +107,14 @@ fn read_and_close<D: Disk + Drop>(
     let Served {
         mount,
         lines,
+        ended_early: _,
         out_of_memory,
     } = served;
     let mut mount = mount;
-    let reads = read_files(alloc, &mut mount);
+    // Where the reads were cut, there is nothing to tell, and nothing more is asked of the device.
+    let Ok(reads) = read_files(alloc, &mut mount) else {
+        return ended(mount, None);
+    };
     let closed = close(alloc, &mut mount);
     if out_of_memory {
         return ended(mount, None);
@@ -117,9 +122,6 @@ fn read_and_close<D: Disk + Drop>(
     if !closed {
         return ended(mount, None);
     }
-    let Ok(reads) = reads else {
-        return ended(mount, None);
-    };
     let text = line_of(alloc, start, steps, &lines, &reads, mount.history()).ok();
     ended(mount, text)
 }

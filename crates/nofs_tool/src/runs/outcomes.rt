@@ -1,13 +1,14 @@
 //! What a run ends with, and what its sink was told.
 
-ghost use Rattle.std.specs.Prelude.{◌≡◌, ◌≢◌, ◌↔◌, ◌⊎◌, None, Some, true, false, ℕ, List, IfOk, IfSome, OnErr, OnOk};
+ghost use Rattle.std.specs.Prelude.{◌≡◌, ◌≢◌, ◌↔◌, ◌⊎◌, [], None, Some, true, false, ℕ, List, IfOk, IfSome, OnErr};
+ghost use Rattle.std.specs.Prelude.{OnOk};
 ghost use Rattle.std.specs.Prelude.{string_bytes};
 ghost use Rattle.nofs_disk.specs.Disk.{Rose};
 ghost use Rattle.nofs_io.specs.Texts.{AppendsAll};
+ghost use Rattle.nofs_tool.specs.Begin.Lines.{cause_line};
 ghost use Rattle.nofs_tool.specs.Begin.Mounts.{status_of as status_in};
 ghost use Rattle.nofs_tool.specs.Session.Entries.{has_fault};
 ghost use Rattle.nofs_tool.specs.Runs.Says.{Prints, PrintsOrNot};
-ghost use Rattle.nofs_tool.specs.Runs.Said.{SaysCause};
 
 use crate::begin::lines::cause_text;
 use crate::begin::mounts::{Refused, status_of};
@@ -40,7 +41,7 @@ pub(crate) fn say<K: Sink>(sink: &mut K, text: &[u8]) -> Result<(), Failed>
     }
 }
 
-// A run that served nothing, and says why. A sink that fails here changes nothing.
+/// A run that served nothing, and says why. A sink that fails here changes nothing.
 pub(crate) fn told<K: Sink, D>(sink: &mut K, disk: D, status: u8, line: &str) -> Outcome<D>
     ensures is { (result.status ≡ status) × (result.disk ≡ disk) × (result.history ≡ None) }
     ensures says { Prints (K.state sink.old) (K.state sink.new) line.now }
@@ -53,7 +54,15 @@ pub(crate) fn told<K: Sink, D>(sink: &mut K, disk: D, status: u8, line: &str) ->
     }
 }
 
-/// The same with a line that took memory; where there was none, nothing is said.
+/// A run that served nothing, since memory was wanting: nothing is said.
+pub(crate) fn told_nothing<K: Sink, D>(sink: &mut K, disk: D) -> Outcome<D>
+    ensures is { (result.status ≡ 7) × (result.disk ≡ disk) × (result.history ≡ None) }
+    ensures silent { AppendsAll (K.state sink.old) (K.state sink.new) [] }
+{
+    told(sink, disk, 7, "")
+}
+
+/// A run that served nothing, with a line that took memory; where there was none, nothing is said.
 pub(crate) fn told_text<K: Sink, D>(
     sink: &mut K,
     disk: D,
@@ -90,6 +99,7 @@ fn status_after<K: Sink>(sink: &mut K, text: &Content, faulty: bool) -> u8
 }
 
 // Writes the text of a run that was mounted.
+#[tactic(auto, using(crate::proofs::OnRuns::Said::says_nothing))]
 pub(crate) fn written<K: Sink, D: Disk>(sink: &mut K, ran: Ran<D>) -> Outcome<D>
     ensures disk { (result.disk ≡ ran.disk) × (result.history ≡ Some ran.history) }
     ensures device { result.status ≡ 3 → has_fault ran.history.entries ≡ true }
@@ -100,6 +110,7 @@ pub(crate) fn written<K: Sink, D: Disk>(sink: &mut K, ran: Ran<D>) -> Outcome<D>
         × IfSome ran.text (AppendsAll (K.state sink.old) (K.state sink.new)) }
     ensures named { (result.status ≡ 0) ⊎ (result.status ≡ 3) ⊎ (result.status ≡ 5) ⊎ (result.status ≡ 7) }
     ensures unsaid { ran.text ≡ None → result.status ≡ 7 }
+    ensures silent { result.status ≡ 7 → AppendsAll (K.state sink.old) (K.state sink.new) [] }
     ensures says { IfSome ran.text (Prints (K.state sink.old) (K.state sink.new)) }
 {
     let Ran {
@@ -125,7 +136,8 @@ pub(crate) fn refused<K: Sink, D: Disk>(
     refused: Refused<D>,
 ) -> Outcome<D>
     ensures is { (result.status ≡ status_in refused.cause) × (result.disk ≡ refused.disk) × (result.history ≡ None) }
-    ensures says { SaysCause (K.state sink.old) (K.state sink.new) result.status }
+    ensures says { PrintsOrNot (K.state sink.old) (K.state sink.new) (cause_line refused.cause) }
+    ensures silent { result.status ≡ 7 → AppendsAll (K.state sink.old) (K.state sink.new) [] }
 {
     let Refused { disk, cause } = refused;
     told_text(sink, disk, status_of(cause), cause_text(alloc, cause))

@@ -1,8 +1,10 @@
 //! What comes of a session: its text is read, a mount serves it, and its lines are written.
 
-ghost use Rattle.std.specs.Prelude.{◌≡◌, ◌≢◌, ◌⊎◌, [], None, Some, IfSome};
+ghost use Rattle.std.specs.Prelude.{◌≡◌, ◌≢◌, ◌⊎◌, ◌+◌, [], None, Some, IfSome};
 ghost use Rattle.nofs_script.specs.Session.{IsSession};
-ghost use Rattle.nofs_tool.specs.Runs.Said.{Said, SaysCause, SaysFault, SaysSession};
+ghost use Rattle.nofs_io.specs.Texts.{AppendsAll, TakesAtMost};
+ghost use Rattle.nofs_tool.specs.Begin.Mounts.{HasNoMount};
+ghost use Rattle.nofs_tool.specs.Runs.Said.{IsUnread, Said, SaysCause, SaysFault, SaysSession};
 ghost use Rattle.nofs_tool.specs.Runs.Headline.{HeadlineOf, IsHeadline};
 ghost use Rattle.nofs_tool.specs.Runs.Statuses.{IsExplained, KeepsDevice};
 ghost use Rattle.nofs_tool.specs.Runs.Tool.{IsNoSession, IsRefusedBy, IsSessionAnswered};
@@ -11,7 +13,7 @@ ghost use Rattle.nofs_tool.specs.Runs.Tool.{MountEnds, SessionEnds, WithSession,
 use crate::begin::lines::{FixedLine, fixed_text, script_text};
 use crate::begin::mounts::{Numbers, format_and_mount, mount};
 use crate::begin::words::Request;
-use crate::runs::outcomes::{Outcome, refused, told, told_text, written};
+use crate::runs::outcomes::{Outcome, refused, told, told_nothing, told_text, written};
 use crate::session::serve::run_session;
 use nofs_disk::Disk;
 use nofs_io::{ReadFault, Sink, Source, TEXT_LIMIT, read_all};
@@ -39,6 +41,7 @@ fn mounted<R: Threads + Wait + Sync, K: Sink, D: Disk + Drop + Send>(
     ensures done { result.status ≡ 0 → IsSessionAnswered session result.history (K.state sink.old) (K.state sink.new) }
     ensures part { (result.status ≡ 3) ⊎ (result.status ≡ 5)
         → SaysSession (K.state sink.old) (K.state sink.new) session result.history }
+    ensures silent { result.status ≡ 7 → AppendsAll (K.state sink.old) (K.state sink.new) [] }
 {
     written(sink, run_session(rt, alloc, mount, session))
 }
@@ -59,7 +62,9 @@ fn new_outcome<R: Threads + Wait + Sync, K: Sink, D: Disk + Drop + Send>(
         (D.state result.disk)
         (K.state sink.old) (K.state sink.new) result.status result.history }
     ensures done { result.status ≡ 0 → IsSessionAnswered session result.history (K.state sink.old) (K.state sink.new) }
-    ensures unserved { result.history ≡ None → SaysCause (K.state sink.old) (K.state sink.new) result.status }
+    ensures unserved { result.history ≡ None → SaysCause (HasNoMount D.state (Some numbers) disk result.disk)
+        (K.state sink.old) (K.state sink.new) result.status }
+    ensures silent { result.status ≡ 7 → AppendsAll (K.state sink.old) (K.state sink.new) [] }
     ensures part { (result.status ≡ 3) ⊎ (result.status ≡ 5)
         → SaysSession (K.state sink.old) (K.state sink.new) session result.history }
 {
@@ -84,7 +89,9 @@ fn run_outcome<R: Threads + Wait + Sync, K: Sink, D: Disk + Drop + Send>(
         (D.state result.disk)
         (K.state sink.old) (K.state sink.new) result.status result.history }
     ensures done { result.status ≡ 0 → IsSessionAnswered session result.history (K.state sink.old) (K.state sink.new) }
-    ensures unserved { result.history ≡ None → SaysCause (K.state sink.old) (K.state sink.new) result.status }
+    ensures unserved { result.history ≡ None → SaysCause (HasNoMount D.state None disk result.disk)
+        (K.state sink.old) (K.state sink.new) result.status }
+    ensures silent { result.status ≡ 7 → AppendsAll (K.state sink.old) (K.state sink.new) [] }
     ensures part { (result.status ≡ 3) ⊎ (result.status ≡ 5)
         → SaysSession (K.state sink.old) (K.state sink.new) session result.history }
 {
@@ -109,7 +116,9 @@ fn session_outcome<R: Threads + Wait + Sync, K: Sink, D: Disk + Drop + Send>(
     ensures ends { SessionEnds (IsRefusedBy numbers (D.state disk) (D.state result.disk)) (D.state disk)
         (D.state result.disk)
         (K.state sink.old) (K.state sink.new) result.status result.history }
-    ensures unserved { result.history ≡ None → SaysCause (K.state sink.old) (K.state sink.new) result.status }
+    ensures unserved { result.history ≡ None → SaysCause (HasNoMount D.state numbers disk result.disk)
+        (K.state sink.old) (K.state sink.new) result.status }
+    ensures silent { result.status ≡ 7 → AppendsAll (K.state sink.old) (K.state sink.new) [] }
     ensures done { result.status ≡ 0 → IsSessionAnswered session result.history (K.state sink.old) (K.state sink.new) }
     ensures part { (result.status ≡ 3) ⊎ (result.status ≡ 5)
         → SaysSession (K.state sink.old) (K.state sink.new) session result.history }
@@ -140,15 +149,16 @@ fn text_outcome<R: Threads + Wait + Sync, K: Sink, D: Disk + Drop + Send>(
     ensures done { result.status ≡ 0 → WithSession text.now
         (λ session. IsSessionAnswered session result.history (K.state sink.old) (K.state sink.new)) }
     ensures fault { result.status ≡ 2 → SaysFault (K.state sink.old) (K.state sink.new) text.now }
-    ensures unserved { (result.status ≡ 3) ⊎ (result.status ≡ 4)
-        → result.history ≡ None → SaysCause (K.state sink.old) (K.state sink.new) result.status }
+    ensures unserved { result.history ≡ None → IsUnread disk result.disk result.status
+        ⊎ SaysCause (HasNoMount D.state numbers disk result.disk) (K.state sink.old) (K.state sink.new) result.status }
+    ensures silent { result.status ≡ 7 → AppendsAll (K.state sink.old) (K.state sink.new) [] }
     ensures part { (result.status ≡ 3) ⊎ (result.status ≡ 5)
         → WithSession text.now (λ session. SaysSession (K.state sink.old) (K.state sink.new) session result.history) }
 {
     match parse(alloc, text) {
         Ok(session) => session_outcome(rt, alloc, sink, disk, numbers, session),
         Err(ParseFault::Wrong(fault)) => told_text(sink, disk, 2, script_text(alloc, fault)),
-        Err(ParseFault::OutOfMemory) => told(sink, disk, 7, ""),
+        Err(ParseFault::OutOfMemory) => told_nothing(sink, disk),
     }
 }
 
@@ -174,6 +184,9 @@ pub(crate) fn source_outcome<R: Threads + Wait + Sync, S: Source, K: Sink, D: Di
         result.history }
     ensures done { result.status ≡ 0 → WithText (S.state source.old) (S.state source.new) TEXT_LIMIT (λ text.
         WithSession text (λ session. IsSessionAnswered session result.history (K.state sink.old) (K.state sink.new))) }
+    ensures unserved { result.history ≡ None → IsUnread disk result.disk result.status
+        ⊎ SaysCause (HasNoMount D.state numbers disk result.disk) (K.state sink.old) (K.state sink.new) result.status }
+    ensures taken { TakesAtMost (S.state source.old) (S.state source.new) (TEXT_LIMIT + 1) }
     ensures said { Said (Some Request.Run) (S.state source.old) (S.state source.new) TEXT_LIMIT (K.state sink.old)
         (K.state sink.new) result.status
         result.history }
@@ -182,6 +195,6 @@ pub(crate) fn source_outcome<R: Threads + Wait + Sync, S: Source, K: Sink, D: Di
         Ok(text) => text_outcome(rt, alloc, sink, disk, numbers, &text),
         Err(ReadFault::Source) => told(sink, disk, 6, fixed_text(FixedLine::SourceFault)),
         Err(ReadFault::TooLong) => told(sink, disk, 8, fixed_text(FixedLine::TooLong)),
-        Err(ReadFault::OutOfMemory) => told(sink, disk, 7, ""),
+        Err(ReadFault::OutOfMemory) => told_nothing(sink, disk),
     }
 }

@@ -1,12 +1,14 @@
 //! What comes of a scan, a salvage and a drill.
 
-ghost use Rattle.std.specs.Prelude.{◌≡◌, ◌≢◌, ◌≤◌, ◌⊎◌, [], None, Some, map, IfSome, string_bytes};
+ghost use Rattle.std.specs.Prelude.{◌≡◌, ◌≤◌, ◌⊎◌, [], None, Some, map, IfSome, string_bytes};
+ghost use Rattle.nofs_io.specs.Texts.{AppendsAll};
+ghost use Rattle.nofs_tool.specs.Begin.Mounts.{HasNoMount};
 ghost use Rattle.nofs_tool.specs.Begin.Words.{picks_in};
 ghost use Rattle.nofs_tool.specs.Visits.Salvage.{AreReads, IsSalvaged, SaysWalk};
 ghost use Rattle.nofs_tool.specs.Visits.Visit.{FollowsVisit};
 ghost use Rattle.nofs_tool.specs.Drill.{IsDrillDone};
-ghost use Rattle.nofs_tool.specs.Session.Counts.{IsScanned};
-ghost use Rattle.nofs_tool.specs.Runs.Said.{SaysCause, SaysCounts, SaysDrill};
+ghost use Rattle.nofs_tool.specs.Session.Counts.{IsScanned, SaysCounts};
+ghost use Rattle.nofs_tool.specs.Runs.Said.{SaysCause, SaysDrill};
 ghost use Rattle.nofs_tool.specs.Runs.Headline.{HeadlineOf, IsDrillHeadline, IsHeadlineOf};
 ghost use Rattle.nofs_tool.specs.Runs.Tool.{IsRefusedBy};
 ghost use Rattle.nofs_tool.specs.Runs.Tool.{SessionEnds};
@@ -35,9 +37,11 @@ pub(crate) fn scan_outcome<R: Threads + Wait + Sync, K: Sink, D: Disk + Drop + S
         (K.state sink.old) (K.state sink.new) result.status result.history }
     ensures done { result.status ≡ 0
         → IsScanned (D.state disk) (D.state result.disk) result.history (K.state sink.old) (K.state sink.new) }
-    ensures unserved { result.history ≡ None → SaysCause (K.state sink.old) (K.state sink.new) result.status }
+    ensures unserved { result.history ≡ None → SaysCause (HasNoMount D.state None disk result.disk)
+        (K.state sink.old) (K.state sink.new) result.status }
+    ensures silent { result.status ≡ 7 → AppendsAll (K.state sink.old) (K.state sink.new) [] }
     ensures part { (result.status ≡ 3) ⊎ (result.status ≡ 5)
-        → result.history ≢ None → SaysCounts (K.state sink.old) (K.state sink.new) }
+        → SaysCounts (D.state disk) (D.state result.disk) result.history (K.state sink.old) (K.state sink.new) }
 {
     match mount(alloc, disk) {
         Ok(mount) => written(sink, run_scan(rt, alloc, mount)),
@@ -60,9 +64,11 @@ pub(crate) fn salvage_outcome<R: Threads + Wait + Sync, K: Sink, D: Disk + Drop 
         (K.state sink.old) (K.state sink.new) result.status result.history }
     ensures done { result.status ≡ 0 → IsSalvaged (picks_in (map string_bytes words.now)) (D.state disk) result.history
         (K.state sink.old) (K.state sink.new) }
-    ensures unserved { result.history ≡ None → SaysCause (K.state sink.old) (K.state sink.new) result.status }
-    ensures part { (result.status ≡ 3) ⊎ (result.status ≡ 5)
-        → result.history ≢ None → SaysWalk (K.state sink.old) (K.state sink.new) }
+    ensures unserved { result.history ≡ None → SaysCause (HasNoMount D.state None disk result.disk)
+        (K.state sink.old) (K.state sink.new) result.status }
+    ensures silent { result.status ≡ 7 → AppendsAll (K.state sink.old) (K.state sink.new) [] }
+    ensures part { (result.status ≡ 3) ⊎ (result.status ≡ 5) → SaysWalk (picks_in (map string_bytes words.now))
+        (D.state disk) result.history (K.state sink.old) (K.state sink.new) }
 {
     match mount(alloc, disk) {
         Ok(mount) => written(sink, run_salvage(rt, alloc, mount, words)),
@@ -92,7 +98,10 @@ pub(crate) fn drill_outcome<R: Threads + Wait + Sync, K: Sink, D: Disk + Drop + 
         (IsRefusedBy (Some (record { blocks = 4096; inodes = 256 })) (D.state disk) (D.state result.disk))
         (D.state disk) (D.state result.disk) (K.state sink.old) (K.state sink.new) result.status result.history }
     ensures done { result.status ≡ 0 → IsDrillDone start steps result.history (K.state sink.old) (K.state sink.new) }
-    ensures unserved { result.history ≡ None → SaysCause (K.state sink.old) (K.state sink.new) result.status }
+    ensures unserved { result.history ≡ None
+        → SaysCause (HasNoMount D.state (Some (record { blocks = 4096; inodes = 256 })) disk result.disk)
+        (K.state sink.old) (K.state sink.new) result.status }
+    ensures silent { result.status ≡ 7 → AppendsAll (K.state sink.old) (K.state sink.new) [] }
     ensures part { (result.status ≡ 3) ⊎ (result.status ≡ 5)
         → SaysDrill (K.state sink.old) (K.state sink.new) start steps result.history }
 {

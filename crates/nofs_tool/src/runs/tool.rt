@@ -6,10 +6,10 @@
 
 ghost use Rattle.std.specs.Prelude.{◌≡◌, ◌↔◌, ◌⊎◌, None, Some, map, IfSome, string_bytes};
 ghost use Rattle.nofs_tool.specs.Begin.Words.{picks_in, task_in};
-ghost use Rattle.nofs_tool.specs.Runs.Said.{Said};
+ghost use Rattle.nofs_tool.specs.Runs.Said.{IsUnserved, Said};
 ghost use Rattle.nofs_tool.specs.Runs.Headline.{HeadlineIn};
 ghost use Rattle.nofs_tool.specs.Runs.Complete.{IsReady, NoneRose};
-ghost use Rattle.nofs_tool.specs.Runs.Statuses.{HoldsOfTask, IsExplained, KeepsDevice};
+ghost use Rattle.nofs_tool.specs.Runs.Statuses.{HoldsOfTask, IsExplained, KeepsDevice, TakesOnly};
 ghost use Rattle.nofs_tool.specs.Runs.Tool.{IsDone, IsRefusedTask};
 
 use crate::begin::lines::{FixedLine, fixed_text};
@@ -46,7 +46,14 @@ use std::thread::Threads;
 /// `IsExplained` there, by its name.
 ///
 /// What the sink was told at each status is in `Said` (specs/Runs/Said.antt there): the line of that status, or the
-/// session's text, or a part of it.
+/// session's text, or a part of it; at status 7 nothing, but for the replies to frames.
+///
+/// There is no history only where no session was read, or where format or mount refused, and of an upgrade.
+/// `IsUnserved` there says by which fault, what it left of the device, and that the line is that of this very fault; it
+/// may be missing, where there was no memory for it. At 4 and 7 the cells are then as they were, or as a whole format
+/// left them.
+///
+/// Of its source a task takes only what it reads as a session or as frames (`TakesOnly` in specs/Runs/Statuses.antt).
 ///
 /// Where there is a history, the headline holds of it (`IsHeadline` in specs/Runs/Headline.antt there): its entries are
 /// the steps that the session asks for; and where the premises are met, it is a run of the machine, and at every moment
@@ -85,6 +92,11 @@ pub fn tool<R: Threads + Wait + Sync, S: Source, K: Sink, D: Disk + Drop + Send>
     ensures said { Said (task_in (map string_bytes words.now)) (S.state source.old) (S.state source.new) TEXT_LIMIT
         (K.state sink.old)
         (K.state sink.new) result.status result.history }
+    ensures unserved { result.history ≡ None
+        → IsUnserved D.state (task_in (map string_bytes words.now)) disk result.disk
+        (K.state sink.old) (K.state sink.new) result.status }
+    ensures taken { TakesOnly (task_in (map string_bytes words.now)) (S.state source.old)
+        (S.state source.new) TEXT_LIMIT }
     ensures further { HoldsOfTask (task_in (map string_bytes words.now)) (picks_in (map string_bytes words.now))
         (S.state source.old)
         (S.state source.new) (K.state sink.old) (K.state sink.new) (D.state disk)

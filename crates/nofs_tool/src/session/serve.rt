@@ -19,9 +19,9 @@ ghost use Rattle.nofs_serve.specs.Session.{TeamServed};
 ghost use Rattle.nofs_shared.specs.Mount.Entries.{AddsStep};
 ghost use Rattle.nofs_state.specs.declared.books.maps.Counts.{Counts};
 ghost use Rattle.nofs_tool.specs.Session.Entries.{has_fault, session_text};
-ghost use Rattle.nofs_tool.specs.Session.Counts.{CountsDisk, counts_line};
+ghost use Rattle.nofs_tool.specs.Session.Counts.{IsCounted, counts_line};
 ghost use Rattle.nofs_tool.specs.Session.Serve.{IsFollowed, IsClosed, IsSessionRun};
-ghost use Rattle.nofs_tool.specs.Session.Whole.{Finished, IsMet};
+ghost use Rattle.nofs_tool.specs.Session.Whole.{Finished};
 
 use crate::session::counts::counts_text;
 use nofs_client::{Line, LineList};
@@ -79,7 +79,7 @@ pub(crate) fn close<D: Disk + Drop>(alloc: Global, mount: &mut Mount<D>) -> bool
         generation: 0,
     };
     let reply = mount.step(alloc, PROGRAM, flush);
-    !matches!(reply, Reply::Refused(Refusal::OutOfMemory))
+    !reply.is_out_of_memory()
 }
 
 // A plan for each user: nothing holds its steps.
@@ -178,12 +178,14 @@ fn serve_and_close<R: Threads + Wait + Sync, D: Disk + Drop + Send>(
     let Served {
         mut mount,
         lines,
+        ended_early,
         out_of_memory,
     } = serve_users(rt, alloc, mount, plans);
     let closed = close(alloc, &mut mount);
     Served {
         mount,
         lines,
+        ended_early,
         out_of_memory: out_of_memory || !closed,
     }
 }
@@ -225,6 +227,7 @@ pub(crate) fn run_session<R: Threads + Wait + Sync, D: Disk + Drop + Send>(
     let Served {
         mount,
         lines,
+        ended_early: _,
         out_of_memory,
     } = serve_and_close(rt, alloc, mount, plans);
     if out_of_memory {
@@ -239,17 +242,18 @@ pub(crate) fn run_scan<R: Threads + Wait + Sync, D: Disk + Drop + Send>(
     alloc: Global,
     mount: Mount<D>,
 ) -> Ran<D>
-    requires { mount.core.books.history.entries ≡ [] }
+    requires new { mount.core.books.history.entries ≡ [] }
+    requires first { mount.first ≡ 0 }
     ensures ends { ∥ Finished (D.state mount.found.value) (D.state result.disk) mount.first result.history ∥₁ }
     ensures follows { IsFollowed [] mount.core.books.at result.text result.history.entries }
     ensures closed { IfSome result.text (λ _. IsClosed (D.state result.disk) result.history.entries) }
     ensures counted { IfSome result.text (λ text. (c : Counts) × (text ≡ counts_line c)
-        × ∥ (IsMet (D.state mount.found.value)
-        → has_fault result.history.entries ≡ false → CountsDisk (D.state result.disk).now c) ∥₁) }
+        × IsCounted (D.state mount.found.value) (D.state result.disk) result.history c) }
 {
     let Served {
         mount,
         lines: _,
+        ended_early: _,
         out_of_memory,
     } = serve_and_close(rt, alloc, mount, Vec::new(alloc));
     if out_of_memory {

@@ -1,11 +1,13 @@
 //! Serving the frames of a source at a mount, on the calling thread.
 //!
-//! Promise: the steps of the frames are those of caller 1, in order, and the sink takes just their replies. The status
-//! is that of the end of the frames, or of a fault of the device where they ended well.
+//! Promise: the steps of the frames are those of `FIRST_USER`, in order, and the sink takes just their replies. The
+//! status is that of the end of the frames, or of a fault of the device where they ended well.
 
 ghost use Rattle.std.specs.Prelude.{◌≡◌, ◌≢◌, ◌+◌, [], None, Some, false, IfSome};
 ghost use Rattle.nofs_disk.specs.Disk.{Rose};
+ghost use Rattle.nofs_io.specs.Texts.{TakesAtMost};
 ghost use Rattle.nofs_wire.specs.Server.Serve.{Serves};
+ghost use Rattle.nofs_tool.specs.Begin.Mounts.{HasNoMount};
 ghost use Rattle.nofs_tool.specs.Visits.Visit.{FollowsVisit, IsVisitRun};
 ghost use Rattle.nofs_tool.specs.Session.Serve.{IsClosed};
 ghost use Rattle.nofs_tool.specs.Session.Whole.{Finished};
@@ -159,6 +161,7 @@ fn mounted<R: Threads + Wait + Sync, Q: Source, K: Sink, D: Disk + Drop + Send>(
     ensures ends { WireEnds (D.state mount.found.value) (D.state result.disk) (Q.state source.old) (Q.state source.new)
         (K.state sink.old) (K.state sink.new) result.status result.history }
     ensures stood { result.history ≢ None }
+    ensures taken { TakesAtMost (Q.state source.old) (Q.state source.new) (16777216 + 1) }
 {
     let Wired {
         disk,
@@ -188,7 +191,9 @@ pub(crate) fn wire_outcome<R: Threads + Wait + Sync, Q: Source, K: Sink, D: Disk
     ensures ends { WireEnds (D.state disk) (D.state result.disk) (Q.state source.old) (Q.state source.new)
         (K.state sink.old) (K.state sink.new)
         result.status result.history }
-    ensures unserved { result.history ≡ None → SaysCause (K.state sink.old) (K.state sink.new) result.status }
+    ensures unserved { result.history ≡ None → SaysCause (HasNoMount D.state None disk result.disk)
+        (K.state sink.old) (K.state sink.new) result.status }
+    ensures taken { TakesAtMost (Q.state source.old) (Q.state source.new) (16777216 + 1) }
 {
     match mount(alloc, disk) {
         Ok(mount) => mounted(rt, alloc, source, sink, mount),

@@ -1,6 +1,6 @@
-use Rattle.std.proofs.Common.{◌≡◌, [], IsTrue, sym, subst}
+use Rattle.std.proofs.Common.{◌≡◌, [], inl, inr, IsTrue, Some, sym, subst}
 use Rattle.nofs_tool.specs.declared.begin.mounts.Cause.{Cause}
-use Rattle.nofs_tool.specs.Begin.Mounts.{IsUnformatted, IsUnmounted}
+use Rattle.nofs_tool.specs.Begin.Mounts.{HasNoMount, IsUnformatted, IsUnmounted}
 use Rattle.nofs_tool.specs.Session.Whole.{IsMet}
 use Rattle.nofs_tool.proofs.OnBegin.Causes.{refused-later, unformatted-by}
 use Rattle.nofs_tool.proofs.OnBegin.Formats.{formatted_met, if-err, if-ok}
@@ -36,3 +36,25 @@ returns-in-Err-clause-refused g c =
     (sym c.format_cause.ensures)
     (unformatted-by n.blocks n.inodes (S c.args.disk)
     (S c.format.new.disk) c.format.ensures.adds.disk.faults _ c.in-Err.ensures.ends)
+
+pub returns-in-Ok-clause-unmounted : goal.returns-in-Ok-clause-unmounted
+returns-in-Ok-clause-unmounted g c =
+    let S = g.D.Disk.state in
+    let e = c.in-Ok.ensures in
+    let n = c.args.numbers in
+    if-err c.mount.result (λ r. IsUnmounted (S c.format.new.disk) (S r.disk) r.cause)
+    (λ r. HasNoMount S (Some n) c.args.disk r.disk r.cause)
+    c.mount.ensures.refused (λ r u. inr (record {
+      found = c.format.new.disk;
+      formatted = e.ends;
+      met = formatted_met n.blocks n.inodes (S c.args.disk) (S c.format.new.disk) e.ends e.adds e.cells;
+      unmounted = u;
+    }))
+
+pub returns-in-Err-clause-unmounted : goal.returns-in-Err-clause-unmounted
+returns-in-Err-clause-unmounted g c = inl (record {
+  why = c.in-Err.fault;
+  told = c.format_cause.ensures;
+  ends = c.in-Err.ensures.ends;
+  adds = c.format.ensures.adds;
+})

@@ -1,9 +1,11 @@
-use Rattle.std.proofs.Common.{sym, subst}
+use Rattle.std.proofs.Common.{sym, subst, Some}
 use Rattle.std.specs.Prelude.{IfSome}
 use Rattle.nofs_tool.specs.Runs.Headline.{FollowsDrill, IsHeadlineOf}
 use Rattle.nofs_tool.proofs.OnDrill.Ends.{drill-taken}
 use Rattle.nofs_tool.proofs.OnRuns.Headline.{drill-headline, drill-of}
 use Rattle.nofs_tool.proofs.OnRuns.Outcomes.{mounted-ends, run-ends}
+use Rattle.nofs_tool.specs.Begin.Mounts.{HasNoMount}
+use Rattle.nofs_tool.proofs.OnRuns.Said.{says-cause}
 use Rattle.nofs_tool.proofs.runs.tasks.drill_outcome.Goals as goal
 
 pub returns-in-Ok-clause-ends : goal.returns-in-Ok-clause-ends
@@ -37,3 +39,9 @@ returns-in-Ok-clause-done g c =
     λ fine. drill-taken c.args.start c.args.steps c.run_drill.result.history _ c.run_drill.result.text _ _ e.disk.1
     (e.done fine).0 (e.done fine).1
     (e.done fine).2 c.run_drill.ensures.drilled
+
+pub returns-in-Err-clause-unserved : goal.returns-in-Err-clause-unserved
+returns-in-Err-clause-unserved g c = λ none. let e = c.refused.ensures in
+    says-cause (HasNoMount g.D.Disk.state (Some (record { blocks = 4096; inodes = 256 })) c.args.disk) _ _
+    c.in-Err.why.cause _ _ _ e.is.1 e.is.0
+    c.in-Err.ensures.unmounted e.says

@@ -1,10 +1,12 @@
-use Rattle.std.proofs.Common.{[], sym, subst}
+use Rattle.std.proofs.Common.{[], sym, subst, None}
 use Rattle.std.specs.Prelude.{IfSome}
 use Rattle.nofs_tool.specs.Runs.Headline.{IsHeadline}
-use Rattle.nofs_tool.specs.Session.Counts.{IsScanned}
-use Rattle.nofs_tool.proofs.OnSession.Counts.{scan-done}
+use Rattle.nofs_tool.specs.Session.Counts.{IsScanned, SaysCounts}
+use Rattle.nofs_tool.proofs.OnSession.Counts.{scan-done, scan-said}
 use Rattle.nofs_tool.proofs.OnRuns.Headline.{headline-of, old-headline}
 use Rattle.nofs_tool.proofs.OnRuns.Outcomes.{old-ends}
+use Rattle.nofs_tool.specs.Begin.Mounts.{HasNoMount}
+use Rattle.nofs_tool.proofs.OnRuns.Said.{says-cause}
 use Rattle.nofs_tool.proofs.runs.tasks.scan_outcome.Goals as goal
 
 pub returns-in-Ok-clause-ends : goal.returns-in-Ok-clause-ends
@@ -45,3 +47,21 @@ returns-in-Ok-clause-done g c = λ done.
     (scan-done (S m.found.value)
     (S c.run_scan.result.disk) c.run_scan.result.text c.run_scan.result.history w.result.history (sink c.args.sink.now)
     (sink w.new.sink) e.disk.1 d.0 d.1 d.2 c.run_scan.ensures.counted))
+
+pub returns-in-Err-clause-unserved : goal.returns-in-Err-clause-unserved
+returns-in-Err-clause-unserved g c = λ none. let e = c.refused.ensures in
+    says-cause (HasNoMount g.D.Disk.state None c.args.disk) _ _ c.in-Err.why.cause _ _ _ e.is.1 e.is.0
+    c.in-Err.ensures.refused e.says
+
+pub returns-in-Ok-clause-part : goal.returns-in-Ok-clause-part
+returns-in-Ok-clause-part g c = λ ended.
+    let S = g.D.Disk.state in
+    let sink = g.K.Sink.state in
+    let w = c.written in
+    let e = w.ensures in
+    let ran = c.run_scan.result in
+    let Said : g.row.D.Denot → g.row.D.Denot → Type 0 = λ f d.
+    SaysCounts (S f) (S d) w.result.history (sink c.args.sink.now) (sink w.new.sink) in
+    subst (λ d. Said c.args.disk d) (sym e.disk.0) (subst (λ f. Said f ran.disk) c.in-Ok.ensures.mount.0
+    (scan-said (S c.in-Ok.mount.found.value) (S ran.disk) ran.text ran.history w.result.history w.result.status
+    (sink c.args.sink.now) (sink w.new.sink) e.disk.1 e.unsaid e.says c.run_scan.ensures.counted ended))

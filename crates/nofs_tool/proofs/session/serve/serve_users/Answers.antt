@@ -3,7 +3,7 @@ use denote.Param.{param}
 use denote.Exit.{no}
 use mir.Syntax.{of_param}
 use denote.Param.Send.{Quiet-if}
-use Rattle.nofs_model.specs.Cells.{SuperBlock}
+use Rattle.nofs_super.specs.declared.superblock.SuperBlock.{SuperBlock}
 use Rattle.nofs_shared.proofs.OnMount.Threads.{evidence-send, mount-send}
 use Rattle.nofs_serve.specs.Session.{TeamServed}
 use Rattle.nofs_tool.proofs.session.serve.serve_users.Goals as goal

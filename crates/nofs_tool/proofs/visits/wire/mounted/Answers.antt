@@ -1,7 +1,7 @@
 use Rattle.std.proofs.Common.{◌≡◌, ◌∙◌, sym, ap}
 use Rattle.nofs_tool.specs.Session.Entries.{has_fault}
 use Rattle.nofs_tool.specs.Visits.Wire.{wire_status}
-use Rattle.nofs_tool.proofs.OnVisits.Wire.{short-seven, wire-ends, wire-headline, zero-end}
+use Rattle.nofs_tool.proofs.OnVisits.Wire.{serves-most, short-seven, wire-ends, wire-headline, zero-end}
 use Rattle.nofs_tool.proofs.visits.wire.mounted.Goals as goal
 
 pub returns-clause-ends : goal.returns-clause-ends
@@ -26,3 +26,8 @@ returns-clause-headline g c =
     m.first c.wire_status-status.result m.core.books r.out_of_memory r.history c.requires.first m.stands e.ends
     e.ran e.closed (λ h. is ∙ short-seven r.out_of_memory r.end f h)
     (λ h. (zero-end r.out_of_memory r.end f (sym is ∙ h)).1)
+
+pub returns-clause-taken : goal.returns-clause-taken
+returns-clause-taken g c =
+    serves-most 16777216 _ (g.Q.Source.state c.args.source.now) (g.Q.Source.state c.run_wire-disk.new.source) _ _ _
+    c.run_wire-disk.ensures.served
