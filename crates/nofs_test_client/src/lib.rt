@@ -9,20 +9,4 @@
 #![tactic(auto)]
 
 #[cfg(test)]
-mod commands;
-#[cfg(test)]
-mod draws;
-#[cfg(test)]
-mod frames;
-#[cfg(test)]
-mod moves;
-#[cfg(test)]
-mod pieces;
-#[cfg(test)]
-mod salvage;
-#[cfg(test)]
-mod sessions;
-#[cfg(test)]
-mod standin;
-#[cfg(test)]
-mod workers;
+mod tests;

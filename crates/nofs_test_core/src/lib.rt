@@ -1,6 +1,7 @@
 //! Tests of the steps on files and on names and of scans, by calls on a core over a disk in memory.
 //!
 //! - `files`, `names`: the steps, one after another
+//! - `crashes`: every image that a crash may leave of a few steps, each mounted and read
 //! - `late`: verdicts that are committed after other steps
 //! - `bench`: what these tests share
 //!
@@ -8,10 +9,4 @@
 #![tactic(auto)]
 
 #[cfg(test)]
-mod bench;
-#[cfg(test)]
-mod files;
-#[cfg(test)]
-mod late;
-#[cfg(test)]
-mod names;
+mod tests;

@@ -8,14 +8,4 @@
 #![tactic(auto)]
 
 #[cfg(test)]
-mod cache;
-#[cfg(test)]
-mod disks;
-#[cfg(test)]
-mod filedisk;
-#[cfg(test)]
-mod memdisk;
-#[cfg(test)]
-mod mirror;
-#[cfg(test)]
-mod tags;
+mod tests;

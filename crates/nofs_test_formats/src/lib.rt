@@ -8,16 +8,4 @@
 #![tactic(auto)]
 
 #[cfg(test)]
-mod bits;
-#[cfg(test)]
-mod dirent;
-#[cfg(test)]
-mod inode;
-#[cfg(test)]
-mod lists;
-#[cfg(test)]
-mod ptrs;
-#[cfg(test)]
-mod sweep;
-#[cfg(test)]
-mod turn;
+mod tests;

@@ -10,18 +10,4 @@
 #![tactic(auto)]
 
 #[cfg(test)]
-mod accepted;
-#[cfg(test)]
-mod agree;
-#[cfg(test)]
-mod disks;
-#[cfg(test)]
-mod examples;
-#[cfg(test)]
-mod given_cells;
-#[cfg(test)]
-mod history;
-#[cfg(test)]
-mod superblock;
-#[cfg(test)]
-mod upgrade;
+mod tests;

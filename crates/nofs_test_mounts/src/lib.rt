@@ -9,14 +9,4 @@
 #![tactic(auto)]
 
 #[cfg(test)]
-mod mounts;
-#[cfg(test)]
-mod refusals;
-#[cfg(test)]
-mod serving;
-#[cfg(test)]
-mod sharing;
-#[cfg(test)]
-mod steps;
-#[cfg(test)]
-mod write_outs;
+mod tests;

@@ -26,44 +26,4 @@
 #![tactic(auto)]
 
 #[cfg(test)]
-mod caches;
-#[cfg(test)]
-mod days;
-#[cfg(test)]
-mod drills;
-#[cfg(test)]
-mod failing;
-#[cfg(test)]
-mod files;
-#[cfg(test)]
-mod frames;
-#[cfg(test)]
-mod images;
-#[cfg(test)]
-mod instance;
-#[cfg(test)]
-mod large;
-#[cfg(test)]
-mod lives;
-#[cfg(test)]
-mod mirrors;
-#[cfg(test)]
-mod moves;
-#[cfg(test)]
-mod readings;
-#[cfg(test)]
-mod recorder;
-#[cfg(test)]
-mod runs;
-#[cfg(test)]
-mod salvages;
-#[cfg(test)]
-mod statuses;
-#[cfg(test)]
-mod stories;
-#[cfg(test)]
-mod texts;
-#[cfg(test)]
-mod upgrades;
-#[cfg(test)]
-mod walks;
+mod tests;

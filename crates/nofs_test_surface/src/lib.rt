@@ -2,8 +2,9 @@
 //! function is called with what it asks, each field and each variant is named with its type. What no longer reads so
 //! does not compile, and what asks for more is not proved.
 //!
-//! In layers, the lowest first: `base`, `texts`, `disks`, `formats`, `meaning`, `cores`, `steps`, `clients`, `callers`,
-//! `mounts`. `traits` calls each method of a trait through its bound, and `laws` calls the laws.
+//! In layers, the lowest first: `base`, `texts`, `disks`, `formats`, `meaning`, `history`, `cores`, `steps`, `clients`,
+//! `callers`, `mounts`. `typed` names the type of a field, `traits` calls each method of a trait through its bound, and
+//! `laws` calls the laws.
 //!
 //! Where a signature says more than its plain form, docs/DECISIONS.md says why:
 //! - what takes memory takes an allocator, `alloc`; what waits takes `rt`
@@ -17,26 +18,4 @@
 #![tactic(auto)]
 
 #[cfg(test)]
-mod base;
-#[cfg(test)]
-mod callers;
-#[cfg(test)]
-mod clients;
-#[cfg(test)]
-mod cores;
-#[cfg(test)]
-mod disks;
-#[cfg(test)]
-mod formats;
-#[cfg(test)]
-mod laws;
-#[cfg(test)]
-mod meaning;
-#[cfg(test)]
-mod mounts;
-#[cfg(test)]
-mod steps;
-#[cfg(test)]
-mod texts;
-#[cfg(test)]
-mod traits;
+mod tests;

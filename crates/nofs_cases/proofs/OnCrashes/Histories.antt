@@ -1,20 +1,19 @@
 -- The laws of histories, over the formatted disk and a Put of one byte.
 use Rattle.std.proofs.Common.{◌≡◌, ℕ, zero, suc, ◌^◌, true, false, eqb, []}
 use Rattle.std.proofs.Common.{Option, Some, None, is_some, refl, sym, ap, subst, arith, eqb-true}
-use Rattle.nofs_model.specs.Cells.{Record}
-use Rattle.nofs_model.specs.Image.{inode, value}
-use Rattle.nofs_model.specs.Image.{FileState}
+use Rattle.nofs_inode.specs.declared.inode.Record.{Record}
+use Rattle.nofs_model.specs.Geometry.{inode}
+use Rattle.nofs_model.specs.Slots.{value}
+use Rattle.nofs_model.specs.Files.{FileState}
 use Rattle.nofs_history.specs.Machine.{gives}
-use Rattle.nofs_history.specs.History.{agreed_files, SameFile}
+use Rattle.nofs_history.specs.Since.{agreed_files}
+use Rattle.nofs_history.specs.History.{SameFile}
 use Rattle.nofs_crashlaw.proofs.OnHistories.Unflushed.{self-match, law-unflushed}
 use Rattle.nofs_cases.specs.Disks.Images.{first_image}
 use Rattle.nofs_cases.specs.Disks.Worlds.{put_files}
 use Rattle.nofs_cases.proofs.OnDisks.Matches.{same-none}
-use Rattle.nofs_cases.proofs.OnSteps.Files.{first-inode, first-old}
-use Rattle.nofs_cases.proofs.OnSteps.Files.{put-touches}
-use Rattle.nofs_cases.proofs.OnSteps.Files.{put-match}
-use Rattle.nofs_cases.specs.Crashes.Put.{put_gives}
-use Rattle.nofs_cases.specs.Crashes.Put.{StepCase, LaterCase, NamesCase, UnflushedCase, RestCase}
+use Rattle.nofs_cases.proofs.OnSteps.Files.{first-inode, first-old, put-touches, put-match}
+use Rattle.nofs_cases.specs.Crashes.Put.{put_gives, StepCase, LaterCase, NamesCase, UnflushedCase, RestCase}
 use Rattle.nofs_cases.proofs.OnCrashes.Put.{first-rest, mark-is, explained, own-pick}
 use Rattle.nofs_cases.proofs.OnCrashes.Writes.{only-proper}
 

@@ -1,12 +1,13 @@
 -- The Put of one byte as a step of the machine.
 use Rattle.std.proofs.Common.{◌≡◌, ℕ, Bool, true, false, cond, eqb, Option, Some, None, refl, ap, ◌∙◌, arith}
-use Rattle.nofs_model.specs.Kinds.{File}
-use Rattle.nofs_model.specs.Cells.{Record}
-use Rattle.nofs_model.specs.Image.{FileState}
+use Rattle.nofs_inode.specs.declared.inode.FileKind.TheVariants.{File}
+use Rattle.nofs_inode.specs.declared.inode.Record.{Record}
+use Rattle.nofs_model.specs.Files.{FileState}
 use Rattle.nofs_model.specs.declared.image.value.Value.{Value}
 use Rattle.nofs_model.specs.declared.image.value.Value.TheVariants.{Hole}
 use Rattle.nofs_history.specs.Machine.{value_of, files_by}
-use Rattle.nofs_history.specs.History.{agreed_files, SameFile}
+use Rattle.nofs_history.specs.Since.{agreed_files}
+use Rattle.nofs_history.specs.History.{SameFile}
 use Rattle.nofs_cases.specs.Disks.Images.{first_image, put_image}
 use Rattle.nofs_cases.specs.Disks.Worlds.{root_file, label_file, first_files}
 use Rattle.nofs_cases.specs.Steps.Maps.{put_entry}

@@ -5,14 +5,16 @@ use Rattle.std.specs.List.{list_all}
 use Rattle.std.specs.Prelude.{slice_index}
 use Rattle.std.proofs.lemmas.Bool.{cases_lt}
 use Rattle.std.proofs.lemmas.List.{get_or-replicate}
-use Rattle.nofs_disk.specs.Disk.{IsDisk, IsSettled, IsSizedCell, Picks}
-use Rattle.nofs_model.specs.Kinds.{File}
-use Rattle.nofs_model.specs.Cells.{Cell, Record}
-use Rattle.nofs_model.specs.Image.{Image, cell_at, inode, find, node_in, file_from, value}
-use Rattle.nofs_model.specs.Image.{FileState}
+use Rattle.nofs_disk.specs.Disk.{IsDisk, IsSettled, IsSizedCell, Picks, cell_at}
+use Rattle.nofs_inode.specs.declared.inode.FileKind.TheVariants.{File}
+use Rattle.nofs_disk.specs.declared.tag.Cell.{Cell}
+use Rattle.nofs_inode.specs.declared.inode.Record.{Record}
+use Rattle.nofs_model.specs.Geometry.{Image, inode}
+use Rattle.nofs_model.specs.Slots.{find, value}
+use Rattle.nofs_model.specs.Files.{node_in, file_from, FileState}
 use Rattle.nofs_model.specs.declared.image.value.Value.TheVariants.{Hole}
 use Rattle.nofs_model.proofs.OnSlots.Find.{and-both}
-use Rattle.nofs_history.specs.History.{agreed_files}
+use Rattle.nofs_history.specs.Since.{agreed_files}
 use Rattle.nofs_history.specs.Steady.{SteadyRest}
 use Rattle.nofs_crashlaw.specs.Images.Reasons.{IsMark, ReadsSince}
 use Rattle.nofs_crashlaw.specs.Images.Moments.{AllExplained}
@@ -20,18 +22,14 @@ use Rattle.nofs_crashlaw.proofs.OnImages.Moments.{law-flush, law-images}
 use Rattle.nofs_crashlaw.proofs.OnMaps.Fresh.{sole-is}
 use Rattle.nofs_crashlaw.specs.Histories.Stage.{Stage}
 use Rattle.nofs_crashlaw.proofs.OnHistories.FirstStage.{law-first-stage}
-use Rattle.nofs_cases.specs.Disks.Images.{blank, super_block, image_of, first_table, first_image, put_table}
-use Rattle.nofs_cases.specs.Disks.Images.{put_block}
+use Rattle.nofs_cases.specs.Disks.Images.{blank, super_block, image_of, first_table, first_image, put_table, put_block}
 use Rattle.nofs_cases.specs.Steps.Maps.{alone}
 use Rattle.nofs_cases.proofs.OnDisks.Images.{mountable}
 use Rattle.nofs_cases.proofs.OnDisks.Slots.{empty-value}
 use Rattle.nofs_cases.proofs.OnDisks.Matches.{agreed-file}
 use Rattle.nofs_cases.proofs.OnSteps.Files.{first-inode, first-plain, first-label}
 use Rattle.nofs_cases.proofs.OnSteps.Maps.{first-is-below}
-use Rattle.nofs_cases.specs.Crashes.Put.{SameDisk, first_mark}
-use Rattle.nofs_cases.specs.Crashes.Put.{FlushCase}
-use Rattle.nofs_cases.specs.Crashes.Put.{still}
-use Rattle.nofs_cases.specs.Crashes.Put.{FirstStageCase}
+use Rattle.nofs_cases.specs.Crashes.Put.{SameDisk, first_mark, FlushCase, still, FirstStageCase}
 
 pub same-disk : SameDisk
 same-disk = refl

@@ -1,35 +1,37 @@
 -- The states of the disk around a Put of one byte.
-use Rattle.std.proofs.Common.{◌≡◌, ℕ, zero, suc, ◌+◌, ◌^◌, ◌<◌, ◌≤◌, inl, inr, [], ◌∷◌}
+use Rattle.std.proofs.Common.{◌≡◌, ℕ, zero, suc, ◌+◌, ◌^◌, ◌<◌, ◌≤◌, inl, inr, [], ◌∷◌, false}
 use Rattle.std.proofs.Common.{length, refl, ap, subst, arith, Contains}
+use Rattle.nofs_disk.specs.Disk.{DiskState}
 use Rattle.nofs_disk.specs.Adds.{WasOr}
-use Rattle.nofs_model.specs.Cells.{Cell, Record, null, free_record}
-use Rattle.nofs_model.specs.Image.{Image, cell_at, inode, value}
-use Rattle.nofs_model.specs.Image.{CellBelow}
+use Rattle.nofs_disk.specs.declared.tag.Cell.{Cell}
+use Rattle.nofs_inode.specs.declared.inode.Record.{Record}
+use Rattle.nofs_disk.specs.Pointer.{null}
+use Rattle.nofs_inode.specs.InodeRecords.{free_record}
+use Rattle.nofs_model.specs.Geometry.{Image, inode}
+use Rattle.nofs_disk.specs.Disk.{cell_at}
+use Rattle.nofs_model.specs.Slots.{value}
+use Rattle.nofs_model.specs.Sound.{CellBelow}
 use Rattle.nofs_history.specs.Machine.{gives, files_by}
-use Rattle.nofs_history.specs.History.{agreed_files}
+use Rattle.nofs_history.specs.Since.{agreed_files, is_flushed}
+use Rattle.nofs_history.specs.declared.machine.history.Entry1.{Entry1}
 use Rattle.nofs_crashlaw.specs.Images.Moments.{during}
 use Rattle.nofs_crashlaw.proofs.OnFiles.Puts.{law-put-files}
-use Rattle.nofs_crashlaw.specs.Histories.Stage.{AddsProper, HasFiles}
+use Rattle.nofs_crashlaw.specs.Histories.Stage.{AddsProper, HasFiles, IsStep}
 use Rattle.nofs_disk.specs.Chains.{StaysButFaults-refl}
 use Rattle.nofs_crashlaw.proofs.OnHistories.FlushStage.{files-stay}
 use Rattle.nofs_crashlaw.proofs.OnHistories.Unflushed.{self-match}
-use Rattle.nofs_cases.specs.Disks.Images.{blank, first_table, first_image, put_table}
-use Rattle.nofs_cases.specs.Disks.Images.{put_image, put_block}
+use Rattle.nofs_cases.specs.Disks.Images.{blank, first_table, first_image, put_table, put_image, put_block}
 use Rattle.nofs_cases.specs.Disks.Worlds.{block_two}
 use Rattle.nofs_cases.specs.Steps.Files.{put_places}
 use Rattle.nofs_cases.specs.Steps.Maps.{put_entry, alone, put_may}
-use Rattle.nofs_cases.proofs.OnDisks.Images.{root_record, label_record, mountable, first-records, put-records}
-use Rattle.nofs_cases.proofs.OnDisks.Images.{put-tag}
+use Rattle.nofs_cases.proofs.OnDisks.Images.{root_record, label_record, mountable, first-records, put-records, put-tag}
 use Rattle.nofs_cases.proofs.OnDisks.Below.{tag-low, record-low, no-links-low, free-low, table-cell, blank-low}
 use Rattle.nofs_cases.proofs.OnDisks.Below.{cells-low}
-use Rattle.nofs_cases.proofs.OnSteps.Files.{first-inode}
-use Rattle.nofs_cases.proofs.OnSteps.Files.{put-lies-of}
+use Rattle.nofs_cases.proofs.OnSteps.Files.{first-inode, put-lies-of}
 use Rattle.nofs_cases.proofs.OnSteps.Maps.{first-low, one-of}
-use Rattle.nofs_cases.specs.Crashes.Put.{still}
-use Rattle.nofs_cases.specs.Crashes.Put.{may_after_put, left_after, put_state}
-use Rattle.nofs_cases.specs.Crashes.Put.{StageCase, IdleStageCase, SteadyCase, FlushStageCase}
-use Rattle.nofs_cases.proofs.OnCrashes.Put.{inside, within, still-disk, still-settled, first-stage, first-rest}
-use Rattle.nofs_cases.proofs.OnCrashes.Put.{size-is}
+use Rattle.nofs_cases.specs.Crashes.Put.{still, may_after_put, left_after, put_state}
+use Rattle.nofs_cases.specs.Crashes.Put.{see_block_entry, StageCase, IdleStageCase, SteadyCase, FlushStageCase}
+use Rattle.nofs_cases.proofs.OnCrashes.Put.{inside, within, still-disk, still-settled, first-stage, first-rest, size-is}
 use Rattle.nofs_cases.proofs.OnCrashes.Put.{no-value, label_now, label-now}
 use Rattle.nofs_cases.proofs.OnCrashes.Writes.{IsProperWrite, only-proper}
 
@@ -108,16 +110,21 @@ put-files = record {
       ];
 }
 
+-- the first step after a mount
+first-step : (e : Entry1) (new : DiskState) → e.from ≡ (still 0 8).moment → e.to ≡ new.moment
+    → is_flushed e.reply ≡ false → IsStep first_image [] e first_image (2 ^ 40) 0 (2 ^ 40) (still 0 8) new
+first-step e new at to unflushed = record {
+  stage = first-stage;
+  disk = still-disk 0 8 (omega arith);
+  tells = refl;
+  from = at;
+  to = to;
+  no_flush = unflushed;
+}
+
 pub stage-case : StageCase
 stage-case = (
-  record {
-    stage = first-stage;
-    disk = still-disk 0 8 (omega arith);
-    tells = refl;
-    from = refl;
-    to = refl;
-    no_flush = refl;
-  },
+  first-step put_entry put_state refl refl refl,
   put-adds,
   put-files,
 )
@@ -152,14 +159,7 @@ flush-stage-case = record {
 pub idle-stage-case : IdleStageCase
 unfolding gives
 idle-stage-case = (
-  record {
-    stage = first-stage;
-    disk = still-disk 0 8 (omega arith);
-    tells = refl;
-    from = refl;
-    to = refl;
-    no_flush = refl;
-  },
+  first-step see_block_entry (still 0 8) refl refl refl,
   StaysButFaults-refl (still 0 8),
   files-stay (agreed_files first_image),
 )

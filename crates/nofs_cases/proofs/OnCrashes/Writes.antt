@@ -1,15 +1,22 @@
 -- What a Put of one byte gives and writes, and that each write is proper.
 use Rattle.std.proofs.Common.{max, ◌≡◌, ℕ, zero, suc, ◌-◌, ◌%◌, ◌^◌, ◌<◌, ◌≤◌, ◌⊎◌, inl, inr, true, List, [], ◌∷◌}
 use Rattle.std.proofs.Common.{Some, refl, sym, ap, ap₂, ◌∙◌, subst, arith, Contains}
-use Rattle.nofs_model.specs.Kinds.{File}
-use Rattle.nofs_model.specs.Cells.{Cell, Pointer, Record, record_at, is_live, is_null}
-use Rattle.nofs_model.specs.Image.{cell_at, inode, Path, InRecord, path_of, find, leaf, IsSlot, record_pointer, value}
-use Rattle.nofs_model.specs.Image.{FileState, Files}
+use Rattle.nofs_inode.specs.declared.inode.FileKind.TheVariants.{File}
+use Rattle.nofs_disk.specs.declared.tag.Cell.{Cell}
+use Rattle.nofs_disk.specs.declared.tag.Pointer.{Pointer}
+use Rattle.nofs_inode.specs.declared.inode.Record.{Record}
+use Rattle.nofs_inode.specs.InodeRecords.{record_at, is_live}
+use Rattle.nofs_disk.specs.Pointer.{is_null}
+use Rattle.nofs_disk.specs.Disk.{cell_at}
+use Rattle.nofs_model.specs.Geometry.{inode}
+use Rattle.nofs_ptrs.specs.Paths.{Path, InRecord, path_of, leaf, IsSlot}
+use Rattle.nofs_model.specs.Slots.{find, record_pointer, value}
+use Rattle.nofs_model.specs.Files.{FileState, Files}
 use Rattle.nofs_model.specs.declared.image.path.PathAnswer.TheVariants as answer
 use Rattle.nofs_model.specs.declared.image.value.Value.TheVariants.{Bytes}
 use Rattle.nofs_history.specs.Meta.{Meta, meta_of, Is}
 use Rattle.nofs_history.specs.Machine.{gives, meta_with, put_content, value_of, size_of}
-use Rattle.nofs_history.specs.History.{agreed_files}
+use Rattle.nofs_history.specs.Since.{agreed_files}
 use Rattle.nofs_crashlaw.specs.Images.Reasons.{Holes}
 use Rattle.nofs_crashlaw.specs.Images.Proper.{Proper, OfTable, RecordProper, Unchanged}
 use Rattle.nofs_crashlaw.specs.Images.Moments.{during, OnlyProper}
@@ -19,21 +26,16 @@ use Rattle.nofs_crashlaw.specs.Files.Writes.{ContentLies, RecordLies}
 use Rattle.nofs_crashlaw.proofs.OnFiles.Writes.{law-content, law-record}
 use Rattle.nofs_crashlaw.proofs.OnHistories.Stages.{law-tracked}
 use Rattle.nofs_crashlaw.specs.Machine.Worlds.{no_links}
-use Rattle.nofs_cases.specs.Disks.Images.{z, blank, first_table, first_image, put_table}
-use Rattle.nofs_cases.specs.Disks.Images.{put_image, put_block}
+use Rattle.nofs_cases.specs.Disks.Images.{z, blank, first_table, first_image, put_table, put_image, put_block}
 use Rattle.nofs_cases.specs.Disks.Worlds.{block_two}
 use Rattle.nofs_cases.specs.Steps.Maps.{alone, put_may}
-use Rattle.nofs_cases.proofs.OnDisks.Images.{put-records}
-use Rattle.nofs_cases.proofs.OnDisks.Images.{data-two, data-three, not-data-one}
+use Rattle.nofs_cases.proofs.OnDisks.Images.{put-records, data-two, data-three, not-data-one}
 use Rattle.nofs_cases.proofs.OnDisks.Below.{range-is}
-use Rattle.nofs_cases.proofs.OnSteps.Files.{first-inode, first-empty, first-free}
-use Rattle.nofs_cases.proofs.OnSteps.Files.{put-inode, put-slot}
-use Rattle.nofs_cases.proofs.OnSteps.Files.{put-content}
+use Rattle.nofs_cases.proofs.OnSteps.Files.{first-inode, first-empty, first-free, put-inode, put-slot, put-content}
 use Rattle.nofs_cases.proofs.OnSteps.Maps.{one-of}
 use Rattle.nofs_cases.proofs.OnSteps.Leaf.{leaf-inode, leaf-grows, deep-empty}
 use Rattle.nofs_cases.specs.Crashes.Put.{first_mark, put_gives, torn_image, ImagesCase, MomentCase}
-use Rattle.nofs_cases.specs.Crashes.Put.{WritesCase, PointersCase}
-use Rattle.nofs_cases.specs.Crashes.Put.{still}
+use Rattle.nofs_cases.specs.Crashes.Put.{WritesCase, PointersCase, still}
 use Rattle.nofs_cases.proofs.OnCrashes.Put.{here, first-stage, mark-is, explained, own-pick, reads, size-is, no-value}
 use Rattle.nofs_cases.proofs.OnCrashes.Put.{label_now, label-now}
 

@@ -2,10 +2,21 @@
 use Rattle.std.proofs.Common.{◌≡◌, ◌≢◌, ℕ, zero, suc, ◌-◌, ◌%◌, ◌<◌, ◌≤◌, true, leb, Option, Some, IfSome, All, refl}
 use Rattle.std.proofs.Common.{sym, ap, ◌∙◌, subst, arith, leb-true}
 use Rattle.std.proofs.lemmas.List.{get_or-replicate}
-use Rattle.nofs_model.specs.Cells.{Cell, Directory, Leaf, Tag, Pointer, Record, SuperBlock, tag_of, pointer_at}
-use Rattle.nofs_model.specs.Cells.{record_at, entry_in, free_record}
-use Rattle.nofs_model.specs.Cells.{null}
-use Rattle.nofs_model.specs.Image.{cell_at, super_at, is_inode, record_pointer, TagBelow, RecordBelow, CellBelow}
+use Rattle.nofs_disk.specs.declared.tag.Cell.{Cell}
+use Rattle.nofs_disk.specs.declared.tag.Kind.TheVariants.{Directory, Leaf}
+use Rattle.nofs_disk.specs.declared.tag.Tag.{Tag}
+use Rattle.nofs_disk.specs.declared.tag.Pointer.{Pointer}
+use Rattle.nofs_inode.specs.declared.inode.Record.{Record}
+use Rattle.nofs_super.specs.declared.superblock.SuperBlock.{SuperBlock}
+use Rattle.nofs_disk.specs.Tag.{tag_of}
+use Rattle.nofs_ptrs.specs.Cells.{pointer_at}
+use Rattle.nofs_inode.specs.InodeRecords.{record_at, free_record}
+use Rattle.nofs_dirent.specs.Entries.{entry_in}
+use Rattle.nofs_disk.specs.Pointer.{null}
+use Rattle.nofs_disk.specs.Disk.{cell_at}
+use Rattle.nofs_model.specs.Geometry.{super_at, is_inode}
+use Rattle.nofs_model.specs.Slots.{record_pointer}
+use Rattle.nofs_model.specs.Sound.{TagBelow, RecordBelow, CellBelow}
 use Rattle.nofs_model.proofs.OnSlots.Find.{and-both}
 use Rattle.nofs_cases.specs.Disks.Images.{blank, super_block, image_of, first_table}
 use Rattle.nofs_cases.proofs.OnDisks.Images.{HasRecords, numbers-are, blank-tag, super-tag, table-tag}

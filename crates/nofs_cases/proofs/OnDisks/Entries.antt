@@ -1,6 +1,9 @@
 -- The entries of a cell, each by a test of all its places.
 use Rattle.std.proofs.Common.{◌≡◌, ℕ, ◌<◌, Bool, true, ltb, List, Option, Some, None, IfSome, refl, arith, ltb-true}
-use Rattle.nofs_model.specs.Cells.{Entry, entry_in, entry_of, entry_fields, number_at, is_name}
+use Rattle.nofs_dirent.specs.declared.entry.Entry.{Entry}
+use Rattle.nofs_dirent.specs.Entries.{entry_in, entry_of, entry_fields}
+use Rattle.nofs_disk.specs.Number.{number_at}
+use Rattle.nofs_dirent.specs.Names.{is_name}
 use Rattle.nofs_cases.specs.Disks.Images.{z}
 use Rattle.nofs_cases.proofs.OnDisks.Numbers.{all_below, each-below}
 

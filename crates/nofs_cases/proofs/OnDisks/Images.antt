@@ -1,16 +1,24 @@
 -- What the images say: their numbers, records and tags.
 use Rattle.std.proofs.Common.{◌≡◌, ℕ, zero, suc, ◌+◌, ◌/◌, ◌^◌, true, false, leb, ltb, ◌&&◌, List, [], ◌∷◌, Option}
 use Rattle.std.proofs.Common.{Some, refl, ap, arith}
-use Rattle.nofs_super.specs.Geometry.{format_fault}
-use Rattle.nofs_model.specs.Kinds as file
-use Rattle.nofs_model.specs.Cells.{Cell, Content, Nothing, Table, Super, Pointer, FileKind, BackLink, Record}
-use Rattle.nofs_model.specs.Cells.{SuperBlock, free_record, null}
-use Rattle.nofs_model.specs.Cells.{number_at, tag_of, record_of, record_at, fields_in, link_in, pointer_in}
-use Rattle.nofs_model.specs.Image.{is_mountable, super_in, is_super, is_geometry, super_at, is_data_block, inode}
+use Rattle.nofs_super.specs.Geometry.{format_fault, is_geometry}
+use Rattle.nofs_inode.specs.declared.inode.FileKind.TheVariants as file
+use Rattle.nofs_disk.specs.declared.tag.Cell.{Cell}
+use Rattle.nofs_disk.specs.declared.tag.Kind.TheVariants.{Content, Nothing, Table, Super}
+use Rattle.nofs_disk.specs.declared.tag.Pointer.{Pointer}
+use Rattle.nofs_inode.specs.declared.inode.FileKind.{FileKind}
+use Rattle.nofs_inode.specs.declared.inode.BackLink.{BackLink}
+use Rattle.nofs_inode.specs.declared.inode.Record.{Record}
+use Rattle.nofs_super.specs.declared.superblock.SuperBlock.{SuperBlock}
+use Rattle.nofs_inode.specs.InodeRecords.{free_record, record_of, record_at, fields_in, link_in}
+use Rattle.nofs_disk.specs.Pointer.{null, pointer_in}
+use Rattle.nofs_disk.specs.Number.{number_at}
+use Rattle.nofs_disk.specs.Tag.{tag_of}
+use Rattle.nofs_model.specs.Geometry.{is_mountable, super_at, is_data_block, inode}
+use Rattle.nofs_super.specs.Super.{super_in, is_super}
 use Rattle.nofs_cases.specs.Disks.Worlds.{block_two}
 use Rattle.nofs_cases.proofs.OnDisks.Numbers.{one_of}
-use Rattle.nofs_cases.specs.Disks.Images.{blank, super_block, image_of, first_table, put_table, put_block}
-use Rattle.nofs_cases.specs.Disks.Images.{resize_table}
+use Rattle.nofs_cases.specs.Disks.Images.{blank, super_block, image_of, first_table, put_table, put_block, resize_table}
 use Rattle.nofs_crashlaw.specs.Machine.Worlds.{no_links}
 
 -- Numbers

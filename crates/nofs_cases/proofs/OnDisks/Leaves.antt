@@ -2,7 +2,9 @@
 use Rattle.std.proofs.Common.{◌≡◌, ◌≢◌, ℕ, zero, suc, ◌+◌, ◌*◌, ◌≤◌, inl, inr, true, List, ◌++◌, length, refl, arith}
 use Rattle.std.proofs.lemmas.Bool.{cases_lt}
 use Rattle.std.proofs.lemmas.List.{drop_all}
-use Rattle.nofs_model.specs.Cells.{number_at, is_null, pointer_at, pointer_in}
+use Rattle.nofs_disk.specs.Number.{number_at}
+use Rattle.nofs_disk.specs.Pointer.{is_null, pointer_in}
+use Rattle.nofs_ptrs.specs.Cells.{pointer_at}
 use Rattle.nofs_cases.specs.Disks.Images.{z, pointer_bytes}
 use Rattle.nofs_cases.proofs.OnDisks.Numbers.{all_below, each-below}
 

@@ -1,12 +1,18 @@
 -- The machine's files on these images are theirs.
 use Rattle.std.proofs.Common.{◌≡◌, ℕ, zero, suc, ◌<◌, inl, inr, Bool, true, false, cond, eqb, Option, Some, None, refl}
 use Rattle.std.proofs.Common.{sym, ap, ◌∙◌, subst, arith}
-use Rattle.nofs_model.specs.Kinds.{File, Directory}
-use Rattle.nofs_model.specs.Cells.{FileKind, Pointer, Record, tag_of, null, is_null, is_live, slot_limit}
-use Rattle.nofs_model.specs.Image.{Image, cell_at, is_data_block, inode, Path, InRecord, path_of, slot_of}
-use Rattle.nofs_model.specs.Image.{is_pointer_slot, IsSlot, kind_in, tag_for}
-use Rattle.nofs_model.specs.Image.{record_pointer, find, value, value_in, node_in, Absent, FileState, files_in}
-use Rattle.nofs_model.specs.Image.{file_from, agreed}
+use Rattle.nofs_inode.specs.declared.inode.FileKind.TheVariants.{File, Directory}
+use Rattle.nofs_inode.specs.declared.inode.FileKind.{FileKind}
+use Rattle.nofs_disk.specs.declared.tag.Pointer.{Pointer}
+use Rattle.nofs_inode.specs.declared.inode.Record.{Record}
+use Rattle.nofs_disk.specs.Tag.{tag_of}
+use Rattle.nofs_disk.specs.Pointer.{null, is_null}
+use Rattle.nofs_inode.specs.InodeRecords.{is_live}
+use Rattle.nofs_ptrs.specs.Paths.{slot_limit, Path, InRecord, path_of, slot_of, is_pointer_slot, IsSlot}
+use Rattle.nofs_model.specs.Geometry.{Image, is_data_block, inode}
+use Rattle.nofs_disk.specs.Disk.{cell_at}
+use Rattle.nofs_model.specs.Slots.{kind_in, tag_for, record_pointer, find, value, value_in}
+use Rattle.nofs_model.specs.Files.{node_in, Absent, FileState, files_in, file_from, agreed}
 use Rattle.nofs_model.specs.Definitions.{the_root, the_label}
 use Rattle.nofs_model.specs.declared.image.path.PathAnswer.{PathAnswer}
 use Rattle.nofs_model.specs.declared.image.path.PathAnswer.TheVariants as answer
@@ -14,8 +20,9 @@ use Rattle.nofs_model.specs.declared.image.value.Value.{Value}
 use Rattle.nofs_model.specs.declared.image.value.Value.TheVariants.{Hole, Bytes}
 use Rattle.nofs_model.proofs.OnSlots.Find.{agrees-built, find-built}
 use Rattle.nofs_model.proofs.OnFiles.Meanings.{fact-agreed}
-use Rattle.nofs_model.proofs.OnSlots.Paths.{path_of-slot, slot_of-path_of}
-use Rattle.nofs_history.specs.History.{SameFile, FilesMatch, agreed_files}
+use Rattle.nofs_ptrs.specs.PathLaws.{path_of-slot, slot_of-path_of}
+use Rattle.nofs_history.specs.History.{SameFile, FilesMatch}
+use Rattle.nofs_history.specs.Since.{agreed_files}
 use Rattle.nofs_crashlaw.proofs.OnUntouched.Matches.{agreed-files-is}
 use Rattle.nofs_crashlaw.specs.Machine.Worlds.{first_slot}
 use Rattle.nofs_cases.specs.Disks.Worlds.{three_files}

@@ -1,16 +1,22 @@
 -- Inodes with one pointer at most, in slot 0: what their slots hold.
 use Rattle.std.proofs.Common.{◌≡◌, ℕ, zero, suc, ◌<◌, ◌⊎◌, inl, inr, true, false, eqb, Option, Some, None, refl, sym}
 use Rattle.std.proofs.Common.{ap, ◌∙◌, subst, arith}
-use Rattle.nofs_model.specs.Cells.{Cell, Pointer, Record, null, is_null, slot_limit}
-use Rattle.nofs_model.specs.Image.{Image, inode, Path, InRecord, Under, path_of, is_pointer_slot, IsSlot}
-use Rattle.nofs_model.specs.Image.{record_pointer, judged, find, pointer}
-use Rattle.nofs_model.specs.Image.{value, value_in, agreed, IsFree, owner, Home}
+use Rattle.nofs_disk.specs.declared.tag.Cell.{Cell}
+use Rattle.nofs_disk.specs.declared.tag.Pointer.{Pointer}
+use Rattle.nofs_inode.specs.declared.inode.Record.{Record}
+use Rattle.nofs_disk.specs.Pointer.{null, is_null}
+use Rattle.nofs_ptrs.specs.Paths.{slot_limit, Path, InRecord, Under, path_of, is_pointer_slot, IsSlot}
+use Rattle.nofs_model.specs.Geometry.{Image, inode}
+use Rattle.nofs_model.specs.Slots.{record_pointer, judged, find, pointer, value, value_in}
+use Rattle.nofs_model.specs.Files.{agreed}
+use Rattle.nofs_model.specs.Owners.{IsFree, owner, Home}
 use Rattle.nofs_model.specs.declared.image.path.PathAnswer.{PathAnswer}
 use Rattle.nofs_model.specs.declared.image.path.PathAnswer.TheVariants as answer
 use Rattle.nofs_model.specs.declared.image.value.Value.TheVariants.{Hole}
 use Rattle.nofs_model.proofs.OnSlots.Find.{judged-held, judged-built-null}
 use Rattle.nofs_model.proofs.OnOwners.Slots.{owner-holds, owner-slot}
-use Rattle.nofs_model.proofs.OnSlots.Paths.{path_of-slot, path_of-number}
+use Rattle.nofs_ptrs.specs.PathLaws.{path_of-slot}
+use Rattle.nofs_model.proofs.OnSlots.Paths.{path_of-number}
 use Rattle.nofs_crashlaw.specs.Untouched.Frames.{OldPointers}
 use Rattle.nofs_cases.specs.Disks.Images.{image_of}
 use Rattle.nofs_cases.proofs.OnDisks.Numbers.{one_of, each-number}

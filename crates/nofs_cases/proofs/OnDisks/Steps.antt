@@ -1,9 +1,19 @@
 -- What a step leaves of these disks: its blocks and records, each compared with what stood there.
 use Rattle.std.proofs.Common.{◌≡◌, ◌≢◌, ℕ, suc, ◌+◌, ◌/◌, ◌≤◌, ◌⊎◌, inl, Bool, true, false, leb, ltb, eqb, ◌&&◌, Some}
 use Rattle.std.proofs.Common.{refl, sym, ap, ◌∙◌, subst, arith}
-use Rattle.nofs_model.specs.Cells.{Cell, Tag, Pointer, Record, SuperBlock, tag_of, free_record, null}
-use Rattle.nofs_model.specs.Image.{Image, cell_at, is_data_block, inode, Path, find, record_pointer, kind_in, slot_of}
-use Rattle.nofs_model.specs.Image.{tag_for, IsFree}
+use Rattle.nofs_disk.specs.declared.tag.Cell.{Cell}
+use Rattle.nofs_disk.specs.declared.tag.Tag.{Tag}
+use Rattle.nofs_disk.specs.declared.tag.Pointer.{Pointer}
+use Rattle.nofs_inode.specs.declared.inode.Record.{Record}
+use Rattle.nofs_super.specs.declared.superblock.SuperBlock.{SuperBlock}
+use Rattle.nofs_disk.specs.Tag.{tag_of}
+use Rattle.nofs_inode.specs.InodeRecords.{free_record}
+use Rattle.nofs_disk.specs.Pointer.{null}
+use Rattle.nofs_model.specs.Geometry.{Image, is_data_block, inode}
+use Rattle.nofs_disk.specs.Disk.{cell_at}
+use Rattle.nofs_ptrs.specs.Paths.{Path, slot_of}
+use Rattle.nofs_model.specs.Slots.{find, record_pointer, kind_in, tag_for}
+use Rattle.nofs_model.specs.Owners.{IsFree}
 use Rattle.nofs_model.specs.declared.image.path.PathAnswer.TheVariants as answer
 use Rattle.nofs_crashlaw.specs.Untouched.Frames.{Touches, SameNames, SameMeta}
 use Rattle.nofs_cases.specs.Disks.Images.{image_of}

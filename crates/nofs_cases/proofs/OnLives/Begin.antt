@@ -1,7 +1,11 @@
 -- The formatted disk, raised and upgraded.
 use Rattle.std.proofs.Common.{◌≡◌, ◌≢◌, ℕ, zero, suc, ◌+◌, ◌*◌, ◌^◌, refl, sym, ap, ◌∙◌, arith}
-use Rattle.nofs_model.specs.Cells.{SuperBlock, number_at}
-use Rattle.nofs_model.specs.Image.{cell_at, super_at, super_in, is_super, IsSound}
+use Rattle.nofs_super.specs.declared.superblock.SuperBlock.{SuperBlock}
+use Rattle.nofs_disk.specs.Number.{number_at}
+use Rattle.nofs_disk.specs.Disk.{cell_at}
+use Rattle.nofs_model.specs.Geometry.{super_at}
+use Rattle.nofs_super.specs.Super.{super_in, is_super}
+use Rattle.nofs_model.specs.Sound.{IsSound}
 use Rattle.nofs_crashlaw.specs.Lives.{OnlySuper, HasSuperCell}
 use Rattle.nofs_cases.specs.Disks.Images.{blank, first_table, first_image}
 use Rattle.nofs_cases.proofs.OnDisks.Images.{numbers-are, mountable, super-tag}

@@ -1,23 +1,30 @@
 -- A Put, a crash, and the next mount.
 use Rattle.std.proofs.Common.{◌≡◌, ◌≢◌, ℕ, zero, suc, ◌+◌, ◌/◌, ◌^◌, ◌<◌, inl, inr, Bool, true, false, cond, eqb, leb}
-use Rattle.std.proofs.Common.{◌&&◌, ◌||◌, [], ◌∷◌, Option, Some}
-use Rattle.std.proofs.Common.{None, is_some, refl, sym, ap, ◌∙◌, subst, arith}
+use Rattle.std.proofs.Common.{◌&&◌, ◌||◌, [], ◌∷◌, Option, Some, None, is_some, refl, sym, ap, ◌∙◌, subst, arith}
 use Rattle.nofs_disk.specs.Adds.{Adds}
-use Rattle.nofs_model.specs.Kinds.{File, Directory}
-use Rattle.nofs_model.specs.Cells.{Record, SuperBlock, number_at, is_null, is_live}
-use Rattle.nofs_model.specs.Image.{cell_at, super_at, super_in, inode, Path, InRecord, Under, path_of, record_pointer}
-use Rattle.nofs_model.specs.Image.{find, value, value_in, node_in}
-use Rattle.nofs_model.specs.Image.{Absent, is_special, Files, FileState, owner}
+use Rattle.nofs_inode.specs.declared.inode.FileKind.TheVariants.{File, Directory}
+use Rattle.nofs_inode.specs.declared.inode.Record.{Record}
+use Rattle.nofs_super.specs.declared.superblock.SuperBlock.{SuperBlock}
+use Rattle.nofs_disk.specs.Number.{number_at}
+use Rattle.nofs_disk.specs.Pointer.{is_null}
+use Rattle.nofs_inode.specs.InodeRecords.{is_live}
+use Rattle.nofs_disk.specs.Disk.{cell_at}
+use Rattle.nofs_model.specs.Geometry.{super_at, inode}
+use Rattle.nofs_super.specs.Super.{super_in}
+use Rattle.nofs_ptrs.specs.Paths.{Path, InRecord, Under, path_of}
+use Rattle.nofs_model.specs.Slots.{record_pointer, find, value, value_in}
+use Rattle.nofs_model.specs.Files.{node_in, Absent, is_special, Files, FileState}
+use Rattle.nofs_model.specs.Owners.{owner}
 use Rattle.nofs_model.specs.declared.image.path.PathAnswer.{PathAnswer}
 use Rattle.nofs_model.specs.declared.image.path.PathAnswer.TheVariants as answer
 use Rattle.nofs_model.specs.declared.image.value.Value.{Value}
 use Rattle.nofs_model.specs.declared.image.value.Value.TheVariants.{Hole, Bytes}
 use Rattle.nofs_model.proofs.OnSlots.Find.{judged-built-null}
 use Rattle.nofs_history.specs.Meta.{Is}
-use Rattle.nofs_history.specs.Marks.{Mark}
+use Rattle.nofs_history.specs.Marks.{Mark, mark_at}
 use Rattle.nofs_history.specs.Machine.{gives, given_by, put_given, files_by, file_after, filled, after_meta, is_at}
 use Rattle.nofs_history.specs.Machine.{meta_with}
-use Rattle.nofs_history.specs.History.{agreed_files, mark_at, is_generation}
+use Rattle.nofs_history.specs.Since.{agreed_files, is_generation}
 use Rattle.nofs_history.specs.Allowed.{IsAllowed}
 use Rattle.nofs_history.specs.Search.{count_below, first_of}
 use Rattle.nofs_history.specs.World.{World, world_of, uses_inode, uses_block}
@@ -38,8 +45,7 @@ use Rattle.nofs_cases.proofs.OnDisks.Images.{numbers-are}
 use Rattle.nofs_cases.proofs.OnDisks.Slots.{others-null, unowned}
 use Rattle.nofs_cases.proofs.OnDisks.Matches.{agreed-file, none-is, first-value}
 use Rattle.nofs_cases.proofs.OnSteps.Files.{first-inode, first-plain, first-free, first-root, first-label, put-inode}
-use Rattle.nofs_cases.proofs.OnSteps.Files.{put-plain, put-holds, put-claim}
-use Rattle.nofs_cases.proofs.OnSteps.Files.{no-pointer}
+use Rattle.nofs_cases.proofs.OnSteps.Files.{put-plain, put-holds, put-claim, no-pointer}
 use Rattle.nofs_cases.specs.Crashes.Put.{see_block_entry, still, put_state}
 use Rattle.nofs_cases.specs.Numbers.Verdicts.{mounted}
 use Rattle.nofs_cases.specs.Lives.Contents.{seen_block, put_seen, next_base, BytesCase}

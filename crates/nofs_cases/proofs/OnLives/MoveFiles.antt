@@ -1,21 +1,26 @@
 -- The disk with one name: its slots, and the machine's files on it.
 use Rattle.std.proofs.Common.{◌≡◌, ◌≢◌, ℕ, zero, suc, ◌+◌, ◌-◌, ◌*◌, ◌^◌, ◌<◌, ◌≤◌, inl, inr, true, false, eqb, ltb}
-use Rattle.std.proofs.Common.{lt-ltb}
-use Rattle.std.proofs.Common.{le-ltb, ◌++◌, Some, None, refl, sym, ap, ◌∙◌, subst, arith}
+use Rattle.std.proofs.Common.{lt-ltb, le-ltb, ◌++◌, Some, None, refl, sym, ap, ◌∙◌, subst, arith}
 use Rattle.std.proofs.lemmas.Bool.{cases_lt}
-use Rattle.nofs_model.specs.Kinds.{File, Directory as Folder}
+use Rattle.nofs_inode.specs.declared.inode.FileKind.TheVariants.{File, Directory as Folder}
 use Rattle.nofs_disk.specs.Disk.{IsSizedCell}
-use Rattle.nofs_model.specs.Cells.{FileKind, Pointer, Record, SuperBlock, null, slot_limit}
-use Rattle.nofs_model.specs.Image.{super_at, inode, InRecord, Under, child, path_of, slot_of, record_pointer, find}
-use Rattle.nofs_model.specs.Image.{value, value_in, node_in}
-use Rattle.nofs_model.specs.Image.{FileState, Files, files_in, agreed, IsBelow}
+use Rattle.nofs_inode.specs.declared.inode.FileKind.{FileKind}
+use Rattle.nofs_disk.specs.declared.tag.Pointer.{Pointer}
+use Rattle.nofs_inode.specs.declared.inode.Record.{Record}
+use Rattle.nofs_super.specs.declared.superblock.SuperBlock.{SuperBlock}
+use Rattle.nofs_disk.specs.Pointer.{null}
+use Rattle.nofs_ptrs.specs.Paths.{slot_limit, InRecord, Under, child, path_of, slot_of}
+use Rattle.nofs_model.specs.Geometry.{super_at, inode}
+use Rattle.nofs_model.specs.Slots.{record_pointer, find, value, value_in}
+use Rattle.nofs_model.specs.Files.{node_in, FileState, Files, files_in, agreed}
+use Rattle.nofs_model.specs.Sound.{IsBelow}
 use Rattle.nofs_model.specs.declared.image.path.PathAnswer.{PathAnswer}
 use Rattle.nofs_model.specs.declared.image.path.PathAnswer.TheVariants as answer
 use Rattle.nofs_model.specs.declared.image.value.Value.{Value}
 use Rattle.nofs_model.specs.declared.image.value.Value.TheVariants.{Hole, Bytes}
 use Rattle.nofs_model.proofs.OnSlots.Find.{judged-built-null}
-use Rattle.nofs_model.proofs.OnSlots.Paths.{path_of-slot, slot_of-path_of}
-use Rattle.nofs_history.specs.History.{agreed_files}
+use Rattle.nofs_ptrs.specs.PathLaws.{path_of-slot, slot_of-path_of}
+use Rattle.nofs_history.specs.Since.{agreed_files}
 use Rattle.nofs_crashlaw.specs.Runs.Bases.{IsBase}
 use Rattle.nofs_crashlaw.specs.Machine.Worlds.{first_slot}
 use Rattle.nofs_cases.specs.Disks.Images.{z, blank}

@@ -1,11 +1,15 @@
 -- A durable move on the disk with one name is a run of the machine.
 use Rattle.std.proofs.Common.{◌≡◌, ℕ, ◌+◌, ◌/◌, ◌^◌, ◌<◌, ◌≤◌, Bool, true, false, leb, ltb}
 use Rattle.std.proofs.Common.{List, [], ◌∷◌, ◌++◌, Option, None, refl, sym, ap, ◌∙◌, subst, arith}
-use Rattle.nofs_model.specs.Kinds.{File, Directory as Folder}
-use Rattle.nofs_disk.specs.Number.{put_number, put_bytes, zeros}
-use Rattle.nofs_model.specs.Cells.{number_at, entry_of, entry_fields, spelled_entry, null, is_name}
-use Rattle.nofs_model.specs.Image.{inode, path_of}
-use Rattle.nofs_model.specs.Image.{Files, owner, Home, is_pair, is_special}
+use Rattle.nofs_inode.specs.declared.inode.FileKind.TheVariants.{File, Directory as Folder}
+use Rattle.nofs_disk.specs.Number.{put_number, put_bytes, zeros, number_at}
+use Rattle.nofs_dirent.specs.Entries.{entry_of, entry_fields, spelled_entry}
+use Rattle.nofs_disk.specs.Pointer.{null}
+use Rattle.nofs_dirent.specs.Names.{is_name}
+use Rattle.nofs_model.specs.Geometry.{inode}
+use Rattle.nofs_ptrs.specs.Paths.{path_of}
+use Rattle.nofs_model.specs.Files.{Files, is_pair, is_special}
+use Rattle.nofs_model.specs.Owners.{owner, Home}
 use Rattle.nofs_model.specs.declared.image.path.PathAnswer.TheVariants as answer
 use Rattle.nofs_model.specs.declared.image.value.Value.TheVariants.{Hole, Bytes}
 use Rattle.nofs_history.specs.Search.{first_of, least_from}
@@ -35,8 +39,7 @@ use Rattle.nofs_cases.proofs.OnDisks.Images.{root_record, numbers-are}
 use Rattle.nofs_cases.specs.Names.Disks.{short_entry_bytes, root_block, name_table, name_image, one_link}
 use Rattle.nofs_cases.proofs.OnNames.Roots.{file_record}
 use Rattle.nofs_cases.specs.Lives.Moves.{look_entry, first_flush, link_entry, second_flush, drop_entry, move_entries}
-use Rattle.nofs_cases.specs.Lives.Moves.{move_history, DirectoryCase}
-use Rattle.nofs_cases.specs.Lives.Moves.{PairCase, MoveCase}
+use Rattle.nofs_cases.specs.Lives.Moves.{move_history, DirectoryCase, PairCase, MoveCase}
 use Rattle.nofs_cases.proofs.OnLives.MoveFiles.{name-base, file_here, move_files, each-file, files-are}
 
 -- Its worlds

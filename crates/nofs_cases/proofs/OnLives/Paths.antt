@@ -1,14 +1,19 @@
 -- The root of the formatted disk, and a disk with one name.
 use Rattle.std.proofs.Common.{Option, ◌≡◌, ◌^◌, ℕ, Bool, true, false, cond, eqb, List, [], ◌∷◌, ◌++◌, Some, is_some}
 use Rattle.std.proofs.Common.{refl, sym, ap, ◌∙◌, subst, arith, Contains}
-use Rattle.nofs_model.specs.Kinds.{File, Directory}
-use Rattle.nofs_model.specs.Cells.{Record, Entry, null, is_live}
-use Rattle.nofs_model.specs.Image.{Image, inode, files_in, agreed, value, names, FileState}
+use Rattle.nofs_inode.specs.declared.inode.FileKind.TheVariants.{File, Directory}
+use Rattle.nofs_inode.specs.declared.inode.Record.{Record}
+use Rattle.nofs_dirent.specs.declared.entry.Entry.{Entry}
+use Rattle.nofs_disk.specs.Pointer.{null}
+use Rattle.nofs_inode.specs.InodeRecords.{is_live}
+use Rattle.nofs_model.specs.Geometry.{Image, inode}
+use Rattle.nofs_model.specs.Files.{files_in, agreed, names, FileState}
+use Rattle.nofs_model.specs.Slots.{value}
 use Rattle.nofs_model.specs.declared.image.value.Value.{Value}
 use Rattle.nofs_model.specs.declared.image.value.Value.TheVariants.{Bytes}
 use Rattle.nofs_history.specs.Meta.{Meta, Is, meta_of}
 use Rattle.nofs_history.specs.Machine.{link_to}
-use Rattle.nofs_history.specs.History.{agreed_files, since, since_meta, stands, is_generation, last_in}
+use Rattle.nofs_history.specs.Since.{agreed_files, since, since_meta, stands, is_generation, last_in}
 use Rattle.nofs_history.specs.Allowed.{IsAllowed, IsFolderMeta, SureLink, meta_link}
 use Rattle.nofs_crashlaw.proofs.OnMaps.Fresh.{sole-is}
 use Rattle.nofs_crashlaw.proofs.OnUntouched.Matches.{gen-of}

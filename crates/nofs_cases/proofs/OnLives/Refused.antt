@@ -1,21 +1,26 @@
 -- A slot with the bytes of another file is refused.
 use Rattle.std.proofs.Common.{◌≡◌, ℕ, ◌+◌, ◌^◌, inl, inr, List, [], ◌∷◌, ◌++◌, Some, refl, sym, ap, ◌∙◌, subst, arith}
 use Rattle.std.proofs.Common.{Contains}
-use Rattle.nofs_model.specs.Cells.{Content, Record, tag_of, number_at, null, is_live, record_of, record_at, fields_in}
-use Rattle.nofs_model.specs.Cells.{link_in, pointer_in}
-use Rattle.nofs_model.specs.Image.{inode, InRecord, tag_for, find, value}
+use Rattle.nofs_disk.specs.declared.tag.Kind.TheVariants.{Content}
+use Rattle.nofs_inode.specs.declared.inode.Record.{Record}
+use Rattle.nofs_disk.specs.Tag.{tag_of}
+use Rattle.nofs_disk.specs.Number.{number_at}
+use Rattle.nofs_disk.specs.Pointer.{null, pointer_in}
+use Rattle.nofs_inode.specs.InodeRecords.{is_live, record_of, record_at, fields_in, link_in}
+use Rattle.nofs_model.specs.Geometry.{inode}
+use Rattle.nofs_ptrs.specs.Paths.{InRecord}
+use Rattle.nofs_model.specs.Slots.{tag_for, find, value}
 use Rattle.nofs_model.specs.declared.image.path.PathAnswer.TheVariants as answer
 use Rattle.nofs_model.specs.declared.image.value.Value.{Value}
 use Rattle.nofs_model.specs.declared.image.value.Value.TheVariants.{Hole, Bytes, Lost}
 use Rattle.nofs_history.specs.Meta.{MayRead}
-use Rattle.nofs_history.specs.History.{since}
+use Rattle.nofs_history.specs.Since.{since}
 use Rattle.nofs_history.specs.Allowed.{IsAllowed}
 use Rattle.nofs_crashlaw.proofs.OnMaps.Fresh.{sole-is}
 use Rattle.nofs_crashlaw.proofs.OnHistories.Unflushed.{law-unflushed}
 use Rattle.nofs_cases.specs.Disks.Images.{z}
 use Rattle.nofs_cases.specs.Disks.Worlds.{block_two}
-use Rattle.nofs_cases.proofs.OnDisks.Images.{nth, root_record, label_record, HasRecords, inode-is, data-two}
-use Rattle.nofs_cases.proofs.OnDisks.Images.{data-three}
+use Rattle.nofs_cases.proofs.OnDisks.Images.{nth, root_record, label_record, HasRecords, inode-is, data-two, data-three}
 use Rattle.nofs_cases.proofs.OnDisks.Slots.{ArePlain, pick, plain-image}
 use Rattle.nofs_cases.proofs.OnDisks.Matches.{first-tag, first-holds, first-value}
 use Rattle.nofs_cases.specs.Names.Disks.{short_entry_bytes, root_block, one_link}

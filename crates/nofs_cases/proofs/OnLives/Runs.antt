@@ -2,12 +2,15 @@
 use Rattle.std.proofs.Common.{◌≡◌, ℕ, zero, suc, ◌<◌, ◌≤◌, inl, inr, Bool, true, false, cond, leb, ◌&&◌, [], ◌∷◌, refl}
 use Rattle.std.proofs.Common.{sym, ap, ◌∙◌, subst, arith}
 use Rattle.std.proofs.lemmas.Bool.{cases_lt}
-use Rattle.nofs_model.specs.Cells.{Record, free_record, null, is_null, number_at, record_of, record_at, fields_in}
-use Rattle.nofs_model.specs.Cells.{link_in, pointer_in}
-use Rattle.nofs_model.specs.Image.{Image, is_mountable, super_in, is_super, is_geometry, super_at, inode, is_inode}
-use Rattle.nofs_model.specs.Image.{record_pointer}
-use Rattle.nofs_super.specs.Geometry.{format_fault}
-use Rattle.nofs_history.specs.History.{mark, is_flushed}
+use Rattle.nofs_inode.specs.declared.inode.Record.{Record}
+use Rattle.nofs_inode.specs.InodeRecords.{free_record, record_of, record_at, fields_in, link_in}
+use Rattle.nofs_disk.specs.Pointer.{null, is_null, pointer_in}
+use Rattle.nofs_disk.specs.Number.{number_at}
+use Rattle.nofs_model.specs.Geometry.{Image, is_mountable, super_at, inode, is_inode}
+use Rattle.nofs_super.specs.Super.{super_in, is_super}
+use Rattle.nofs_super.specs.Geometry.{is_geometry, format_fault}
+use Rattle.nofs_model.specs.Slots.{record_pointer}
+use Rattle.nofs_history.specs.Since.{mark, is_flushed}
 use Rattle.nofs_history.specs.World.{World, world_of}
 use Rattle.nofs_history.specs.Next.{Next, AfterFault, ByRow, Done, ByRead, ByWrite}
 use Rattle.nofs_history.specs.declared.machine.history.Entry1.{Entry1}

@@ -3,7 +3,7 @@ use Rattle.std.proofs.Math.Logic.{∥∥₁_map}
 use Rattle.std.proofs.Common.{◌≡◌, ℕ, inl, refl, sym, ap, ◌∙◌, subst, arith}
 use Rattle.std.specs.Prelude.{codes}
 use Rattle.nofs_disk.specs.Disk.{IsDisk, IsSettled}
-use Rattle.nofs_model.specs.Image.{Image}
+use Rattle.nofs_model.specs.Geometry.{Image}
 use Rattle.nofs_versions.specs.Laws.{state_of-is}
 use Rattle.nofs_memdisk.specs.Parts.{Parts, fresh_parts, memory_state, parts_of}
 use Rattle.nofs_memdisk.specs.declared.memory.MemDisk.{MemDisk}

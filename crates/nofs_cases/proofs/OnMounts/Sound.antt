@@ -3,7 +3,7 @@ use Rattle.std.proofs.Common.{◌≡◌, ◌<◌, List, IsTrue, length, sym, ◌
 use Rattle.std.proofs.lemmas.List.{ext_get_or}
 use Rattle.nofs_disk.specs.declared.tag.Cell.{Cell}
 use Rattle.nofs_disk.specs.Disk.{DiskState, IsDisk, IsSettled, Picks, cell_at, no_cell}
-use Rattle.nofs_model.specs.Image.{Image}
+use Rattle.nofs_model.specs.Geometry.{Image}
 use Rattle.nofs_model.specs.Sound.{IsSound}
 use Rattle.nofs_shared.specs.Mount.Invariant.{IsSoundDisk}
 use Rattle.nofs_cases.specs.Mounts.Open.{LeavesSound}

@@ -1,18 +1,24 @@
 -- A Make with a claimed block and a claimed leaf.
 use Rattle.std.proofs.Common.{◌≡◌, ◌≢◌, ℕ, ◌+◌, ◌^◌, ◌++◌, Some, refl, sym, ap, ◌∙◌, arith}
-use Rattle.nofs_disk.specs.Number.{put_number, put_bytes, zeros}
-use Rattle.nofs_model.specs.Cells.{Directory, Leaf, Record, tag_of, number_at, null, pointer_at, pointer_in, record_of}
-use Rattle.nofs_model.specs.Cells.{record_at, fields_in, link_in}
-use Rattle.nofs_model.specs.Cells.{spelled_entry, free_record}
-use Rattle.nofs_model.specs.Image.{cell_at, inode, Under, leaf, path_of, slot_of, tag_for, record_pointer}
+use Rattle.nofs_disk.specs.Number.{put_number, put_bytes, zeros, number_at}
+use Rattle.nofs_disk.specs.declared.tag.Kind.TheVariants.{Directory, Leaf}
+use Rattle.nofs_inode.specs.declared.inode.Record.{Record}
+use Rattle.nofs_disk.specs.Tag.{tag_of}
+use Rattle.nofs_disk.specs.Pointer.{null, pointer_in}
+use Rattle.nofs_ptrs.specs.Cells.{pointer_at}
+use Rattle.nofs_inode.specs.InodeRecords.{record_of, record_at, fields_in, link_in, free_record}
+use Rattle.nofs_dirent.specs.Entries.{spelled_entry}
+use Rattle.nofs_disk.specs.Disk.{cell_at}
+use Rattle.nofs_model.specs.Geometry.{inode}
+use Rattle.nofs_ptrs.specs.Paths.{Under, leaf, path_of, slot_of}
+use Rattle.nofs_model.specs.Slots.{tag_for, record_pointer}
 use Rattle.nofs_model.specs.declared.image.value.Value.TheVariants.{Hole, Bytes}
 use Rattle.nofs_history.specs.Machine.{with_entry}
 use Rattle.nofs_crashlaw.specs.Names.NewEntries.{HoleWithLeaf, WithLeaf, first_links}
 use Rattle.nofs_crashlaw.specs.Machine.Examples.{a}
 use Rattle.nofs_cases.specs.Disks.Images.{z, blank, first_table, first_image}
 use Rattle.nofs_cases.specs.Disks.Worlds.{first_files, block_two}
-use Rattle.nofs_cases.proofs.OnDisks.Images.{nth, root_record, label_record, HasRecords, inode-is, data-two}
-use Rattle.nofs_cases.proofs.OnDisks.Images.{data-three}
+use Rattle.nofs_cases.proofs.OnDisks.Images.{nth, root_record, label_record, HasRecords, inode-is, data-two, data-three}
 use Rattle.nofs_cases.proofs.OnDisks.Steps.{each-block, tag-is, but-one-and-three, but-leaf, same-meta}
 use Rattle.nofs_cases.proofs.OnDisks.Leaves.{other-pointer}
 use Rattle.nofs_cases.proofs.OnSteps.Files.{first-inode, first-empty, first-free}

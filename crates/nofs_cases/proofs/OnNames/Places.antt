@@ -1,14 +1,22 @@
 -- A Make in the block that the directory has, and a Link for which it gets a second block.
 use Rattle.std.proofs.Common.{◌≡◌, ◌≢◌, ℕ, zero, suc, ◌+◌, ◌^◌, ◌<◌, inl, inr, true, false, [], ◌∷◌, ◌++◌, Option, Some}
-use Rattle.std.proofs.Common.{None, IfSome}
-use Rattle.std.proofs.Common.{refl, sym, ap, subst, arith}
-use Rattle.nofs_disk.specs.Number.{put_number, put_bytes, zeros}
-use Rattle.nofs_model.specs.Kinds.{File, Directory as Folder}
-use Rattle.nofs_model.specs.Cells.{Directory, Entry, Record, tag_of, null, free_record, number_at, Spells, is_name}
-use Rattle.nofs_model.specs.Cells.{entry_in, entry_of, entry_fields}
-use Rattle.nofs_model.specs.Cells.{spelled_entry, record_of, record_at, fields_in, link_in, pointer_in}
-use Rattle.nofs_model.specs.Image.{cell_at, inode, Path, InRecord, path_of, slot_of, tag_for, find, record_pointer}
-use Rattle.nofs_model.specs.Image.{IsFree}
+use Rattle.std.proofs.Common.{None, IfSome, refl, sym, ap, subst, arith}
+use Rattle.nofs_disk.specs.Number.{put_number, put_bytes, zeros, number_at}
+use Rattle.nofs_inode.specs.declared.inode.FileKind.TheVariants.{File, Directory as Folder}
+use Rattle.nofs_disk.specs.declared.tag.Kind.TheVariants.{Directory}
+use Rattle.nofs_dirent.specs.declared.entry.Entry.{Entry}
+use Rattle.nofs_inode.specs.declared.inode.Record.{Record}
+use Rattle.nofs_disk.specs.Tag.{tag_of}
+use Rattle.nofs_disk.specs.Pointer.{null, pointer_in}
+use Rattle.nofs_inode.specs.InodeRecords.{free_record, record_of, record_at, fields_in, link_in}
+use Rattle.nofs_dirent.specs.EntryLaws.{Spells}
+use Rattle.nofs_dirent.specs.Names.{is_name}
+use Rattle.nofs_dirent.specs.Entries.{entry_in, entry_of, entry_fields, spelled_entry}
+use Rattle.nofs_disk.specs.Disk.{cell_at}
+use Rattle.nofs_model.specs.Geometry.{inode}
+use Rattle.nofs_ptrs.specs.Paths.{Path, InRecord, path_of, slot_of}
+use Rattle.nofs_model.specs.Slots.{tag_for, find, record_pointer}
+use Rattle.nofs_model.specs.Owners.{IsFree}
 use Rattle.nofs_model.specs.declared.image.path.PathAnswer.TheVariants as answer
 use Rattle.nofs_model.specs.declared.image.value.Value.TheVariants.{Hole, Bytes}
 use Rattle.nofs_history.specs.Search.{least_from}
@@ -31,16 +39,14 @@ use Rattle.nofs_cases.proofs.OnDisks.Below.{record-low, no-links-low, free-low}
 use Rattle.nofs_cases.specs.Names.Disks.{short_entry_bytes, root_block, name_table, drop_table, drop_image, one_link}
 use Rattle.nofs_cases.specs.Names.Steps.{entry_named}
 use Rattle.nofs_cases.proofs.OnNames.Roots.{file_record, name-records, drop-records, root-inode, root-plain}
-use Rattle.nofs_cases.proofs.OnNames.Roots.{root-holds, one-agreed, two-agreed, root-old}
-use Rattle.nofs_cases.proofs.OnNames.Roots.{root-match}
+use Rattle.nofs_cases.proofs.OnNames.Roots.{root-holds, one-agreed, two-agreed, root-old, root-match}
 use Rattle.nofs_cases.proofs.OnDisks.Entries.{is_low, entries-low, no-entries}
 use Rattle.nofs_cases.proofs.OnNames.RootSteps.{in-place, hole-in-record, make-lies, link-lies}
 use Rattle.nofs_cases.proofs.OnNames.Steps.{spells-b, drop-inode}
 use Rattle.nofs_cases.specs.Names.Places.{drop_files, drop_world, again_claims, again_bytes, again_table, again_image}
 use Rattle.nofs_cases.specs.Names.Places.{MakeInPlaceCase, full_cell}
 use Rattle.nofs_cases.specs.Names.Places.{full_image, full_files, full_world, third_block, hole_claims, hole_table}
-use Rattle.nofs_cases.specs.Names.Places.{second_block, hole_image, far_links}
-use Rattle.nofs_cases.specs.Names.Places.{LinkInHoleCase}
+use Rattle.nofs_cases.specs.Names.Places.{second_block, hole_image, far_links, LinkInHoleCase}
 use Rattle.nofs_cases.proofs.OnNumbers.Homes.{name-low, disk-below}
 
 -- Make in place

@@ -1,10 +1,19 @@
 -- What the steps on names leave of a disk whose root has one block of entries, or gets its first.
 use Rattle.std.proofs.Common.{◌≡◌, ◌≢◌, ℕ, ◌/◌, ◌^◌, ◌<◌, true, false, List, Some, None, length, refl, sym, ap, ◌∙◌}
 use Rattle.std.proofs.Common.{arith}
-use Rattle.nofs_model.specs.Kinds.{File}
-use Rattle.nofs_model.specs.Cells.{Cell, BackLink, Pointer, Record, spelled_entry, null, is_null, entry_limit, Spells}
-use Rattle.nofs_model.specs.Image.{Image, cell_at, is_data_block, inode, InRecord, path_of, find, record_pointer, Files}
-use Rattle.nofs_model.specs.Image.{entry_at}
+use Rattle.nofs_inode.specs.declared.inode.FileKind.TheVariants.{File}
+use Rattle.nofs_disk.specs.declared.tag.Cell.{Cell}
+use Rattle.nofs_inode.specs.declared.inode.BackLink.{BackLink}
+use Rattle.nofs_disk.specs.declared.tag.Pointer.{Pointer}
+use Rattle.nofs_inode.specs.declared.inode.Record.{Record}
+use Rattle.nofs_dirent.specs.Entries.{spelled_entry, entry_limit}
+use Rattle.nofs_disk.specs.Pointer.{null, is_null}
+use Rattle.nofs_dirent.specs.EntryLaws.{Spells}
+use Rattle.nofs_model.specs.Geometry.{Image, is_data_block, inode}
+use Rattle.nofs_disk.specs.Disk.{cell_at}
+use Rattle.nofs_ptrs.specs.Paths.{InRecord, path_of}
+use Rattle.nofs_model.specs.Slots.{find, record_pointer}
+use Rattle.nofs_model.specs.Files.{Files, entry_at}
 use Rattle.nofs_model.specs.declared.image.value.Value.{Value}
 use Rattle.nofs_model.specs.declared.image.value.Value.TheVariants.{Bytes}
 use Rattle.nofs_history.specs.Machine.{zero_bytes, with_entry, is_paired, link_to, set_link}

@@ -1,11 +1,21 @@
 -- Disks on which the root has one block of entries.
 use Rattle.std.proofs.Common.{◌≡◌, ℕ, suc, ◌+◌, ◌^◌, ◌<◌, true, List, ◌++◌, Some, refl, sym, ap, ◌∙◌, subst, arith}
 use Rattle.std.proofs.Common.{Contains}
-use Rattle.nofs_model.specs.Kinds.{File, Directory as Folder}
-use Rattle.nofs_model.specs.Cells.{is_name, Cell, Directory, BackLink, Record, tag_of, number_at, null, is_live}
-use Rattle.nofs_model.specs.Cells.{free_record, record_of, record_at}
-use Rattle.nofs_model.specs.Cells.{fields_in, link_in, pointer_in, entry_in, entry_of, entry_fields}
-use Rattle.nofs_model.specs.Image.{inode, InRecord, path_of, tag_for, find, files_in, agreed}
+use Rattle.nofs_inode.specs.declared.inode.FileKind.TheVariants.{File, Directory as Folder}
+use Rattle.nofs_dirent.specs.Names.{is_name}
+use Rattle.nofs_disk.specs.declared.tag.Cell.{Cell}
+use Rattle.nofs_disk.specs.declared.tag.Kind.TheVariants.{Directory}
+use Rattle.nofs_inode.specs.declared.inode.BackLink.{BackLink}
+use Rattle.nofs_inode.specs.declared.inode.Record.{Record}
+use Rattle.nofs_disk.specs.Tag.{tag_of}
+use Rattle.nofs_disk.specs.Number.{number_at}
+use Rattle.nofs_disk.specs.Pointer.{null, pointer_in}
+use Rattle.nofs_inode.specs.InodeRecords.{is_live, free_record, record_of, record_at, fields_in, link_in}
+use Rattle.nofs_dirent.specs.Entries.{entry_in, entry_of, entry_fields}
+use Rattle.nofs_model.specs.Geometry.{inode}
+use Rattle.nofs_ptrs.specs.Paths.{InRecord, path_of}
+use Rattle.nofs_model.specs.Slots.{tag_for, find}
+use Rattle.nofs_model.specs.Files.{files_in, agreed}
 use Rattle.nofs_model.specs.declared.image.path.PathAnswer.TheVariants as answer
 use Rattle.nofs_model.specs.declared.image.value.Value.TheVariants.{Hole, Bytes}
 use Rattle.nofs_model.specs.Definitions.{IsPair, IsEntry, named, the_root}

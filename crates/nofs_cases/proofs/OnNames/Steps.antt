@@ -1,11 +1,23 @@
 -- Steps on names on a disk with one name.
 use Rattle.std.proofs.Common.{◌≡◌, ◌≢◌, ℕ, zero, suc, ◌+◌, ◌^◌, ◌≤◌, ◌⊎◌, inl, inr, false, ◌++◌, Option, Some, IfSome}
 use Rattle.std.proofs.Common.{refl, sym, ap, ◌∙◌, subst, arith}
-use Rattle.nofs_disk.specs.Number.{put_number, put_bytes, zeros}
-use Rattle.nofs_model.specs.Cells.{Entry, Tag, Pointer, Record, tag_of, null, number_at, entry_of, entry_fields}
-use Rattle.nofs_model.specs.Cells.{spelled_entry, free_record, Spells}
-use Rattle.nofs_model.specs.Cells.{is_name}
-use Rattle.nofs_model.specs.Image.{cell_at, inode, Path, InRecord, path_of, find, record_pointer, agreed, IsFree}
+use Rattle.nofs_disk.specs.Number.{put_number, put_bytes, zeros, number_at}
+use Rattle.nofs_dirent.specs.declared.entry.Entry.{Entry}
+use Rattle.nofs_disk.specs.declared.tag.Tag.{Tag}
+use Rattle.nofs_disk.specs.declared.tag.Pointer.{Pointer}
+use Rattle.nofs_inode.specs.declared.inode.Record.{Record}
+use Rattle.nofs_disk.specs.Tag.{tag_of}
+use Rattle.nofs_disk.specs.Pointer.{null}
+use Rattle.nofs_dirent.specs.Entries.{entry_of, entry_fields, spelled_entry}
+use Rattle.nofs_inode.specs.InodeRecords.{free_record}
+use Rattle.nofs_dirent.specs.EntryLaws.{Spells}
+use Rattle.nofs_dirent.specs.Names.{is_name}
+use Rattle.nofs_disk.specs.Disk.{cell_at}
+use Rattle.nofs_model.specs.Geometry.{inode}
+use Rattle.nofs_ptrs.specs.Paths.{Path, InRecord, path_of}
+use Rattle.nofs_model.specs.Slots.{find, record_pointer}
+use Rattle.nofs_model.specs.Files.{agreed}
+use Rattle.nofs_model.specs.Owners.{IsFree}
 use Rattle.nofs_model.specs.declared.image.path.PathAnswer.TheVariants as answer
 use Rattle.nofs_model.specs.declared.image.value.Value.TheVariants.{Hole, Bytes}
 use Rattle.nofs_history.specs.Machine.{with_entry, is_paired}
@@ -23,8 +35,7 @@ use Rattle.nofs_cases.specs.Names.Disks.{short_entry_bytes, root_block, name_tab
 use Rattle.nofs_cases.specs.Names.Disks.{link_table, link_image, drop_table}
 use Rattle.nofs_cases.specs.Names.Disks.{drop_image, one_link, two_links, name_files, link_files}
 use Rattle.nofs_cases.specs.Names.Steps.{entry_named, make_claims, MakeCase, BareCase, RenameCase, EntriesCase}
-use Rattle.nofs_cases.specs.Names.Steps.{NameHomesCase, LinkCase}
-use Rattle.nofs_cases.specs.Names.Steps.{DropNameCase, DropFileCase}
+use Rattle.nofs_cases.specs.Names.Steps.{NameHomesCase, LinkCase, DropNameCase, DropFileCase}
 use Rattle.nofs_cases.proofs.OnDisks.Images.{nth, root_record, label_record, first-records, data-two}
 use Rattle.nofs_cases.proofs.OnDisks.Slots.{empty, held-is}
 use Rattle.nofs_cases.proofs.OnDisks.Steps.{each-block}

@@ -1,10 +1,17 @@
 -- The numbers in the cells that a Put, a Make, a Link and a Drop write.
 use Rattle.std.proofs.Common.{◌≡◌, ℕ, zero, suc, ◌+◌, ◌-◌, ◌%◌, ◌^◌, ◌<◌, ◌≤◌, inl, true, List, [], ◌∷◌, ◌++◌, Option}
-use Rattle.std.proofs.Common.{Some, IfSome}
-use Rattle.std.proofs.Common.{Contains, refl, sym, ap, ◌∙◌, subst, arith}
-use Rattle.nofs_model.specs.Cells.{Cell, Entry, Pointer, BackLink, Record, record_at, tag_of, null, is_live}
-use Rattle.nofs_model.specs.Cells.{free_record}
-use Rattle.nofs_model.specs.Image.{Image, inode, InRecord, is_inode, tag_for, kind_in, pointer, record_pointer}
+use Rattle.std.proofs.Common.{Some, IfSome, Contains, refl, sym, ap, ◌∙◌, subst, arith}
+use Rattle.nofs_disk.specs.declared.tag.Cell.{Cell}
+use Rattle.nofs_dirent.specs.declared.entry.Entry.{Entry}
+use Rattle.nofs_disk.specs.declared.tag.Pointer.{Pointer}
+use Rattle.nofs_inode.specs.declared.inode.BackLink.{BackLink}
+use Rattle.nofs_inode.specs.declared.inode.Record.{Record}
+use Rattle.nofs_inode.specs.InodeRecords.{record_at, is_live, free_record}
+use Rattle.nofs_disk.specs.Tag.{tag_of}
+use Rattle.nofs_disk.specs.Pointer.{null}
+use Rattle.nofs_model.specs.Geometry.{Image, inode, is_inode}
+use Rattle.nofs_ptrs.specs.Paths.{InRecord}
+use Rattle.nofs_model.specs.Slots.{tag_for, kind_in, pointer, record_pointer}
 use Rattle.nofs_history.specs.World.{World}
 use Rattle.nofs_history.specs.Claims.{no_claims}
 use Rattle.nofs_history.specs.declared.machine.history.Claims.{Claims}
@@ -23,8 +30,7 @@ use Rattle.nofs_cases.specs.Names.Disks.{short_entry_bytes, root_block, name_tab
 use Rattle.nofs_cases.specs.Names.Disks.{drop_table, one_link}
 use Rattle.nofs_cases.specs.Names.Steps.{make_claims}
 use Rattle.nofs_cases.proofs.OnNames.Roots.{file_record, name-records, drop-records, root-tag}
-use Rattle.nofs_cases.proofs.OnNames.Steps.{spells-a, spells-b, written-a, linked, name-inode, name-holds}
-use Rattle.nofs_cases.proofs.OnNames.Steps.{entries-case}
+use Rattle.nofs_cases.proofs.OnNames.Steps.{spells-a, spells-b, written-a, linked, name-inode, name-holds, entries-case}
 use Rattle.nofs_cases.specs.Numbers.Cells.{ContentCellCase, EntryInHoleCase, EntryInPlaceCase, TableChangedCase}
 use Rattle.nofs_cases.specs.Numbers.Cells.{TableMadeCase, TableFreedCase}
 use Rattle.nofs_cases.proofs.OnNumbers.Homes.{first-numbers, name-numbers}

@@ -1,11 +1,19 @@
 -- Homes after steps on names, and the numbers before them and before a Put.
 use Rattle.std.proofs.Common.{◌≡◌, ℕ, ◌+◌, ◌^◌, ◌<◌, ◌++◌, Option, Some, IfSome, All, List, true, get_or, refl, sym, ap}
 use Rattle.std.proofs.Common.{subst, arith}
-use Rattle.nofs_model.specs.Kinds.{File}
-use Rattle.nofs_model.specs.Cells.{Cell, Record, Directory, Leaf, Tag, SuperBlock, number_at, pointer_at, entry_in}
-use Rattle.nofs_model.specs.Cells.{entry_of, entry_fields, null}
-use Rattle.nofs_model.specs.Cells.{is_name}
-use Rattle.nofs_model.specs.Image.{path_of, TagBelow, IsBelow}
+use Rattle.nofs_inode.specs.declared.inode.FileKind.TheVariants.{File}
+use Rattle.nofs_disk.specs.declared.tag.Cell.{Cell}
+use Rattle.nofs_inode.specs.declared.inode.Record.{Record}
+use Rattle.nofs_disk.specs.declared.tag.Kind.TheVariants.{Directory, Leaf}
+use Rattle.nofs_disk.specs.declared.tag.Tag.{Tag}
+use Rattle.nofs_super.specs.declared.superblock.SuperBlock.{SuperBlock}
+use Rattle.nofs_disk.specs.Number.{number_at}
+use Rattle.nofs_ptrs.specs.Cells.{pointer_at}
+use Rattle.nofs_dirent.specs.Entries.{entry_in, entry_of, entry_fields}
+use Rattle.nofs_disk.specs.Pointer.{null}
+use Rattle.nofs_dirent.specs.Names.{is_name}
+use Rattle.nofs_ptrs.specs.Paths.{path_of}
+use Rattle.nofs_model.specs.Sound.{TagBelow, IsBelow}
 use Rattle.nofs_history.specs.Search.{least_from}
 use Rattle.nofs_history.specs.Machine.{first_dead, place_for}
 use Rattle.nofs_history.specs.Claims.{IsClaim, ClaimedInode, NoInode, Claimed, Unclaimed, no_claims}

@@ -1,6 +1,6 @@
 -- A Get that is refused.
 use Rattle.std.proofs.Common.{inl, inr, eqb, refl}
-use Rattle.nofs_model.specs.Image.{is_special}
+use Rattle.nofs_model.specs.Files.{is_special}
 use Rattle.nofs_history.specs.Next.{Keeps, ByRow}
 use Rattle.nofs_history.specs.declared.machine.replies.Refusal.TheVariants as refusal
 use Rattle.nofs_crashlaw.proofs.OnMaps.Homes.{law-good}

@@ -1,7 +1,7 @@
 -- A look at inode 3 of the formatted disk.
 use Rattle.std.proofs.Common.{◌≡◌, ℕ, ◌⊎◌, inl, inr, Bool, true, false, not, ◌||◌, eqb, [], ◌∷◌, is_some, refl, sym, ap}
 use Rattle.std.proofs.Common.{subst, arith}
-use Rattle.nofs_model.specs.Image.{is_special, Files}
+use Rattle.nofs_model.specs.Files.{is_special, Files}
 use Rattle.nofs_history.specs.Machine.{gives}
 use Rattle.nofs_history.specs.History.{FilesMatch}
 use Rattle.nofs_history.specs.World.{World, uses_inode, uses_block}

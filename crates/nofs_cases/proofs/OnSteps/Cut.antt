@@ -1,7 +1,10 @@
 -- A Resize to the size 0.
 use Rattle.std.proofs.Common.{◌∷◌, ℕ, ◌+◌, ◌^◌, ◌<◌, refl, ap, arith}
-use Rattle.nofs_model.specs.Cells.{SuperBlock, free_record, null}
-use Rattle.nofs_model.specs.Image.{cell_at, CellBelow, IsBelow}
+use Rattle.nofs_super.specs.declared.superblock.SuperBlock.{SuperBlock}
+use Rattle.nofs_inode.specs.InodeRecords.{free_record}
+use Rattle.nofs_disk.specs.Pointer.{null}
+use Rattle.nofs_disk.specs.Disk.{cell_at}
+use Rattle.nofs_model.specs.Sound.{CellBelow, IsBelow}
 use Rattle.nofs_history.specs.Claims.{NoInode, Unclaimed}
 use Rattle.nofs_model.specs.declared.image.value.Value.TheVariants.{Bytes}
 use Rattle.nofs_cases.specs.Disks.Images.{z, blank, first_table, put_table, put_block, put_image}

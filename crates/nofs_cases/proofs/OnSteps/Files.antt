@@ -1,13 +1,20 @@
 -- A Put with a claimed block, one in place, and a Resize.
 use Rattle.std.proofs.Common.{max, ◌≡◌, ◌≢◌, ℕ, zero, suc, ◌+◌, ◌^◌, ◌<◌, inl, inr, true, false, eqb, [], ◌∷◌, Some}
-use Rattle.std.proofs.Common.{None, refl, sym, ap, ap₂, ◌∙◌, subst}
-use Rattle.std.proofs.Common.{arith, le-leb}
+use Rattle.std.proofs.Common.{None, refl, sym, ap, ap₂, ◌∙◌, subst, arith, le-leb}
 use Rattle.nofs_disk.specs.Number.{put_bytes}
-use Rattle.nofs_model.specs.Kinds.{File, Directory}
-use Rattle.nofs_model.specs.Cells.{Cell, Pointer, Record, tag_of, null, is_null, is_live, free_record}
-use Rattle.nofs_model.specs.Image.{cell_at, inode, Path, InRecord, Under, path_of, IsSlot, tag_for, record_pointer}
-use Rattle.nofs_model.specs.Image.{find, files_in, agreed, IsFree}
-use Rattle.nofs_model.specs.Image.{Files, FileState, is_folder}
+use Rattle.nofs_inode.specs.declared.inode.FileKind.TheVariants.{File, Directory}
+use Rattle.nofs_disk.specs.declared.tag.Cell.{Cell}
+use Rattle.nofs_disk.specs.declared.tag.Pointer.{Pointer}
+use Rattle.nofs_inode.specs.declared.inode.Record.{Record}
+use Rattle.nofs_disk.specs.Tag.{tag_of}
+use Rattle.nofs_disk.specs.Pointer.{null, is_null}
+use Rattle.nofs_inode.specs.InodeRecords.{is_live, free_record}
+use Rattle.nofs_disk.specs.Disk.{cell_at}
+use Rattle.nofs_model.specs.Geometry.{inode}
+use Rattle.nofs_ptrs.specs.Paths.{Path, InRecord, Under, path_of, IsSlot}
+use Rattle.nofs_model.specs.Slots.{tag_for, record_pointer, find}
+use Rattle.nofs_model.specs.Files.{files_in, agreed, Files, FileState, is_folder}
+use Rattle.nofs_model.specs.Owners.{IsFree}
 use Rattle.nofs_model.specs.declared.image.path.PathAnswer.TheVariants as answer
 use Rattle.nofs_model.specs.declared.image.value.Value.{Value}
 use Rattle.nofs_model.specs.declared.image.value.Value.TheVariants.{Hole, Bytes}
@@ -26,8 +33,7 @@ use Rattle.nofs_cases.specs.Steps.Files.{put_step, put_places, put_claims, PutCa
 use Rattle.nofs_cases.specs.Steps.Files.{UntouchedCase, GrownCase}
 use Rattle.nofs_cases.proofs.OnDisks.Numbers.{each-number, none-of}
 use Rattle.nofs_cases.proofs.OnDisks.Images.{plain, nth, root_record, label_record, HasRecords, inode-is}
-use Rattle.nofs_cases.proofs.OnDisks.Images.{first-records, put-records, resize-records}
-use Rattle.nofs_cases.proofs.OnDisks.Images.{data-two, put-tag}
+use Rattle.nofs_cases.proofs.OnDisks.Images.{first-records, put-records, resize-records, data-two, put-tag}
 use Rattle.nofs_cases.proofs.OnDisks.Steps.{each-block, stamp-is, same-names, label-touches}
 use Rattle.nofs_cases.proofs.OnDisks.Slots.{ArePlain, pick, plain-image, no-pointers, not-under, empty, old-pointers}
 use Rattle.nofs_cases.proofs.OnDisks.Matches.{root-agreed, label-agreed, first-tag, first-holds, same-empty}

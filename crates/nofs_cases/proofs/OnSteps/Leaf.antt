@@ -1,13 +1,18 @@
 -- A Put with a claimed block and a claimed leaf.
 use Rattle.std.proofs.Common.{◌≡◌, ℕ, ◌+◌, ◌^◌, ◌⊎◌, inl, inr, true, false, eqb, [], ◌∷◌, Some, refl, sym, ap, ◌∙◌}
 use Rattle.std.proofs.Common.{subst, arith}
-use Rattle.nofs_disk.specs.Number.{put_bytes}
-use Rattle.nofs_model.specs.Cells.{Content, Leaf, Pointer, Record, tag_of, number_at, null, is_null, pointer_at}
-use Rattle.nofs_model.specs.Cells.{pointer_in, record_of, record_at}
-use Rattle.nofs_model.specs.Cells.{fields_in, link_in, free_record}
-use Rattle.nofs_model.specs.Image.{cell_at, is_data_block, inode, Path, InRecord, Under, leaf, path_of, slot_of, IsSlot}
-use Rattle.nofs_model.specs.Image.{tag_for, record_pointer}
-use Rattle.nofs_model.specs.Image.{find}
+use Rattle.nofs_disk.specs.Number.{put_bytes, number_at}
+use Rattle.nofs_disk.specs.declared.tag.Kind.TheVariants.{Content, Leaf}
+use Rattle.nofs_disk.specs.declared.tag.Pointer.{Pointer}
+use Rattle.nofs_inode.specs.declared.inode.Record.{Record}
+use Rattle.nofs_disk.specs.Tag.{tag_of}
+use Rattle.nofs_disk.specs.Pointer.{null, is_null, pointer_in}
+use Rattle.nofs_ptrs.specs.Cells.{pointer_at}
+use Rattle.nofs_inode.specs.InodeRecords.{record_of, record_at, fields_in, link_in, free_record}
+use Rattle.nofs_disk.specs.Disk.{cell_at}
+use Rattle.nofs_model.specs.Geometry.{is_data_block, inode}
+use Rattle.nofs_ptrs.specs.Paths.{Path, InRecord, Under, leaf, path_of, slot_of, IsSlot}
+use Rattle.nofs_model.specs.Slots.{tag_for, record_pointer, find}
 use Rattle.nofs_model.specs.declared.image.path.PathAnswer.TheVariants as answer
 use Rattle.nofs_model.specs.declared.image.value.Value.TheVariants.{Hole}
 use Rattle.nofs_history.specs.Machine.{put_content, trimmed}

@@ -1,16 +1,24 @@
 -- The maps and the stamps over a Put of one byte.
 use Rattle.std.proofs.Common.{◌≡◌, ℕ, zero, suc, ◌-◌, ◌%◌, ◌^◌, ◌<◌, ◌≤◌, ◌⊎◌, inl, inr, true, false, eqb, [], ◌∷◌}
-use Rattle.std.proofs.Common.{Option, Some, None, refl, sym, ap, ◌∙◌}
-use Rattle.std.proofs.Common.{subst, arith, eqb-true, is_some, All, Contains}
-use Rattle.nofs_model.specs.Cells.{Content, Table, Pointer, Record, SuperBlock, record_at, is_live, free_record, null}
-use Rattle.nofs_model.specs.Cells.{FileKind}
+use Rattle.std.proofs.Common.{Option, Some, None, refl, sym, ap, ◌∙◌, subst, arith, eqb-true, is_some, All, Contains}
+use Rattle.nofs_disk.specs.declared.tag.Kind.TheVariants.{Content, Table}
+use Rattle.nofs_disk.specs.declared.tag.Pointer.{Pointer}
+use Rattle.nofs_inode.specs.declared.inode.Record.{Record}
+use Rattle.nofs_super.specs.declared.superblock.SuperBlock.{SuperBlock}
+use Rattle.nofs_inode.specs.InodeRecords.{record_at, is_live, free_record}
+use Rattle.nofs_disk.specs.Pointer.{null}
+use Rattle.nofs_inode.specs.declared.inode.FileKind.{FileKind}
 use Rattle.nofs_model.proofs.OnFiles.Chains.{agreed-holds}
 use Rattle.nofs_crashlaw.proofs.OnUntouched.Agreement.{agreed-some}
 use Rattle.nofs_crashlaw.proofs.OnMaps.Fresh.{sole-is}
 use Rattle.nofs_history.specs.Good.{MatchesSuper, IsFresh}
-use Rattle.nofs_model.specs.Image.{file_from, Image, cell_at, inode, Path, InRecord, path_of, IsSlot, find, files_in}
-use Rattle.nofs_model.specs.Image.{agreed, Home, home_at}
-use Rattle.nofs_model.specs.Image.{CellBelow, IsBelow, record_pointer}
+use Rattle.nofs_model.specs.Files.{file_from, files_in, agreed}
+use Rattle.nofs_model.specs.Geometry.{Image, inode}
+use Rattle.nofs_disk.specs.Disk.{cell_at}
+use Rattle.nofs_ptrs.specs.Paths.{Path, InRecord, path_of, IsSlot}
+use Rattle.nofs_model.specs.Slots.{find, record_pointer}
+use Rattle.nofs_model.specs.Owners.{Home, home_at}
+use Rattle.nofs_model.specs.Sound.{CellBelow, IsBelow}
 use Rattle.nofs_model.specs.declared.image.path.PathAnswer.TheVariants as answer
 use Rattle.nofs_model.specs.declared.image.value.Value.TheVariants.{Hole}
 use Rattle.nofs_history.specs.Machine.{gives}

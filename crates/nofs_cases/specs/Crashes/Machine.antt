@@ -1,7 +1,8 @@
 -- Instances of the laws of the machine.
 use Rattle.std.specs.Prelude.{◌≡◌, [], ◌∷◌, Some}
-use Rattle.nofs_model.specs.Image.{FileState}
-use Rattle.nofs_history.specs.History.{agreed_files, files_along, NoWriteFault}
+use Rattle.nofs_model.specs.Files.{FileState}
+use Rattle.nofs_history.specs.Since.{agreed_files, files_along}
+use Rattle.nofs_history.specs.History.{NoWriteFault}
 use Rattle.nofs_history.specs.Next.{Next}
 use Rattle.nofs_crashlaw.specs.Machine.Laws.{IsSizedWorld}
 use Rattle.nofs_cases.specs.Disks.Images.{first_image}

@@ -1,12 +1,13 @@
 -- Instances of the laws of a crash, by the formatted disk and a Put of one byte.
 use Rattle.std.specs.Prelude.{◌≡◌, ℕ, zero, suc, ◌+◌, ◌^◌, true, false, List, [], ◌∷◌, length, IsTrue, if◌then◌else◌}
 use Rattle.std.specs.Prelude.{nat_lt, ◌==◌, Contains}
-use Rattle.nofs_disk.specs.Disk.{DiskState, IsDisk, Picks, StaysButFaults}
-use Rattle.nofs_model.specs.Cells.{Cell}
-use Rattle.nofs_model.specs.Image.{Image, cell_at, inode, leaf, path_of}
-use Rattle.nofs_history.specs.Marks.{Mark}
+use Rattle.nofs_disk.specs.Disk.{DiskState, IsDisk, Picks, StaysButFaults, cell_at}
+use Rattle.nofs_disk.specs.declared.tag.Cell.{Cell}
+use Rattle.nofs_model.specs.Geometry.{Image, inode}
+use Rattle.nofs_ptrs.specs.Paths.{leaf, path_of}
+use Rattle.nofs_history.specs.Marks.{Mark, mark_at}
 use Rattle.nofs_history.specs.Machine.{Given, given_by, files_by}
-use Rattle.nofs_history.specs.History.{agreed_files, mark, mark_at}
+use Rattle.nofs_history.specs.Since.{agreed_files, mark}
 use Rattle.nofs_history.specs.Claims.{no_claims}
 use Rattle.nofs_history.specs.declared.machine.history.Entry1.{Entry1}
 use Rattle.nofs_history.specs.declared.machine.steps.Step.TheVariants as step

@@ -1,7 +1,7 @@
 -- Images of a disk of 16 blocks and 4 inodes: as it was formatted, and after a few steps.
 use Rattle.std.specs.Prelude.{ℕ, List, ◌∷◌, ◌++◌, replicate}
-use Rattle.nofs_model.specs.Cells.{Cell}
-use Rattle.nofs_model.specs.Image.{Image}
+use Rattle.nofs_disk.specs.declared.tag.Cell.{Cell}
+use Rattle.nofs_model.specs.Geometry.{Image}
 
 -- this many zeros
 abbrev pub z : ℕ → List ℕ

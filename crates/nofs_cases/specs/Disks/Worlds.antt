@@ -1,8 +1,10 @@
 -- The machine's files and worlds on these images.
 use Rattle.std.specs.Prelude.{ℕ, Bool, true, false, ◌∷◌, ◌+◌, ◌^◌, Option, Some, None, if◌then◌else◌, ◌==◌}
-use Rattle.nofs_model.specs.Kinds.{File, Directory}
-use Rattle.nofs_model.specs.Cells.{Pointer, null}
-use Rattle.nofs_model.specs.Image.{Absent, FileState, Files, Home}
+use Rattle.nofs_inode.specs.declared.inode.FileKind.TheVariants.{File, Directory}
+use Rattle.nofs_disk.specs.declared.tag.Pointer.{Pointer}
+use Rattle.nofs_disk.specs.Pointer.{null}
+use Rattle.nofs_model.specs.Files.{Absent, FileState, Files}
+use Rattle.nofs_model.specs.Owners.{Home}
 use Rattle.nofs_model.specs.declared.image.value.Value.{Value}
 use Rattle.nofs_model.specs.declared.image.value.Value.TheVariants.{Hole, Bytes}
 use Rattle.nofs_history.specs.World.{World}

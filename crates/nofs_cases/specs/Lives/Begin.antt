@@ -1,7 +1,8 @@
 -- Instances of the laws of a mount's beginning: the formatted disk, raised and upgraded.
 use Rattle.std.specs.Prelude.{ℕ, ◌^◌, ◌<◌, ◌∷◌, ◌++◌, replicate}
-use Rattle.nofs_model.specs.Cells.{Cell}
-use Rattle.nofs_model.specs.Image.{Image, super_at, IsSound}
+use Rattle.nofs_disk.specs.declared.tag.Cell.{Cell}
+use Rattle.nofs_model.specs.Geometry.{Image, super_at}
+use Rattle.nofs_model.specs.Sound.{IsSound}
 use Rattle.nofs_crashlaw.specs.Lives.{Raised, Upgraded, HasSuperCell}
 use Rattle.nofs_cases.specs.Disks.Images.{z, blank, first_table, first_image}
 

@@ -1,8 +1,10 @@
 -- An instance of the law of lives with contents: a Put, a crash, and the next mount.
 use Rattle.std.specs.Prelude.{◌≡◌, true, ◌||◌, [], ◌∷◌, replicate, nat_le, ◌==◌}
-use Rattle.nofs_model.specs.Image.{Image, is_special, value}
+use Rattle.nofs_model.specs.Geometry.{Image}
+use Rattle.nofs_model.specs.Files.{is_special}
+use Rattle.nofs_model.specs.Slots.{value}
 use Rattle.nofs_model.specs.declared.image.value.Value.TheVariants.{Bytes}
-use Rattle.nofs_history.specs.History.{is_generation}
+use Rattle.nofs_history.specs.Since.{is_generation}
 use Rattle.nofs_history.specs.World.{World, world_of}
 use Rattle.nofs_crashlaw.specs.Lives.{Lives}
 use Rattle.nofs_crashlaw.specs.Machine.Worlds.{world_after}

@@ -1,7 +1,7 @@
 -- Instances of the laws of runs and of the durable move: a move on the disk with one name, from a to b in the root, as
 -- five entries of one history with nothing between them.
 use Rattle.std.specs.Prelude.{◌≡◌, ℕ, ◌^◌, true, false, List, [], ◌∷◌, Some, slice_get}
-use Rattle.nofs_model.specs.Kinds.{File}
+use Rattle.nofs_inode.specs.declared.inode.FileKind.TheVariants.{File}
 use Rattle.nofs_history.specs.HistoryState.{HistoryState}
 use Rattle.nofs_history.specs.Machine.{found, link_to}
 use Rattle.nofs_history.specs.Claims.{no_claims}

@@ -1,7 +1,9 @@
 -- An image that no crash may leave: a slot with the bytes of another file.
 use Rattle.std.specs.Prelude.{◌≡◌, ℕ, ◌+◌, ◌^◌, List, [], ◌∷◌, ◌++◌}
-use Rattle.nofs_model.specs.Cells.{Cell, Pointer}
-use Rattle.nofs_model.specs.Image.{Image, value}
+use Rattle.nofs_disk.specs.declared.tag.Cell.{Cell}
+use Rattle.nofs_disk.specs.declared.tag.Pointer.{Pointer}
+use Rattle.nofs_model.specs.Geometry.{Image}
+use Rattle.nofs_model.specs.Slots.{value}
 use Rattle.nofs_model.specs.declared.image.value.Value.TheVariants.{Bytes}
 use Rattle.nofs_history.specs.Allowed.{IsAllowed}
 use Rattle.nofs_cases.specs.Disks.Images.{z, image_of, root_bytes, label_bytes, pointer_bytes, stamp_bytes, table_of}

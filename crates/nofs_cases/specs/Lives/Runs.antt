@@ -1,6 +1,6 @@
 -- Small instances of the laws of lives.
 use Rattle.std.specs.Prelude.{◌≡◌, ℕ, true, List, [], ◌∷◌, ◌++◌, replicate}
-use Rattle.nofs_model.specs.Image.{Image, is_mountable}
+use Rattle.nofs_model.specs.Geometry.{Image, is_mountable}
 use Rattle.nofs_history.specs.World.{World, world_of}
 use Rattle.nofs_history.specs.declared.machine.history.Entry1.{Entry1}
 use Rattle.nofs_history.specs.declared.machine.steps.Step.{Step}

@@ -3,7 +3,7 @@ use Rattle.std.specs.Prelude.{◌≡◌, ℕ, ◌-◌}
 use Rattle.nofs_bits.specs.Bits.{is_set}
 use Rattle.nofs_disk.specs.Disk.{DiskState}
 use Rattle.nofs_super.specs.Raise.{raised}
-use Rattle.nofs_model.specs.Image.{Image, super_at}
+use Rattle.nofs_model.specs.Geometry.{Image, super_at}
 use Rattle.nofs_model.specs.Sound.{IsSound}
 use Rattle.nofs_history.specs.World.{World}
 use Rattle.nofs_history.specs.Good.{IsGood}

@@ -1,8 +1,11 @@
 -- Disks with names: the root has block 2, in which the entries of inode 3 stand.
 use Rattle.std.specs.Prelude.{◌^◌, ℕ, List, [], ◌∷◌, ◌++◌, Some, None}
-use Rattle.nofs_model.specs.Kinds.{File}
-use Rattle.nofs_model.specs.Cells.{Cell, BackLink, no_link}
-use Rattle.nofs_model.specs.Image.{Image, Absent, FileState, Files}
+use Rattle.nofs_inode.specs.declared.inode.FileKind.TheVariants.{File}
+use Rattle.nofs_disk.specs.declared.tag.Cell.{Cell}
+use Rattle.nofs_inode.specs.declared.inode.BackLink.{BackLink}
+use Rattle.nofs_inode.specs.InodeRecords.{no_link}
+use Rattle.nofs_model.specs.Geometry.{Image}
+use Rattle.nofs_model.specs.Files.{Absent, FileState, Files}
 use Rattle.nofs_model.specs.declared.image.value.Value.TheVariants.{Hole, Bytes}
 use Rattle.nofs_history.specs.Machine.{link_to}
 use Rattle.nofs_history.specs.World.{World}

@@ -1,8 +1,11 @@
 -- An instance of the law of Make in a hole under a leaf, which is claimed with the cell.
 use Rattle.std.specs.Prelude.{◌+◌, ◌^◌, ◌∷◌, ◌++◌}
-use Rattle.nofs_model.specs.Kinds.{File}
-use Rattle.nofs_model.specs.Cells.{Cell, Pointer, null, spelled_entry}
-use Rattle.nofs_model.specs.Image.{Image}
+use Rattle.nofs_inode.specs.declared.inode.FileKind.TheVariants.{File}
+use Rattle.nofs_disk.specs.declared.tag.Cell.{Cell}
+use Rattle.nofs_disk.specs.declared.tag.Pointer.{Pointer}
+use Rattle.nofs_disk.specs.Pointer.{null}
+use Rattle.nofs_dirent.specs.Entries.{spelled_entry}
+use Rattle.nofs_model.specs.Geometry.{Image}
 use Rattle.nofs_model.specs.declared.image.value.Value.TheVariants.{Hole}
 use Rattle.nofs_history.specs.declared.machine.history.Claims.{Claims}
 use Rattle.nofs_crashlaw.specs.Names.NewEntries.{MakeLies, EntryInHole}

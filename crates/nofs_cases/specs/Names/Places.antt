@@ -1,9 +1,15 @@
 -- Instances of the laws of new entries where the others have none: a Make in place, and a Link in a hole, each with all
 -- the premises of the laws of its homes and of its numbers.
 use Rattle.std.specs.Prelude.{◌≡◌, ℕ, zero, suc, ◌+◌, ◌^◌, List, [], ◌∷◌, ◌++◌, Some, None}
-use Rattle.nofs_model.specs.Kinds.{File}
-use Rattle.nofs_model.specs.Cells.{Cell, BackLink, Pointer, no_link, null, spelled_entry}
-use Rattle.nofs_model.specs.Image.{Image, Files}
+use Rattle.nofs_inode.specs.declared.inode.FileKind.TheVariants.{File}
+use Rattle.nofs_disk.specs.declared.tag.Cell.{Cell}
+use Rattle.nofs_inode.specs.declared.inode.BackLink.{BackLink}
+use Rattle.nofs_disk.specs.declared.tag.Pointer.{Pointer}
+use Rattle.nofs_inode.specs.InodeRecords.{no_link}
+use Rattle.nofs_disk.specs.Pointer.{null}
+use Rattle.nofs_dirent.specs.Entries.{spelled_entry}
+use Rattle.nofs_model.specs.Geometry.{Image}
+use Rattle.nofs_model.specs.Files.{Files}
 use Rattle.nofs_model.specs.declared.image.value.Value.TheVariants.{Hole, Bytes}
 use Rattle.nofs_history.specs.Machine.{link_to, place_for}
 use Rattle.nofs_history.specs.World.{World}
@@ -17,8 +23,7 @@ use Rattle.nofs_crashlaw.specs.Machine.Examples.{a, b}
 use Rattle.nofs_cases.specs.Disks.Images.{z, blank, image_of, label_bytes, pointer_bytes, stamp_bytes, table_of}
 use Rattle.nofs_cases.specs.Disks.Worlds.{root_file, label_file, three_files, world, block_two, cell_claim}
 use Rattle.nofs_cases.specs.Names.Disks.{short_entry_bytes, link_bytes, file_bytes, root_table, root_block}
-use Rattle.nofs_cases.specs.Names.Disks.{name_table, drop_image, third_file, one_link}
-use Rattle.nofs_cases.specs.Names.Disks.{files_with}
+use Rattle.nofs_cases.specs.Names.Disks.{name_table, drop_image, third_file, one_link, files_with}
 
 -- Make in place
 

@@ -1,8 +1,12 @@
 -- Instances of the laws of steps on names.
 use Rattle.std.specs.Prelude.{◌≡◌, ℕ, ◌+◌, ◌^◌, ◌<◌, List, ◌++◌, length, None, IfSome}
-use Rattle.nofs_model.specs.Kinds.{File}
-use Rattle.nofs_model.specs.Cells.{Entry, null, spelled_entry, entry_of, entry_in}
-use Rattle.nofs_model.specs.Image.{inode, Path, IsSlot, find}
+use Rattle.nofs_inode.specs.declared.inode.FileKind.TheVariants.{File}
+use Rattle.nofs_dirent.specs.declared.entry.Entry.{Entry}
+use Rattle.nofs_disk.specs.Pointer.{null}
+use Rattle.nofs_dirent.specs.Entries.{spelled_entry, entry_of, entry_in}
+use Rattle.nofs_model.specs.Geometry.{inode}
+use Rattle.nofs_ptrs.specs.Paths.{Path, IsSlot}
+use Rattle.nofs_model.specs.Slots.{find}
 use Rattle.nofs_model.specs.declared.image.path.PathAnswer.TheVariants as answer
 use Rattle.nofs_model.specs.declared.image.value.Value.TheVariants.{Hole, Bytes}
 use Rattle.nofs_history.specs.Meta.{Gone, Is}
@@ -18,8 +22,7 @@ use Rattle.nofs_crashlaw.specs.Homes.Names.{NameMoves}
 use Rattle.nofs_cases.specs.Disks.Images.{z, first_image}
 use Rattle.nofs_cases.specs.Disks.Worlds.{root_file, first_files, first_world, block_two}
 use Rattle.nofs_cases.specs.Names.Disks.{short_entry_bytes, name_image, rename_image, link_image, drop_image}
-use Rattle.nofs_cases.specs.Names.Disks.{third_file, one_link, two_links, name_files}
-use Rattle.nofs_cases.specs.Names.Disks.{link_files, name_world}
+use Rattle.nofs_cases.specs.Names.Disks.{third_file, one_link, two_links, name_files, link_files, name_world}
 
 -- the entry of inode 3 with this name
 abbrev pub entry_named : List ℕ → Entry

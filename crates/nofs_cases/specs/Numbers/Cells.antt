@@ -1,7 +1,12 @@
 -- Instances of the laws of the numbers in one written cell: content, a directory's cell, and a table.
 use Rattle.std.specs.Prelude.{◌≡◌, ℕ, ◌+◌, ◌-◌, ◌/◌, ◌%◌, ◌^◌, true, ◌++◌, Some}
-use Rattle.nofs_model.specs.Cells.{Content, Directory, record_at, spelled_entry, tag_of}
-use Rattle.nofs_model.specs.Image.{InRecord, is_inode, inode, kind_in}
+use Rattle.nofs_disk.specs.declared.tag.Kind.TheVariants.{Content, Directory}
+use Rattle.nofs_inode.specs.InodeRecords.{record_at}
+use Rattle.nofs_dirent.specs.Entries.{spelled_entry}
+use Rattle.nofs_disk.specs.Tag.{tag_of}
+use Rattle.nofs_ptrs.specs.Paths.{InRecord}
+use Rattle.nofs_model.specs.Slots.{kind_in}
+use Rattle.nofs_model.specs.Geometry.{is_inode, inode}
 use Rattle.nofs_model.specs.declared.image.value.Value.TheVariants.{Hole, Bytes}
 use Rattle.nofs_history.specs.Claims.{no_claims}
 use Rattle.nofs_crashlaw.specs.Numbers.Cells.{OldNumbers, CellFor, EntryWritten, RecordWritten, table_tag}
@@ -9,8 +14,7 @@ use Rattle.nofs_crashlaw.specs.Machine.Examples.{a, b}
 use Rattle.nofs_cases.specs.Disks.Images.{z, first_image, put_table, put_block}
 use Rattle.nofs_cases.specs.Disks.Worlds.{first_world, block_two}
 use Rattle.nofs_cases.specs.Steps.Files.{put_claims}
-use Rattle.nofs_cases.specs.Names.Disks.{short_entry_bytes, root_block, name_table, name_image, name_world}
-use Rattle.nofs_cases.specs.Names.Disks.{drop_table}
+use Rattle.nofs_cases.specs.Names.Disks.{short_entry_bytes, root_block, name_table, name_image, name_world, drop_table}
 use Rattle.nofs_cases.specs.Names.Steps.{make_claims}
 
 -- The content cell of a Put, in a claimed block.

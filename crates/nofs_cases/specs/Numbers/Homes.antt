@@ -1,7 +1,7 @@
 -- Instances of the laws of homes and of numbers, each with all the premises of its law.
 use Rattle.std.specs.Prelude.{◌≡◌, ◌^◌, [], ◌∷◌, Some, None}
-use Rattle.nofs_model.specs.Kinds.{File}
-use Rattle.nofs_model.specs.Cells.{null}
+use Rattle.nofs_inode.specs.declared.inode.FileKind.TheVariants.{File}
+use Rattle.nofs_disk.specs.Pointer.{null}
 use Rattle.nofs_model.specs.declared.image.value.Value.TheVariants.{Hole}
 use Rattle.nofs_history.specs.Machine.{place_for}
 use Rattle.nofs_history.specs.Claims.{IsClaim, no_claims}

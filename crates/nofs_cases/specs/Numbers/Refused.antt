@@ -1,6 +1,6 @@
 -- An instance of the law of maps over a step that is refused.
 use Rattle.std.specs.Prelude.{◌||◌, ◌==◌}
-use Rattle.nofs_model.specs.Image.{is_special}
+use Rattle.nofs_model.specs.Files.{is_special}
 use Rattle.nofs_history.specs.World.{World}
 use Rattle.nofs_history.specs.Claims.{no_claims}
 use Rattle.nofs_history.specs.Next.{Keeps, Next}

@@ -1,6 +1,6 @@
 -- Instances of the laws of verdicts: a run in which an inode and a block are not known at the end.
 use Rattle.std.specs.Prelude.{◌≡◌, false, ◌||◌, [], ◌∷◌, nat_le, ◌==◌}
-use Rattle.nofs_model.specs.Image.{is_special}
+use Rattle.nofs_model.specs.Files.{is_special}
 use Rattle.nofs_history.specs.Machine.{gives, files_after}
 use Rattle.nofs_history.specs.World.{World}
 use Rattle.nofs_history.specs.Claims.{no_claims, homes_after}

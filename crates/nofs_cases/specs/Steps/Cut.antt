@@ -1,7 +1,10 @@
 -- An instance of the laws of a Resize that cuts: the file of one block gets the size 0.
 use Rattle.std.specs.Prelude.{◌≡◌, ◌+◌, ◌^◌, true, ◌∷◌, Some, None, if◌then◌else◌, ◌==◌}
-use Rattle.nofs_model.specs.Cells.{is_null}
-use Rattle.nofs_model.specs.Image.{Image, InRecord, find, inode, record_pointer, home_at}
+use Rattle.nofs_disk.specs.Pointer.{is_null}
+use Rattle.nofs_model.specs.Geometry.{Image, inode}
+use Rattle.nofs_ptrs.specs.Paths.{InRecord}
+use Rattle.nofs_model.specs.Slots.{find, record_pointer}
+use Rattle.nofs_model.specs.Owners.{home_at}
 use Rattle.nofs_model.specs.declared.image.path.PathAnswer.TheVariants as answer
 use Rattle.nofs_model.specs.declared.image.value.Value.TheVariants.{Bytes}
 use Rattle.nofs_history.specs.World.{World}

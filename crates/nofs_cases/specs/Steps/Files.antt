@@ -1,7 +1,10 @@
 -- Instances of the laws of steps on files.
 use Rattle.std.specs.Prelude.{◌≡◌, ◌+◌, ◌^◌, true, [], ◌∷◌, ◌==◌}
-use Rattle.nofs_model.specs.Image.{Path, agreed, files_in, path_of, inode}
-use Rattle.nofs_model.specs.Cells.{is_live, Pointer}
+use Rattle.nofs_ptrs.specs.Paths.{Path, path_of}
+use Rattle.nofs_model.specs.Files.{agreed, files_in}
+use Rattle.nofs_model.specs.Geometry.{inode}
+use Rattle.nofs_inode.specs.InodeRecords.{is_live}
+use Rattle.nofs_disk.specs.declared.tag.Pointer.{Pointer}
 use Rattle.nofs_model.specs.declared.image.value.Value.TheVariants.{Hole, Bytes}
 use Rattle.nofs_history.specs.Claims.{IsClaim, no_claims}
 use Rattle.nofs_history.specs.declared.machine.steps.Step.{Step}

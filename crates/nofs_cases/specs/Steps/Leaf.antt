@@ -1,7 +1,10 @@
 -- An instance of the laws of a Put at depth: to slot 8 of the empty label file, with its leaf.
 use Rattle.std.specs.Prelude.{◌+◌, ◌^◌, [], ◌∷◌, ◌++◌}
-use Rattle.nofs_model.specs.Cells.{Cell, Pointer, null}
-use Rattle.nofs_model.specs.Image.{Image, Path, InRecord, Under}
+use Rattle.nofs_disk.specs.declared.tag.Cell.{Cell}
+use Rattle.nofs_disk.specs.declared.tag.Pointer.{Pointer}
+use Rattle.nofs_disk.specs.Pointer.{null}
+use Rattle.nofs_model.specs.Geometry.{Image}
+use Rattle.nofs_ptrs.specs.Paths.{Path, InRecord, Under}
 use Rattle.nofs_model.specs.declared.image.value.Value.TheVariants.{Hole}
 use Rattle.nofs_history.specs.Claims.{IsClaim}
 use Rattle.nofs_history.specs.declared.machine.history.Claims.{Claims}

@@ -1,9 +1,15 @@
 -- Instances of the laws of the maps and of the stamps, by the Put of one byte.
 use Rattle.std.specs.Prelude.{◌≡◌, ◌==◌, ℕ, ◌%◌, ◌^◌, ◌≤◌, ◌<◌, ◌⊎◌, true, false, List, [], ◌∷◌, Some, Contains}
-use Rattle.nofs_model.specs.Cells.{Cell, is_live, Pointer}
-use Rattle.nofs_model.specs.Image.{Image, cell_at, super_at, is_mountable, inode, InRecord, path_of, files_in, agreed}
-use Rattle.nofs_model.specs.Image.{find, Path, IsSlot, IsAbove}
-use Rattle.nofs_model.specs.Image.{Home, IsBelow}
+use Rattle.nofs_disk.specs.declared.tag.Cell.{Cell}
+use Rattle.nofs_inode.specs.InodeRecords.{is_live}
+use Rattle.nofs_disk.specs.declared.tag.Pointer.{Pointer}
+use Rattle.nofs_model.specs.Geometry.{Image, super_at, is_mountable, inode}
+use Rattle.nofs_disk.specs.Disk.{cell_at}
+use Rattle.nofs_ptrs.specs.Paths.{InRecord, path_of, Path, IsSlot}
+use Rattle.nofs_model.specs.Slots.{find, IsAbove}
+use Rattle.nofs_model.specs.Files.{files_in, agreed}
+use Rattle.nofs_model.specs.Owners.{Home}
+use Rattle.nofs_model.specs.Sound.{IsBelow}
 use Rattle.nofs_model.specs.declared.image.path.PathAnswer.TheVariants as answer
 use Rattle.nofs_history.specs.declared.machine.history.Entry1.{Entry1}
 use Rattle.nofs_history.specs.declared.machine.replies.Reply.TheVariants as reply

@@ -1,0 +1,8 @@
+//! The tests, by what they test, with what they share.
+
+mod cache;
+mod disks;
+mod filedisk;
+mod memdisk;
+mod mirror;
+mod tags;

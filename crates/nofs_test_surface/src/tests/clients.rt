@@ -1,0 +1,193 @@
+//! Clients with their commands and lines, sessions and their texts, and drawn scripts.
+ghost use Rattle.nofs_client.specs.Task.Commands.{IsWellFormed};
+ghost use Rattle.nofs_client.specs.Progress.{AllAnswer, start_of};
+ghost use Rattle.std.specs.Prelude.{◌<◌, ◌≤◌};
+
+use crate::tests::typed::typed;
+use nofs_client::{
+    Client, Command, CommandList, GotPart, GotParts, Line, ListPart, ListParts, Next, Path,
+};
+use nofs_dirent::{Content, Name, PathNames};
+use nofs_gen::ValueList;
+use nofs_history::{History, NameLine, Refusal, Reply, Stat, Step, Steps};
+use nofs_script::{ParseFault, ScriptFault, ScriptKind, Session};
+use std::alloc::{AllocError, Global};
+
+/// `nofs_client::Path`
+pub fn path_variant(it: &Path) -> u8 {
+    match it {
+        Path::Label => 0,
+        Path::Names(first) => typed::<PathNames>(first, 1),
+    }
+}
+
+/// `nofs_client::Command`
+pub fn command_variant(it: &Command) -> u8 {
+    match it {
+        Command::Make { path } => typed::<Path>(path, 0),
+        Command::MakeDirectory { path } => typed::<Path>(path, 1),
+        Command::Put {
+            path,
+            offset,
+            bytes,
+        } => typed::<(&Path, &u64, &Content)>(&(path, offset, bytes), 2),
+        Command::Get {
+            path,
+            offset,
+            length,
+        } => typed::<(&Path, &u64, &u64)>(&(path, offset, length), 3),
+        Command::Size { path, size } => typed::<(&Path, &u64)>(&(path, size), 4),
+        Command::Stat { path } => typed::<Path>(path, 5),
+        Command::List { path } => typed::<Path>(path, 6),
+        Command::Link { path, new_path } => typed::<(&Path, &Path)>(&(path, new_path), 7),
+        Command::Drop { path } => typed::<Path>(path, 8),
+        Command::Rename { path, name } => typed::<(&Path, &Name)>(&(path, name), 9),
+        Command::Fsync { path } => typed::<Path>(path, 10),
+        Command::Move { from, to } => typed::<(&Path, &Path)>(&(from, to), 11),
+    }
+}
+
+/// `nofs_client::GotPart`
+pub fn got_part_variant(it: &GotPart) -> u8 {
+    match it {
+        GotPart::Bytes(first) => typed::<Content>(first, 0),
+        GotPart::Hole(first) => typed::<u64>(first, 1),
+        GotPart::Lost(first) => typed::<u64>(first, 2),
+    }
+}
+
+/// `nofs_client::ListPart`
+pub fn list_part_variant(it: &ListPart) -> u8 {
+    match it {
+        ListPart::Name(first) => typed::<NameLine>(first, 0),
+        ListPart::Lost(first) => typed::<u64>(first, 1),
+    }
+}
+
+/// `nofs_client::Line`
+pub fn line_variant(it: &Line) -> u8 {
+    match it {
+        Line::Made => 0,
+        Line::Put(first) => typed::<u64>(first, 1),
+        Line::Got(first) => typed::<GotParts>(first, 2),
+        Line::Sized(first) => typed::<u64>(first, 3),
+        Line::Stat(first) => typed::<Stat>(first, 4),
+        Line::Names(first) => typed::<ListParts>(first, 5),
+        Line::Linked => 6,
+        Line::Dropped => 7,
+        Line::Renamed => 8,
+        Line::Synced => 9,
+        Line::Moved => 10,
+        Line::Refused(first) => typed::<Refusal>(first, 11),
+        Line::RefusedPut { refusal, stored } => typed::<(&Refusal, &u64)>(&(refusal, stored), 12),
+    }
+}
+
+/// `nofs_client::drive`
+pub fn client_drive(alloc: Global, command: &Command, replies: &[Reply]) -> Result<Next, AllocError>
+    requires formed { IsWellFormed command.now }
+    requires fits { AllAnswer command.now (start_of command.now) replies.now }
+{
+    nofs_client::drive(alloc, command, replies)
+}
+
+/// `nofs_client::Next`
+pub fn next_variant(it: &Next) -> u8 {
+    match it {
+        Next::Do(first) => typed::<Step>(first, 0),
+        Next::Say(first) => typed::<Line>(first, 1),
+    }
+}
+
+/// `nofs_client::Client`
+pub fn client_fields<S: Steps>(it: Client<S>) -> S {
+    let Client { steps } = it;
+    steps
+}
+
+/// `nofs_client::CommandList`
+pub fn command_list_itself(it: CommandList) -> CommandList {
+    it
+}
+
+/// `nofs_client::Client::new`
+pub fn client_new<S: Steps>(steps: S) -> Client<S> {
+    Client::new(steps)
+}
+
+/// `nofs_client::Client::into_inner`
+pub fn client_into_inner<S: Steps>(this: Client<S>) -> S {
+    this.into_inner()
+}
+
+/// `nofs_client::Client::run`
+pub fn client_run<S: Steps>(
+    this: &mut Client<S>,
+    alloc: Global,
+    command: &Command,
+) -> Result<Line, AllocError>
+    requires { IsWellFormed command.now }
+{
+    this.run(alloc, command)
+}
+
+/// `nofs_script::parse`
+pub fn script_parse(alloc: Global, text: &[u8]) -> Result<Session, ParseFault> {
+    nofs_script::parse(alloc, text)
+}
+
+/// `nofs_script::line_text`
+pub fn script_line_text(alloc: Global, line: &Line) -> Result<Vec<u8>, AllocError> {
+    nofs_script::line_text(alloc, line)
+}
+
+/// `nofs_script::Session`
+pub fn session_itself(it: Session) -> Session {
+    it
+}
+
+/// `nofs_script::ParseFault`
+pub fn parse_fault_itself(it: ParseFault) -> ParseFault {
+    it
+}
+
+/// `nofs_script::ScriptFault`
+pub fn script_fault_fields(it: ScriptFault) -> (u64, ScriptKind) {
+    let ScriptFault { line, kind } = it;
+    (line, kind)
+}
+
+/// `nofs_script::ScriptKind`
+pub fn script_kind_variant(it: &ScriptKind) -> u8 {
+    match it {
+        ScriptKind::UnknownCommand => 0,
+        ScriptKind::WordCount => 1,
+        ScriptKind::BadPath => 2,
+        ScriptKind::BadNumber => 3,
+        ScriptKind::BadHex => 4,
+        ScriptKind::TooManyUsers => 5,
+        ScriptKind::TooMuchAsked => 6,
+        ScriptKind::TooManyCommands => 7,
+    }
+}
+
+/// A drawn script, or want of memory.
+type Drawn = Result<CommandList, AllocError>;
+
+/// `nofs_gen::script_of`
+pub fn gen_script_of(alloc: Global, start: u64, steps: u64, user: u32) -> Drawn
+    requires steps { steps ≤ 4000 }
+    requires user { (1 ≤ user) × (user ≤ 4) }
+{
+    nofs_gen::script_of(alloc, start, steps, user)
+}
+
+/// `nofs_gen::replay`
+pub fn gen_replay(
+    alloc: Global,
+    history: &History,
+    inode: u32,
+    generation: u64,
+) -> Result<ValueList, AllocError> {
+    nofs_gen::replay(alloc, history, inode, generation)
+}
