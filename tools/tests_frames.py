@@ -1,12 +1,14 @@
 """Frames (docs/FORMAT.md) over the program `$NOFS IMAGE wire`: the client, and streams by hand."""
 import os
 import random
+import shutil
 import struct
 import subprocess
 import threading
+import unittest
 
 import nofs_client
-from tests_common import NOFS, Folders, read, run, serve, tool, write
+from tests_common import NOFS, TOOLS, Folders, read, run, serve, tool, write
 
 LABEL = (2, 2)
 MOST_STREAM = 16777216
@@ -53,6 +55,73 @@ class Images(Folders):
         wire = nofs_client.Wire(NOFS, self.image)
         self.watched(wire.program)
         return wire
+
+
+@unittest.skipUnless(shutil.which("cc"), "no C compiler")
+class FromC(Images):
+    """The client in C: its example, and each of its calls."""
+
+    def built(self, *sources):
+        program = self.at("program")
+        files = [os.path.join(TOOLS, source) for source in (*sources, "nofs_client.c")]
+        run(["cc", "-std=c99", "-D_POSIX_C_SOURCE=200809L", "-Wall", "-Wextra", "-Werror", "-I", TOOLS, "-o", program, *files])
+        return program
+
+    def test_the_example_keeps_a_line_and_lists_the_root(self):
+        example = self.built("nofs_example.c")
+        for line in ("a line", "another"):
+            self.assertEqual(run([example, NOFS, self.image, line])[0], b"notes\n")
+        self.assertEqual(serve(self.image, b"get /notes 0 20"), ["got bytes:" + b"another".hex()])
+
+    def test_each_call_answers_as_a_session_does(self):
+        calls = self.built(self.calls())
+        said = run([calls, NOFS, self.image])[0].decode().splitlines()
+        self.assertEqual(said, ["make 0", "exists 4", "link 0", "put 0", "get 0 1 78797a", "hole 0 2", "stat 0 1 2051 2", "rename 0",
+                                "missing 1", "look 0 2", "not empty 7", "list d l ", "drop 0", "bad name 8", "past 13", "flush 0", "status 0"])
+        self.assertEqual(serve(self.image, b"get /d/m 2048 3\nstat /l"), ["got bytes:78797a", "refused 1 missing"])
+
+    def test_a_program_that_is_not_there_has_ended(self):
+        example = self.built("nofs_example.c")
+        self.assertEqual(run([example, "/none", self.image, "x"], status=1), (b"", "answer -1\n"))
+
+    def calls(self):
+        """A program that makes each call once or more, and prints its answer."""
+        source = self.at("calls.c")
+        write(source, b'''
+#include "nofs_client.h"
+#include <stdio.h>
+int main(int count, char **words)
+{
+    struct nofs disk; struct nofs_at d, f; struct nofs_found found; struct nofs_stat stat; struct nofs_names names;
+    enum nofs_value value; uint8_t bytes[NOFS_SLOT_BYTES];
+    if (count != 3 || nofs_open(&disk, words[1], words[2])) return 2;
+    printf("make %d\\n", nofs_make(&disk, nofs_root, "d", NOFS_DIRECTORY, &d) + nofs_make(&disk, d, "f", NOFS_FILE, &f));
+    printf("exists %d\\n", nofs_make(&disk, d, "f", NOFS_FILE, &f));
+    printf("link %d\\n", nofs_link(&disk, nofs_root, "l", f));
+    printf("put %d\\n", nofs_resize(&disk, f, 2048) + nofs_put(&disk, f, 2, 0, "xyz", 3));
+    int got = nofs_get(&disk, f, 2, bytes, &value);
+    printf("get %d %d %02x%02x%02x\\n", got, value, bytes[0], bytes[1], bytes[2]);
+    got = nofs_get(&disk, f, 1, bytes, &value);
+    printf("hole %d %d\\n", got, value);
+    got = nofs_stat(&disk, f, &stat);
+    printf("stat %d %d %d %d\\n", got, stat.kind, (int)stat.size, (int)stat.links);
+    printf("rename %d\\n", nofs_rename(&disk, d, "f", "m"));
+    printf("missing %d\\n", nofs_look(&disk, d, "f", &found));
+    got = nofs_look(&disk, nofs_root, "d", &found);
+    printf("look %d %d\\n", got, found.kind);
+    printf("not empty %d\\n", nofs_drop(&disk, nofs_root, "d"));
+    printf("list ");
+    for (uint64_t slot = 0; nofs_list(&disk, nofs_root, slot, &names) == NOFS_OK && !names.end; slot = names.slot + 1)
+        for (int n = 0; n < names.count; n++) printf("%s ", names.names[n].name);
+    printf("\\ndrop %d\\n", nofs_drop(&disk, nofs_root, "l"));
+    printf("bad name %d\\n", nofs_look(&disk, nofs_root, "a name of more than forty-eight bytes, and with spaces", &found));
+    printf("past %d\\n", nofs_put(&disk, f, 9, 0, "x", 1));
+    printf("flush %d\\n", nofs_flush(&disk));
+    printf("status %d\\n", nofs_close(&disk));
+    return 0;
+}
+''')
+        return source
 
 
 class Client(Images):

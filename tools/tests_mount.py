@@ -1,0 +1,302 @@
+"""tools/nofs-mount: an image as a directory, used by the programs that people use. Left out where there is no /dev/fuse."""
+import errno
+import os
+import random
+import shutil
+import signal
+import subprocess
+import sys
+import time
+import unittest
+
+from tests_common import NOFS, TOOLS, Folders, read, run, serve, tree, write
+
+CELL = 1056
+SECONDS = 60
+
+
+def has_fuse():
+    return os.access("/dev/fuse", os.R_OK | os.W_OK) and (os.getuid() == 0 or shutil.which("fusermount3") is not None)
+
+
+def lose(image, content):
+    """Spoils the tag of each block of an image that holds these 1,024 bytes: the slot that names it is lost then."""
+    data, found = bytearray(read(image)), 0
+    for at in range(0, len(data), CELL):
+        if data[at:at + 1024] == content:
+            data[at + 1024 + 8] ^= 1
+            found += 1
+    write(image, bytes(data))
+    return found
+
+
+@unittest.skipUnless(has_fuse(), "no /dev/fuse: what mounts an image is left out")
+class Mounted(Folders):
+    """An image of version 2 that is mounted."""
+
+    blocks, inodes = 16384, 1024
+
+    def setUp(self):
+        super().setUp()
+        self.image, self.top = self.at("disk.img"), self.at("top")
+        os.mkdir(self.top)
+        serve(self.image, b"", "new", str(self.blocks), str(self.inodes))
+        self.assertEqual(serve(self.image, b"", "upgrade"), ["upgraded"])
+        self.mount = None
+        self.addCleanup(self.unmount)
+        self.remount()
+
+    def remount(self):
+        self.unmount()
+        words = [sys.executable, os.path.join(TOOLS, "nofs-mount"), "--nofs", NOFS, self.image, self.top]
+        self.said = open(self.at("said"), "wb")
+        self.mount = subprocess.Popen(words, stderr=self.said)
+        limit = time.monotonic() + SECONDS
+        while not os.path.ismount(self.top):
+            if self.mount.poll() is not None or time.monotonic() > limit:
+                raise AssertionError(f"not mounted: {read(self.at('said'))!r}")
+            time.sleep(0.02)
+
+    def unmount(self, how=None, status=0):
+        """Ends the mount, by `umount` or as asked, and asks for its status."""
+        if self.mount:
+            (how or (lambda: subprocess.run(["umount", self.top], check=True)))()
+            mount, self.mount = self.mount, None
+            self.assertEqual(mount.wait(SECONDS), status, read(self.at("said")))
+            self.said.close()
+
+    def path(self, *names):
+        return os.path.join(self.top, *names)
+
+    def sh(self, script, status=0):
+        """Runs a script in the mounted directory."""
+        return run(["sh", "-ec", f"cd {self.top}\n{script}"], status=status)[0].decode()
+
+    def refused(self, number, call, *words):
+        with self.assertRaises(OSError) as caught:
+            call(*words)
+        self.assertEqual(errno.errorcode[caught.exception.errno], errno.errorcode[number])
+
+    def program(self):
+        """The process that serves the image."""
+        found = run(["pgrep", "-P", str(self.mount.pid)])[0].split()
+        return int(found[0])
+
+
+class Programs(Mounted):
+    """Programs that know nothing of NoFS."""
+
+    def folder(self):
+        draw = random.Random(3)
+        for name, size in (("a", 0), ("b", 3), ("c", 1024), ("sub/d", 5000), ("sub/deep/e", 300000)):
+            write(self.at("from", name), draw.randbytes(size))
+        os.makedirs(self.at("from", "empty"))
+        return self.at("from")
+
+    def test_a_tree_goes_in_and_out_by_cp_and_tar(self):
+        folder = self.folder()
+        self.sh(f"cp -a {folder} kept; diff -r {folder} kept; tar cf {self.at('one.tar')} kept; mkdir again; tar xf {self.at('one.tar')} -C again")
+        self.remount()
+        self.assertEqual(tree(self.path("kept")), tree(folder))
+        self.assertEqual(tree(self.path("again", "kept")), tree(folder))
+
+    @unittest.skipUnless(shutil.which("rsync"), "no rsync")
+    def test_rsync_finds_nothing_left_to_do(self):
+        folder = self.folder()
+        self.sh(f"rsync -a {folder}/ kept")
+        self.assertEqual(self.sh(f"rsync -ani {folder}/ kept | grep -c '^>f' || true").strip(), "0")
+        self.assertEqual(tree(self.path("kept")), tree(folder))
+
+    @unittest.skipUnless(shutil.which("sqlite3"), "no sqlite3")
+    def test_sqlite_keeps_its_rows_by_both_journals(self):
+        for mode in ("delete", "wal"):
+            rows = "insert into t select value, hex(randomblob(50)) from generate_series(1, 300);"
+            self.sh(f"sqlite3 {mode}.db 'pragma journal_mode={mode}; create table t(a, b); begin; {rows} commit; delete from t where a % 3 = 0'")
+            self.remount()
+            self.assertEqual(self.sh(f"sqlite3 {mode}.db 'pragma integrity_check; select count(*) from t'").split(), ["ok", "200"])
+
+    def test_git_commits_and_finds_no_fault(self):
+        self.sh("git init -q here; cd here; for n in $(seq 30); do echo $n > file$n; done; git add .; git -c user.name=x -c user.email=x@x commit -qm one")
+        self.remount()
+        self.assertEqual(self.sh("cd here; git -c safe.directory='*' fsck 2>&1; git -c safe.directory='*' status --short"), "")
+
+    def test_a_file_is_mapped_appended_to_and_cut(self):
+        script = ("import mmap, os\nf = open('m', 'w+b'); f.truncate(9000); m = mmap.mmap(f.fileno(), 9000)\nm[4090:4100] = b'0123456789'; m.flush(); m.close()\n"
+                  "f.seek(0, 2); f.write(b'end'); f.flush(); f.truncate(9002); os.fsync(f.fileno())")
+        run(["sh", "-ec", f"cd {self.top}; {sys.executable} -c \"$0\"", script])
+        self.remount()
+        self.assertEqual(read(self.path("m")), bytes(4090) + b"0123456789" + bytes(4900) + b"en")
+
+
+class Names(Mounted):
+    """Names that go, come and are taken over."""
+
+    def test_a_removed_file_is_served_until_it_is_closed(self):
+        write(self.path("f"), b"still here")
+        with open(self.path("f"), "r+b") as file:
+            os.remove(self.path("f"))
+            self.assertEqual(os.listdir(self.top), [])
+            file.seek(0, 2)
+            file.write(b", and more")
+            file.seek(0)
+            self.assertEqual(file.read(), b"still here, and more")
+        self.remount()
+        self.assertEqual(os.listdir(self.top), [])
+
+    def test_a_rename_takes_the_place_of_a_name(self):
+        write(self.path("old"), b"old bytes")
+        write(self.path("new"), b"new bytes")
+        with open(self.path("old"), "rb") as open_file:
+            os.replace(self.path("new"), self.path("old"))
+            self.assertEqual(open_file.read(), b"old bytes")
+        self.remount()
+        self.assertEqual(tree(self.top), {"old": b"new bytes"})
+
+    def test_a_file_goes_to_another_directory(self):
+        os.mkdir(self.path("d"))
+        write(self.path("f"), b"moved")
+        os.rename(self.path("f"), self.path("d", "g"))
+        os.mkdir(self.path("e"))
+        self.refused(errno.EXDEV, os.rename, self.path("d"), self.path("e", "d"))
+        self.sh("mv d e/d")                     # a directory goes by a copy
+        self.remount()
+        self.assertEqual(tree(self.top), {"e": None, "e/d": None, "e/d/g": b"moved"})
+
+    def test_1152_names_are_listed_and_the_next_is_refused(self):
+        for number in range(1152):
+            os.mknod(self.path(f"n{number}"))
+        self.refused(errno.ENOSPC, os.mknod, self.path("one-more"))
+        self.remount()
+        self.assertEqual(sorted(os.listdir(self.top)), sorted(f"n{number}" for number in range(1152)))
+
+    blocks, inodes = 16384, 1200
+
+
+class Refusals(Mounted):
+    """Each line of the table of errors that a caller can meet."""
+
+    def test_names(self):
+        write(self.path("f"), b"x")
+        os.makedirs(self.path("d", "sub"))
+        self.refused(errno.ENOENT, os.stat, self.path("none"))
+        self.refused(errno.EEXIST, os.mkdir, self.path("f"))
+        self.refused(errno.ENOTDIR, os.listdir, self.path("f", "x"))
+        self.refused(errno.ENOTDIR, os.rmdir, self.path("f"))
+        self.refused(errno.EISDIR, os.unlink, self.path("d"))
+        self.refused(errno.ENOTEMPTY, os.rmdir, self.path("d"))
+        self.refused(errno.EINVAL, os.mkdir, self.path("a b"))
+        self.refused(errno.ENAMETOOLONG, os.mkdir, self.path("n" * 49))
+        self.refused(errno.EPERM, os.symlink, "f", self.path("link"))
+        self.refused(errno.EPERM, os.mkfifo, self.path("pipe"))
+
+    def test_links(self):
+        write(self.path("f"), b"x")
+        for number in range(3):
+            os.link(self.path("f"), self.path(f"g{number}"))
+        self.refused(errno.EMLINK, os.link, self.path("f"), self.path("g3"))
+        os.mkdir(self.path("d"))
+        self.refused(errno.EXDEV, os.rename, self.path("f"), self.path("d", "f"))
+        self.assertEqual(os.stat(self.path("f")).st_nlink, 4)
+
+    def test_sizes(self):
+        write(self.path("f"), b"x")
+        self.refused(errno.EFBIG, os.truncate, self.path("f"), 4268033)
+        with open(self.path("f"), "wb") as file:
+            self.refused(errno.EFBIG, os.pwrite, file.fileno(), b"x", 4268032)
+        self.assertEqual(os.stat(self.path("f")).st_size, 0)
+
+    def test_a_file_that_is_gone_is_stale(self):
+        write(self.path("f"), b"x")
+        file = os.open(self.path(), os.O_RDONLY)
+        os.remove(self.path("f"))
+        self.refused(errno.ENOENT, os.stat, "f", dir_fd=file)
+        os.close(file)
+
+
+class Full(Mounted):
+    """An image without room."""
+
+    blocks, inodes = 64, 16
+
+    def test_a_full_image_is_no_space_and_what_was_written_stays(self):
+        draw = random.Random(5)
+        kept = draw.randbytes(20000)
+        write(self.path("kept"), kept)
+        with open(self.path("more"), "wb", buffering=0) as file:
+            self.refused(errno.ENOSPC, lambda: [file.write(draw.randbytes(1024)) for _ in range(64)])
+        self.assertEqual(read(self.path("kept")), kept)
+        os.remove(self.path("more"))
+        write(self.path("again"), kept[:10000])
+        self.refused(errno.ENOSPC, lambda: [os.mknod(self.path(f"n{number}")) for number in range(16)])
+        self.remount()
+        self.assertEqual(read(self.path("kept")), kept)
+        self.assertEqual(read(self.path("again")), kept[:10000])
+
+
+class Losses(Mounted):
+    """Images that were damaged, and programs that were killed."""
+
+    def test_a_lost_slot_is_never_a_short_file(self):
+        data = random.Random(7).randbytes(13893)
+        write(self.path("f"), data)
+        self.unmount()
+        self.assertEqual(lose(self.image, data[2048:3072]), 1)
+        self.remount()
+        for _ in range(2):
+            done = subprocess.run(["cat", self.path("f")], capture_output=True)
+            self.assertEqual((done.stdout, done.returncode), (data[:2048], 1))
+        self.assertEqual(os.stat(self.path("f")).st_size, len(data))
+        with open(self.path("f"), "rb") as file:
+            self.refused(errno.EIO, os.pread, file.fileno(), 1, 2048)
+            self.assertEqual(os.pread(file.fileno(), 20000, 3072), data[3072:])
+            self.assertEqual(os.pread(file.fileno(), 100, 1000), data[1000:1100])
+        with open(self.path("f"), "r+b") as file:
+            os.pwrite(file.fileno(), data[2048:3072], 2048)
+        self.assertEqual(read(self.path("f")), data)
+        self.assertIn(b"slot 2 of inode", read(self.at("said")))
+
+    def test_what_was_synced_outlives_a_killed_program_and_open_files_hear_of_it(self):
+        for number in range(20):
+            with open(self.path(f"kept{number}"), "wb") as file:
+                file.write(b"%d" % number * 100)
+                os.fsync(file.fileno())
+        file = os.open(self.path("open"), os.O_RDWR | os.O_CREAT)
+        os.write(file, b"lost, maybe")
+        os.kill(self.program(), signal.SIGKILL)
+        self.refused(errno.EIO, os.fsync, file)
+        self.refused(errno.EIO, os.write, file, b"x")
+        self.refused(errno.EIO, os.pread, file, 1, 0)
+        self.refused(errno.EIO, os.close, file)
+        for number in range(20):
+            self.assertEqual(read(self.path(f"kept{number}")), b"%d" % number * 100)
+        write(self.path("later"), b"goes on")
+        self.remount()
+        self.assertEqual(read(self.path("later")), b"goes on")
+        self.unmount()
+        self.assertEqual(serve(self.image, b"", "salvage"), [])
+
+    def test_a_signal_ends_the_mount_with_all_of_it_durable(self):
+        write(self.path("f"), b"kept")
+        self.unmount(lambda: self.mount.send_signal(signal.SIGTERM))
+        self.assertEqual(serve(self.image, b"get /f 0 4"), ["got bytes:6b657074"])
+
+    def test_an_image_that_is_mounted_is_in_use(self):
+        other = self.at("other")
+        os.mkdir(other)
+        done = subprocess.run([sys.executable, os.path.join(TOOLS, "nofs-mount"), "--nofs", NOFS, self.image, other], capture_output=True)
+        self.assertEqual(done.returncode, 1)
+        self.assertIn(b"in use", done.stderr)
+        self.assertFalse(os.path.ismount(other))
+
+
+class Long(Mounted):
+    """More than one session takes."""
+
+    def test_a_new_session_begins_before_a_stream_is_used_up(self):
+        data = random.Random(11).randbytes(1 << 20)
+        with open(self.path("f"), "wb", buffering=0) as file:
+            for _ in range(18):                 # 18 MiB of frames and more
+                os.pwrite(file.fileno(), data, 0)
+        self.assertEqual(read(self.path("f")), data)
+        self.remount()
+        self.assertEqual(read(self.path("f")), data)
