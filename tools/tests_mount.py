@@ -43,7 +43,7 @@ class Mounted(Folders):
         serve(self.image, b"", "new", str(self.blocks), str(self.inodes))
         self.assertEqual(serve(self.image, b"", "upgrade"), ["upgraded"])
         self.mount = None
-        self.addCleanup(self.unmount)
+        self.addCleanup(self.drop)
         self.remount()
 
     def remount(self):
@@ -56,6 +56,14 @@ class Mounted(Folders):
             if self.mount.poll() is not None or time.monotonic() > limit:
                 raise AssertionError(f"not mounted: {read(self.at('said'))!r}")
             time.sleep(0.02)
+
+    def drop(self):
+        """Ends the mount whatever a case left open in it."""
+        if self.mount:
+            subprocess.run(["umount", "-l", self.top], check=False)
+            self.mount.kill()
+            self.mount.wait()
+            self.said.close()
 
     def unmount(self, how=None, status=0):
         """Ends the mount, by `umount` or as asked, and asks for its status."""
@@ -209,8 +217,8 @@ class Refusals(Mounted):
         write(self.path("f"), b"x")
         file = os.open(self.path(), os.O_RDONLY)
         os.remove(self.path("f"))
-        self.refused(errno.ENOENT, os.stat, "f", dir_fd=file)
-        os.close(file)
+        self.addCleanup(os.close, file)
+        self.refused(errno.ENOENT, lambda: os.stat("f", dir_fd=file))
 
 
 class Full(Mounted):
@@ -257,9 +265,10 @@ class Losses(Mounted):
 
     def test_what_was_synced_outlives_a_killed_program_and_open_files_hear_of_it(self):
         for number in range(20):
-            with open(self.path(f"kept{number}"), "wb") as file:
+            with open(self.path(f"kept{number}"), "wb", buffering=0) as file:
                 file.write(b"%d" % number * 100)
                 os.fsync(file.fileno())
+        write(self.path("unsynced"), b"never flushed")
         file = os.open(self.path("open"), os.O_RDWR | os.O_CREAT)
         os.write(file, b"lost, maybe")
         os.kill(self.program(), signal.SIGKILL)
@@ -269,11 +278,16 @@ class Losses(Mounted):
         self.refused(errno.EIO, os.close, file)
         for number in range(20):
             self.assertEqual(read(self.path(f"kept{number}")), b"%d" % number * 100)
+        sizes = self.sizes()
         write(self.path("later"), b"goes on")
         self.remount()
+        self.assertEqual({**sizes, "later": 7}, self.sizes())
         self.assertEqual(read(self.path("later")), b"goes on")
         self.unmount()
         self.assertEqual(serve(self.image, b"", "salvage"), [])
+
+    def sizes(self):
+        return {entry.name: entry.stat().st_size for entry in os.scandir(self.top)}
 
     def test_a_signal_ends_the_mount_with_all_of_it_durable(self):
         write(self.path("f"), b"kept")

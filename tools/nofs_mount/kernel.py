@@ -21,6 +21,7 @@ NO_SETUID, NO_DEVICES, DETACH = 2, 4, 2
 ASYNC_READ, TRUNCATE, BIG_WRITES, WITH_NODES, WITH_NODES_SOMETIMES, PARALLEL, MOST_PAGES = 1, 1 << 3, 1 << 5, 1 << 13, 1 << 14, 1 << 18, 1 << 22
 WANTED = ASYNC_READ | TRUNCATE | BIG_WRITES | WITH_NODES | WITH_NODES_SOMETIMES | PARALLEL | MOST_PAGES
 FORGET, SYMLINK, INIT, INTERRUPT, DESTROY, FORGET_SOME = 2, 6, 26, 36, 38, 42
+FORGET_ATTRIBUTES = 2                   # what the kernel is told, with no request: those of a node are no longer known
 CALLS = {
     1: "lookup", 3: "getattr", 4: "setattr", 8: "mknod", 9: "mkdir", 10: "unlink", 11: "rmdir", 12: "rename", 13: "link", 14: "open",
     15: "read", 16: "write", 17: "statfs", 18: "release", 20: "fsync", 25: "flush", 27: "opendir", 28: "readdir", 29: "releasedir",
@@ -65,7 +66,7 @@ class Kernel:
     def __init__(self, device, folder, requests, every):
         self.device, self.folder, self.requests, self.every = device, folder, requests, every
         self.program, self.tell = requests.program, requests.tell
-        self.flushed, self.ending = time.monotonic(), False
+        self.flushed, self.ending, self.lost = time.monotonic(), False, False
         for number in (signal.SIGINT, signal.SIGTERM, signal.SIGHUP):
             signal.signal(number, self.end)
 
@@ -98,6 +99,7 @@ class Kernel:
             try:
                 self.program.flush()
             except (Refused, Died) as why:
+                self.lost = self.lost or isinstance(why, Died)
                 self.tell(f"a flush failed: {why}")
 
     def take(self, data):
@@ -112,6 +114,8 @@ class Kernel:
         elif code != INTERRUPT:
             self.requests.caller = (owner, group)
             self.answer(request, *self.served(code, number, fields))
+        if self.lost:
+            self.forget_what_was_lost()
 
     def served(self, code, number, fields):
         """The errno of a request, 0 where it was done, and the fields of its reply."""
@@ -129,7 +133,7 @@ class Kernel:
             return errno.ESTALE, b""
         except Died:
             self.tell(f"the program died ({self.program.said or 'without a word'}); a new one begins from the image")
-            self.requests.nodes.forget_contents()
+            self.lost = True
             return errno.EIO, b""
 
     def refused(self, refused):
@@ -138,8 +142,17 @@ class Kernel:
             self.tell(str(refused))
         if refused.number in (STOPPED, SPENT):
             self.program.renew()
-            self.requests.nodes.forget_contents()
+            self.lost = True
         return ERRNO[refused.number]
+
+    def forget_what_was_lost(self):
+        """Files may be shorter than the kernel was told, or gone."""
+        try:
+            nodes, self.lost = self.requests.refresh(), False
+        except Died:
+            return                      # tried again with the next request
+        for node in nodes:
+            self.answer(0, -FORGET_ATTRIBUTES, struct.pack("<Qqq", node.number, -1, 0))
 
     def answer(self, request, failed, reply):
         try:

@@ -122,7 +122,8 @@ class Nodes:
         if node and number != 1:
             node.seen -= count
             if node.seen <= 0 and not node.opened:
-                del self.by_number[number], self.by_at[node.at]
+                del self.by_number[number]
+                self.by_at.pop(node.at, None)
 
     def forget_contents(self):
         """Nothing that was known of names and contents is known any more."""

@@ -136,6 +136,17 @@ class Requests:
                 _, size, links = struct.unpack("<BQI", body[1:])
                 self.nodes.add(at, kind, size, links)
 
+    def refresh(self):
+        """The program died, or a session stopped: what it had not flushed may be gone, so each node is asked for anew. Gives them."""
+        nodes = [*self.nodes.by_number.values()]
+        self.nodes.forget_contents()
+        for node, body in zip(nodes, self.program.bodies([step(STAT, node) for node in nodes])):
+            if body[0] == 0:
+                _, node.size, node.links = struct.unpack("<BQI", body[1:])
+            else:
+                self.nodes.by_at.pop(node.at, None)
+        return nodes
+
     def attributes(self, node):
         it = node.attributes
         times = [time_ // 10**9 for time_ in (it.accessed, it.modified, it.changed)]
