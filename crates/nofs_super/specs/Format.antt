@@ -1,12 +1,14 @@
 -- What a format leaves on a device.
 use Rattle.std.specs.Prelude.{◌≡◌, ℕ, ◌+◌, ◌*◌, ◌/◌, ◌<◌, ◌≤◌, ◌==◌, if◌then◌else◌, nat_le, List, [], ◌++◌, map, drop}
-use Rattle.std.specs.Prelude.{length, None, Some, Result, Ok, Err}
-use Rattle.std.specs.Prelude.{IsTrue}
+use Rattle.std.specs.Prelude.{length, None, Some, Result, Ok, Err, ◌⊎◌}
+use Rattle.std.specs.Prelude.{IsTrue, OnErr, OnOk, slice_set}
 use Rattle.std.specs.List.{range_with_len}
 use Rattle.std.proofs.lemmas.List.FromFn.{get_or-map-range_with_len, length-map-range_with_len}
 use Rattle.std.proofs.Common.{arith}
 use Rattle.nofs_disk.specs.declared.tag.Cell.{Cell}
 use Rattle.nofs_disk.specs.declared.tag.Kind.TheVariants.{Super, Table}
+use Rattle.nofs_disk.specs.Adds.{Adds}
+use Rattle.nofs_disk.specs.declared.Failed.{Failed}
 use Rattle.nofs_disk.specs.Disk.{DiskState, IsSettled, KeepsCells, Rose, StaysButFaults, cell_at, no_cell}
 use Rattle.nofs_disk.specs.Number.{put_bytes, put_number, zeros}
 use Rattle.nofs_disk.specs.Tag.{tag_bytes, zero_cell}
@@ -70,6 +72,28 @@ unfolding first_formatted
 cell_at-formatted blocks inodes b low =
     get_or-map-range_with_len (formatted_cell blocks inodes) 0 blocks b b no_cell low (omega arith)
 
+-- a cell that a format writes
+pub record IsFreshCell (blocks inodes block : ℕ) (c : Cell) : Type 0 where
+  pub low : block < blocks
+  pub is : c ≡ formatted_cell blocks inodes block
+
+-- the cell of a block was written, and the disk was told to write one out that it keeps back. Where either failed, the
+-- block has its old cell or the new one
+pub record PutsFresh (blocks inodes block : ℕ) (old new : DiskState) (result : Result (Unit {0}) Failed) : Type 0 where
+  pub adds : Adds (IsFreshCell blocks inodes) old new
+  pub moment : new.moment ≡ old.moment + 2
+  pub spare : old.spare ≤ new.spare + 2
+  pub ok : OnOk result (new.now ≡ slice_set old.now block (formatted_cell blocks inodes block))
+  pub err : OnErr result
+      ((new.now ≡ old.now) ⊎ (new.now ≡ slice_set old.now block (formatted_cell blocks inodes block)))
+  pub cause : OnErr result (Rose old.faults new.faults)
+  pub no_fault : OnOk result (new.faults ≡ old.faults)
+
+-- each block has its old cell, or the one that a format gives it
+abbrev pub OldOrFresh : ℕ → ℕ → DiskState → DiskState → Type 0
+OldOrFresh blocks inodes old new =
+    (b : ℕ) → (cell_at new.now b ≡ cell_at old.now b) ⊎ IsFreshCell blocks inodes b (cell_at new.now b)
+
 -- the disk holds what a format writes, and nothing else is possible
 pub record IsFormatted (blocks inodes : ℕ) (old new : DiskState) : Type 0 where
   pub accepted : format_fault old.blocks blocks inodes ≡ None
@@ -78,12 +102,15 @@ pub record IsFormatted (blocks inodes : ℕ) (old new : DiskState) : Type 0 wher
   pub was : new.was new.moment ≡ new.now
   pub clean : new.dirty ≡ []
   pub moment : new.moment ≡ old.moment + (2 * blocks + 2)
+  pub no_fault : new.faults ≡ old.faults
 
 -- a format that a fault of the device ended
 pub record IsFaulted (blocks inodes : ℕ) (old new : DiskState) : Type 0 where
   pub accepted : format_fault old.blocks blocks inodes ≡ None
   pub cause : Rose old.faults new.faults
   pub began : old.moment < new.moment
+  pub most : new.moment ≤ old.moment + (2 * blocks + 2)
+  pub now : OldOrFresh blocks inodes old new
 
 -- a format for which there was no room
 pub record IsShort (blocks inodes : ℕ) (old new : DiskState) : Type 0 where
@@ -107,8 +134,3 @@ FormatEnds blocks inodes old new (Err OutOfMemory) = IsShort blocks inodes old n
 FormatEnds blocks inodes old new (Err (TooSmall least)) = IsFormatRefused blocks inodes (TooSmall least) old new
 FormatEnds blocks inodes old new (Err (TooLarge most)) = IsFormatRefused blocks inodes (TooLarge most) old new
 FormatEnds blocks inodes old new (Err (NotMultiple bad)) = IsFormatRefused blocks inodes (NotMultiple bad) old new
-
--- a cell that a format writes
-pub record IsFreshCell (blocks inodes block : ℕ) (c : Cell) : Type 0 where
-  pub low : block < blocks
-  pub is : c ≡ formatted_cell blocks inodes block

@@ -1,18 +1,20 @@
 //! A device is formatted.
-ghost use Rattle.std.specs.Prelude.{◌≡◌, ◌<◌, IsTrue, OnOk, Some, ℕ};
+ghost use Rattle.std.specs.Prelude.{◌≡◌, ◌<◌, ◌≤◌, IsTrue, OnOk, Some, ℕ};
 ghost use Rattle.nofs_disk.specs.Adds.{Adds};
 ghost use Rattle.nofs_disk.specs.Disk.{cell_at};
 ghost use Rattle.nofs_disk.specs.Tag.{zero_cell};
-ghost use Rattle.nofs_super.specs.Format.{FormatEnds, IsFreshCell, first_records, formatted_cell, table_cell};
+ghost use Rattle.nofs_super.specs.Format.{FormatEnds, IsFreshCell, PutsFresh, first_records, formatted_cell};
+ghost use Rattle.nofs_super.specs.Format.{table_cell};
 ghost use Rattle.nofs_super.specs.Geometry.{format_fault};
 ghost use Rattle.nofs_super.specs.declared.geometry.FormatFault.{FormatFault};
 
 use crate::geometry::{FormatFault, refusal};
 use crate::superblock::{SuperBlock, write_super};
-use nofs_disk::{Cell, Disk, Kind, Tag, clear, write_tag, write_u32_at, write_u64_at};
+use nofs_disk::{Cell, Disk, Failed, Kind, Tag, clear, write_tag, write_u32_at, write_u64_at};
 
 /// Writes each block below `blocks` once, and flushes once: a superblock of version 1 and mount
-/// number 0, a table of `inodes` inodes with the root and the label file, and cells of zeros.
+/// number 0, a table of `inodes` inodes with the root and the label file, and cells of zeros. Of a
+/// disk that keeps writes back one cell at most waits at a time: each is written out at once.
 ///
 /// A crash during the call may leave any mix of old cells and new ones; run it again then.
 ///
@@ -32,13 +34,12 @@ pub fn format<D: Disk>(disk: &mut D, blocks: u64, inodes: u64) -> Result<(), For
         Some(fault) => return Err(fault),
         None => {}
     }
-    if disk.ready(blocks + 1).is_err() {
+    if disk.ready(2 * blocks + 1).is_err() {
         return Err(FormatFault::OutOfMemory);
     }
     let mut cell = Cell::ZERO;
     for block in 0..blocks {
-        write_fresh(block, blocks, inodes, &mut cell);
-        if disk.write(block, &cell).is_err() {
+        if put_fresh(disk, block, blocks, inodes, &mut cell).is_err() {
             return Err(FormatFault::WriteFault);
         }
     }
@@ -50,7 +51,27 @@ pub fn format<D: Disk>(disk: &mut D, blocks: u64, inodes: u64) -> Result<(), For
     }
 }
 
-// Writes the cell that a format gives to a block.
+// Writes the cell that a format gives to a block to the disk, and writes out what the disk keeps
+// back of it. The cell is made in `into`.
+fn put_fresh<D: Disk>(
+    disk: &mut D,
+    block: u64,
+    blocks: u64,
+    inodes: u64,
+    into: &mut Cell,
+) -> Result<(), Failed>
+    requires block { block < blocks }
+    requires fits { blocks ≤ (D.state disk.old).blocks }
+    requires spare { 2 ≤ (D.state disk.old).spare }
+    ensures { PutsFresh blocks inodes block (D.state disk.old) (D.state disk.new) result }
+{
+    write_fresh(block, blocks, inodes, into);
+    disk.write(block, into)?;
+    disk.write_out()?;
+    Ok(())
+}
+
+// Makes the cell that a format gives to a block.
 #[tactic(auto, unfolding(crate::specs::Format::formatted_cell))]
 fn write_fresh(block: u64, blocks: u64, inodes: u64, into: &mut Cell)
     ensures { into.new ≡ formatted_cell blocks inodes block }

@@ -14,16 +14,16 @@ loop-block-init g c = written-none c.args.blocks c.args.inodes _ _ c.ready.resul
 
 pub loop-block-preserved : goal.loop-block-preserved
 loop-block-preserved g c =
-    written-more c.args.blocks c.args.inodes c.loop-block.block _ _ _ _ c.write.result
+    written-more c.args.blocks c.args.inodes c.loop-block.block _ _ _ c.put_fresh.result c.loop-block-test.true
+    c.loop-block.invariant c.put_fresh.ensures
     (sym c.is_err-in-loop-block.ensures.value ∙ c.if-is_err-2.false)
-    (g.met.D.Disk.is_disk c.args.disk.now) (g.met.D.Disk.is_disk c.write.new.self) c.loop-block-test.true
-    (let f = c.in-None.ensures.fits in let b =
-    c.blocks-2.ensures in omega arith) c.loop-block.invariant c.write_fresh.ensures c.write.ensures
+    (g.met.D.Disk.is_disk c.args.disk.now)
+    (let f = c.in-None.ensures.fits in let b = c.blocks-2.ensures in omega arith)
 
 pub returns-then-is_err-2-clause-adds : goal.returns-then-is_err-2-clause-adds
 returns-then-is_err-2-clause-adds g c =
-    adds-more c.args.blocks c.args.inodes c.loop-block.block _ _ _ _ (g.met.D.Disk.is_disk c.write.new.self)
-    c.loop-block-test.true c.loop-block.invariant c.write_fresh.ensures c.write.ensures
+    adds-more c.args.blocks c.args.inodes c.loop-block.block _ _ _ c.put_fresh.result c.loop-block-test.true
+    c.loop-block.invariant c.put_fresh.ensures
 
 pub returns-in-Ok-clause-adds : goal.returns-in-Ok-clause-adds
 returns-in-Ok-clause-adds g c =
