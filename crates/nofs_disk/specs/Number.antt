@@ -112,14 +112,15 @@ take-byte (suc n) (x ∷ xs) small (suc k) = take-byte n xs (λ j. small (suc j)
 pub drop-byte : (n : ℕ) (xs : List ℕ) → ((k : ℕ) → slice_index xs k < 256) → (k : ℕ) → slice_index (drop n xs) k < 256
 drop-byte n xs small k = let e = get_or-drop n xs k 0 in let s = small (n + k) in omega arith
 
-byte_at-lt : (j x : ℕ) → byte_at j x < 256
-byte_at-lt zero x = omega arith
-byte_at-lt (suc j) x = omega arith
-
-little_bytes-byte : (i n x k : ℕ) → slice_index (bytes_low_first i n x) k < 256
+-- the bytes of a number, from its i-th on
+pub little_bytes-byte : (i n x k : ℕ) → slice_index (bytes_low_first i n x) k < 256
 little_bytes-byte i zero x k = omega arith
-little_bytes-byte i (suc n) x zero = byte_at-lt i x
 little_bytes-byte i (suc n) x (suc k) = little_bytes-byte (suc i) n x k
+little_bytes-byte i (suc n) x zero = lowest i
+  where
+    lowest : (j : ℕ) → byte_at j x < 256
+    lowest zero = omega arith
+    lowest (suc j) = omega arith
 
 pub zeros-byte : (n k : ℕ) → slice_index (zeros n) k < 256
 unfolding zeros

@@ -1,6 +1,6 @@
 -- Pointers, and the 16 bytes that hold one: the block, then the stamp.
-use Rattle.std.specs.Prelude.{◌≡◌, ℕ, ◌+◌, ◌^◌, ◌<◌, ◌≤◌, ◌==◌, ◌&&◌, Bool, List, length}
-use Rattle.std.proofs.Common.{arith, ◌∙◌}
+use Rattle.std.specs.Prelude.{◌≡◌, ℕ, ◌+◌, ◌^◌, ◌<◌, ◌≤◌, ◌==◌, ◌&&◌, ◌⊎◌, Bool, List, length}
+use Rattle.std.proofs.Common.{arith, inl, inr, ◌∙◌}
 use Rattle.nofs_disk.specs.Number.{number_at, put_number, length-put_number, number_at-put_same, number_at-put_before}
 use Rattle.nofs_disk.specs.Number.{number_at-put_after}
 use Rattle.nofs_disk.specs.declared.tag.Pointer.{Pointer}
@@ -33,23 +33,30 @@ length-put_pointer at it bytes fits =
     let first = length-put_number 8 at it.block bytes (omega arith) in
     length-put_number 8 (at + 8) it.stamp (put_number 8 at it.block bytes) (omega arith) ∙ first
 
--- a number behind a pointer that was put stays
+-- a number apart from a pointer that was put stays
+number_at-put_pointer : (at m to : ℕ) (it : Pointer) (bytes : List ℕ) → at + 16 ≤ length bytes
+    → (at + 16 ≤ to) ⊎ (to + m ≤ at) → number_at m to (put_pointer at it bytes) ≡ number_at m to bytes
+unfolding put_pointer
+number_at-put_pointer at m to it bytes fits apart =
+    let len = length-put_number 8 at it.block bytes (omega arith) in
+    elim apart [
+      | inl after ↦
+          number_at-put_before 8 (at + 8) m to it.stamp (put_number 8 at it.block bytes) (omega arith) (omega arith)
+          ∙ number_at-put_before 8 at m to it.block bytes (omega arith) (omega arith)
+      | inr before ↦
+          number_at-put_after 8 (at + 8) m to it.stamp (put_number 8 at it.block bytes) (omega arith) (omega arith)
+          ∙ number_at-put_after 8 at m to it.block bytes (omega arith) (omega arith)
+    ]
+
+-- as it does behind the pointer
 pub number_at-put_pointer_before : (at m to : ℕ) (it : Pointer) (bytes : List ℕ) → at + 16 ≤ length bytes → at + 16 ≤ to
     → number_at m to (put_pointer at it bytes) ≡ number_at m to bytes
-unfolding put_pointer
-number_at-put_pointer_before at m to it bytes fits after =
-    let len = length-put_number 8 at it.block bytes (omega arith) in
-    number_at-put_before 8 (at + 8) m to it.stamp (put_number 8 at it.block bytes) (omega arith) (omega arith)
-    ∙ number_at-put_before 8 at m to it.block bytes (omega arith) (omega arith)
+number_at-put_pointer_before at m to it bytes fits after = number_at-put_pointer at m to it bytes fits (inl after)
 
--- a number before a pointer that was put stays
+-- and before it
 pub number_at-put_pointer_after : (at m to : ℕ) (it : Pointer) (bytes : List ℕ) → at + 16 ≤ length bytes → to + m ≤ at
     → number_at m to (put_pointer at it bytes) ≡ number_at m to bytes
-unfolding put_pointer
-number_at-put_pointer_after at m to it bytes fits before =
-    let len = length-put_number 8 at it.block bytes (omega arith) in
-    number_at-put_after 8 (at + 8) m to it.stamp (put_number 8 at it.block bytes) (omega arith) (omega arith)
-    ∙ number_at-put_after 8 at m to it.block bytes (omega arith) (omega arith)
+number_at-put_pointer_after at m to it bytes fits before = number_at-put_pointer at m to it bytes fits (inr before)
 
 -- the pointer that was put is read
 pub pointer_in-put_same : (at : ℕ) (it : Pointer) (bytes : List ℕ) → IsPointer it → at + 16 ≤ length bytes

@@ -25,7 +25,6 @@ pub fn read_u64_at(bytes: &[u8], at: usize) -> u64
 }
 
 /// Puts a number into the four bytes from a place on. The other bytes stay.
-#[tactic(auto, unfolding(crate::specs::Number::put_number))]
 pub fn write_u32_at(bytes: &mut [u8], at: usize, number: u32)
     requires { at + 4 ≤ length bytes.old }
     ensures put { bytes.new ≡ put_number 4 at number bytes.old }
@@ -35,7 +34,6 @@ pub fn write_u32_at(bytes: &mut [u8], at: usize, number: u32)
 }
 
 /// Puts a number into the eight bytes from a place on. The other bytes stay.
-#[tactic(auto, unfolding(crate::specs::Number::put_number))]
 pub fn write_u64_at(bytes: &mut [u8], at: usize, number: u64)
     requires { at + 8 ≤ length bytes.old }
     ensures put { bytes.new ≡ put_number 8 at number bytes.old }
