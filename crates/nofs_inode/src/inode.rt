@@ -290,7 +290,8 @@ fn write_links(bytes: &mut [u8], at: usize, links: &[BackLink; 4])
     ensures beside { SameBeside at 64 bytes.old bytes.new }
 {
     for j in 0..4 {
-        write_link_at(bytes, at + 16 * j, links[j]);
+        let place = at + 16 * j;
+        write_link_at(bytes, place, links[j]);
     }
 }
 
