@@ -18,6 +18,15 @@ use Rattle.nofs_versions.specs.Laws.{picks-within, within_from, within_has, held
 use Rattle.nofs_versions.proofs.OnMemory.Cells.{flush_now, flush_of, held_after-push, may_cases, may_of, now_cases}
 use Rattle.nofs_versions.proofs.OnMemory.Cells.{now_of, only_one, write_others}
 
+-- what may be held during a call is as it was when one more call was made
+during_same : (base : List Cell) (calls : List Call) (call : Call) (k : ℕ) → k < length calls
+    → may_during (held_after base (take k (calls ++ call ∷ []))) (call_at (calls ++ call ∷ []) k)
+    ≡ may_during (held_after base (take k calls)) (call_at calls k)
+during_same base calls call k low =
+    let p = take-append-le k calls (call ∷ []) (omega arith) in
+    let q = get_or_append_left calls (call ∷ []) (Flush false) k low in
+    λ i. may_during (held_after base (p i)) (q i)
+
 -- the moments up to the one at which a call began are as they were
 pub keeps_past : (start : ℕ) (base : List Cell) (calls : List Call) (call : Call) (s f t g : ℕ)
     → KeepsPast (state_of start base calls s f) (state_of start base (calls ++ call ∷ []) t g)
@@ -35,15 +44,12 @@ keeps_past start base calls call s f t g = record {
         })
     | inr mid ↦
         let k_low : mid.k < length calls = (let e = mid.at in omega arith) in
-        let F : List Call → Type 0 =
-        λ l. Picks (may_during (held_after base l) (call_at (calls ++ call ∷ []) mid.k)) (length base) image in
-        let G : Call → Type 0 = λ c. Picks (may_during (held_after base (take mid.k calls)) c) (length base) image in
+        let F : (ℕ → List Cell) → Type 0 = λ may. Picks may (length base) image in
         inr (record {
           k = mid.k;
           at = mid.at;
           made = k_low;
-          picks = subst G (get_or_append_left calls (call ∷ []) (Flush false) mid.k k_low)
-              (subst F (take-append-le mid.k calls (call ∷ []) (omega arith)) mid.picks);
+          picks = subst F (during_same base calls call mid.k k_low) mid.picks;
         })
   ];
   no_less = λ m image low left. elim left [
@@ -58,16 +64,12 @@ keeps_past start base calls call s f t g = record {
               (sym (take-append-le rest.k calls (call ∷ []) k_low)) rest.picks;
         })
     | inr mid ↦
-        let k_low = mid.made in
-        let F : List Call → Type 0 =
-        λ l. Picks (may_during (held_after base l) (call_at (calls ++ call ∷ []) mid.k)) (length base) image in
-        let G : Call → Type 0 = λ c. Picks (may_during (held_after base (take mid.k calls)) c) (length base) image in
+        let F : (ℕ → List Cell) → Type 0 = λ may. Picks may (length base) image in
         inr (record {
           k = mid.k;
           at = mid.at;
           made = (let e = length_push calls call in omega arith);
-          picks = subst F (sym (take-append-le mid.k calls (call ∷ []) (omega arith)))
-              (subst G (sym (get_or_append_left calls (call ∷ []) (Flush false) mid.k k_low)) mid.picks);
+          picks = subst F (sym (during_same base calls call mid.k mid.made)) mid.picks;
         })
   ];
 }
