@@ -18,7 +18,7 @@ use Rattle.nofs_super.specs.Geometry.{IsGeometry}
 use Rattle.nofs_model.proofs.OnFiles.Parents.{any-links, linked-is, root-is, special-is}
 use Rattle.nofs_agree.specs.Chain.{AreTrue, IsDirectoryAbove, IsPartner, ReadsPair, ReadsParent, TellsAgreed}
 use Rattle.nofs_agree.specs.Chain.{first_link, is_agreed_link}
-use Rattle.nofs_agree.proofs.OnPair.{first-decides, four-links}
+use Rattle.nofs_agree.proofs.OnPair.{first-decides, four-of}
 use Rattle.nofs_agree.specs.Reads.{IsAt, IsLast, KnowsDirectory, KnowsInode}
 use Rattle.nofs_agree.specs.declared.chain.Directory.{Directory}
 use Rattle.nofs_agree.specs.declared.reads.LastRead.{LastRead}
@@ -198,10 +198,10 @@ tells-is now new known says last res answer tells is = subst (TellsAgreed now ne
 -- none of the first so many back links is a pair with an agreed directory
 pub record Passed (old now : DiskState) (known : List (Option Bool)) (i : ℕ) (r : Record) (last : LastRead)
     (place : ℕ) : Type 0 where
-  pub stays : StaysButFaults old now
-  pub kept : IsLast now last
   pub none : IsTrue old.tells → AreTrue old.now known
       → (k : ℕ) → k < place → is_agreed_link (files_in old.now) i (get_or r.links k no_link) ≡ false
+  pub stays : StaysButFaults old now
+  pub kept : IsLast now last
 
 pub passed-goes : (old now new : DiskState) (known : List (Option Bool)) (i : ℕ) (r : Record) (last next : LastRead)
     (place : ℕ) (res : Result Bool Failed)
@@ -241,8 +241,7 @@ passed-found old now new at known i r last next place res is p low reads e =
     record {
       stays = StaysButFaults-trans old now new p.stays q.stays;
       found = λ t a.
-          let four : length r.links ≡ 4 =
-          subst (λ (q : Record). length q.links ≡ 4) (is.same t) (four-links old.now i) in
+          let four = four-of old at i r is t in
           let here : true ≡ is_agreed_link (files_in old.now) i (get_or r.links place no_link) =
           subst (λ (X : Image). true ≡ is_agreed_link (files_in X) i (get_or r.links place no_link)) p.stays.cells.now
           (q.found (told-on old now p.stays t) (subst (λ (X : Image). AreTrue X known) (sym p.stays.cells.now) a)) in
@@ -258,8 +257,7 @@ pub passed-ends : (old now : DiskState) (at : SuperBlock) (known : List (Option 
     → TellsAgreed old now known (λ X. list_any (is_agreed_link (files_in X) i) r.links) last (Ok false)
 passed-ends old now at known i r last place is p whole = record {
   stays = p.stays;
-  found = λ t a. let four : length r.links ≡ 4 =
-      subst (λ (q : Record). length q.links ≡ 4) (is.same t) (four-links old.now i) in
+  found = λ t a. let four = four-of old at i r is t in
       sym (list_any_none (is_agreed_link (files_in old.now) i) r.links (λ k d low.
       ap (is_agreed_link (files_in old.now) i) (get_or_default r.links k d no_link low)
       ∙ p.none t a k (omega (arith, low, four, whole))));

@@ -1,6 +1,6 @@
 -- A directory has one back link at most, so its first one decides.
 use Rattle.std.proofs.Common.{◌≡◌, ℕ, zero, suc, ◌+◌, ◌-◌, ◌*◌, ◌/◌, ◌%◌, ◌≤◌, Bool, true, false, cond, ltb, ◌&&◌, ◌||◌}
-use Rattle.std.proofs.Common.{not, List, [], ◌∷◌, length, get_or}
+use Rattle.std.proofs.Common.{not, IsTrue, List, [], ◌∷◌, length, get_or}
 use Rattle.std.proofs.Common.{Option, Some, None, refl, sym, ap, ◌∙◌, subst, arith, ltb-false}
 use Rattle.std.specs.List.{list_any, count_by, position, position_or_len}
 use Rattle.std.proofs.lemmas.List.Sums.{sum_by-cons}
@@ -12,9 +12,11 @@ use Rattle.nofs_inode.specs.declared.inode.Record.{Record}
 use Rattle.nofs_inode.specs.InodeRecords.{fields_in, free_record, is_empty_link, no_link, record_at, record_of}
 use Rattle.nofs_model.specs.Files.{agreed, files_in, has_agreed_link, is_pair}
 use Rattle.nofs_model.specs.Geometry.{Image, inode, is_inode}
-use Rattle.nofs_disk.specs.Disk.{cell_at}
+use Rattle.nofs_disk.specs.Disk.{DiskState, cell_at}
 use Rattle.nofs_model.proofs.OnFiles.Parents.{any-links, empty-unpaired}
+use Rattle.nofs_super.specs.declared.superblock.SuperBlock.{SuperBlock}
 use Rattle.nofs_agree.specs.Chain.{first_link}
+use Rattle.nofs_agree.specs.Reads.{KnowsInode}
 
 abbrev full : BackLink → Bool
 full l = not (is_empty_link l)
@@ -122,3 +124,8 @@ links-read at payload = refl
 -- a record has four places for back links
 pub four-links : (X : Image) (i : ℕ) → length (inode X i).links ≡ 4
 four-links = every-record (λ r. length r.links ≡ 4) refl links-read
+
+-- so has the one that is known
+pub four-of : (old : DiskState) (at : SuperBlock) (i : ℕ) (r : Record) → KnowsInode old at i r → IsTrue old.tells
+    → length r.links ≡ 4
+four-of old at i r is t = subst (λ (q : Record). length q.links ≡ 4) (is.same t) (four-links old.now i)
