@@ -1,6 +1,6 @@
 -- The counts of used, free and unknown elements.
 use Rattle.std.proofs.Common.{◌≡◌, ℕ, zero, suc, ◌+◌, ◌-◌, ◌<◌, min, Bool, true, false, cond, not, ◌&&◌, leb, ltb}
-use Rattle.std.proofs.Common.{lt-ltb, length, refl, sym, ap, ◌∙◌, arith}
+use Rattle.std.proofs.Common.{lt-ltb, List, length, refl, sym, ap, ◌∙◌, arith}
 use Rattle.std.proofs.Common.{le-leb}
 use Rattle.nofs_bits.specs.Bits.{count_set, is_set}
 use Rattle.nofs_history.specs.Search.{count_below}
@@ -38,14 +38,24 @@ all-blocks W = three-ways (λ p. W.known_blocks p) (λ p. uses_block W p) W.bloc
 pub all-inodes : (W : World) → used_inodes W + free_inodes W + unverified_inodes W ≡ W.inodes
 all-inodes W = three-ways (λ n. W.known_inodes (suc n)) (λ n. uses_inode W (suc n)) W.inodes
 
+-- so many places of a map are set as there are elements of which the machine says so
+counted : (bits : List Bool) (P : ℕ → Bool) (n all : ℕ) → length bits ≡ n → all ≡ n
+    → ((m : ℕ) → m < n → is_set bits m ≡ P m) → count_set bits ≡ count_below P all
+counted bits P n all len whole same = count-is bits
+    ∙ count-same (λ m. is_set bits m) P (length bits) (λ m lt. same m (omega (arith, lt, len)))
+    ∙ ap (count_below P) (len ∙ sym whole)
+
+twice : (b : Bool) → not (not b) ≡ b
+twice true = refl
+twice false = refl
+
 -- the counts of the maps
 module _ (k : Books) (W : World) (says : Says k W) where
   pub free-inodes-count : length k.free_inodes ≡ k.at.inodes → count_set k.free_inodes ≡ free_inodes W
-  free-inodes-count len = count-is k.free_inodes
-      ∙ count-same (λ n. is_set k.free_inodes n) (λ n. is_free_inode W (suc n)) (length k.free_inodes)
+  free-inodes-count len =
+      counted k.free_inodes (λ n. is_free_inode W (suc n)) k.at.inodes W.inodes len says.inodes
       (λ m lt. let s : suc m - 1 ≡ m = omega arith in
-      ap (is_set k.free_inodes) (sym s) ∙ says.free_inodes (suc m) (omega arith) (omega (arith, lt, len)))
-      ∙ ap (count_below (λ n. is_free_inode W (suc n))) (len ∙ sym says.inodes)
+      ap (is_set k.free_inodes) (sym s) ∙ says.free_inodes (suc m) (omega arith) (omega (arith, lt)))
 
   unknown-inode : (n : ℕ) → n < k.at.inodes → is_set k.unknown_inodes n ≡ not (W.known_inodes (suc n))
   unknown-inode n lt =
@@ -55,38 +65,24 @@ module _ (k : Books) (W : World) (says : Says k W) where
       let q : knows_inode k (suc n) ≡ not (is_set k.unknown_inodes (suc n - 1)) = rw (a, t) refl in
       sym (ap not (says.known_inodes (suc n) ∙ q) ∙ twice (is_set k.unknown_inodes (suc n - 1))
       ∙ ap (is_set k.unknown_inodes) s)
-    where
-      twice : (b : Bool) → not (not b) ≡ b
-      twice true = refl
-      twice false = refl
 
   pub unknown-inodes-count : length k.unknown_inodes ≡ k.at.inodes → count_set k.unknown_inodes ≡ unverified_inodes W
-  unknown-inodes-count len = count-is k.unknown_inodes
-      ∙ count-same (λ n. is_set k.unknown_inodes n) (λ n. not (W.known_inodes (suc n))) (length k.unknown_inodes)
-      (λ m lt. unknown-inode m (omega (arith, lt, len)))
-      ∙ ap (count_below (λ n. not (W.known_inodes (suc n)))) (len ∙ sym says.inodes)
+  unknown-inodes-count len =
+      counted k.unknown_inodes (λ n. not (W.known_inodes (suc n))) k.at.inodes W.inodes len says.inodes unknown-inode
 
   pub free-blocks-count : length k.free_blocks ≡ k.at.blocks → count_set k.free_blocks ≡ free_blocks W
-  free-blocks-count len = count-is k.free_blocks
-      ∙ count-same (λ n. is_set k.free_blocks n) (λ q. is_free_block W q) (length k.free_blocks)
-      (λ m lt. says.free_blocks m (omega (arith, lt, len)))
-      ∙ ap (count_below (λ q. is_free_block W q)) (len ∙ sym says.blocks)
+  free-blocks-count len =
+      counted k.free_blocks (λ q. is_free_block W q) k.at.blocks W.blocks len says.blocks says.free_blocks
 
   unknown-block : (q : ℕ) → q < k.at.blocks → is_set k.unknown_blocks q ≡ not (W.known_blocks q)
   unknown-block q lt =
       let t : ltb q k.at.blocks ≡ true = lt-ltb q k.at.blocks lt in
       let n : knows_block k q ≡ not (is_set k.unknown_blocks q) = rw t refl in
       sym (ap not (says.known_blocks q ∙ n) ∙ twice (is_set k.unknown_blocks q))
-    where
-      twice : (b : Bool) → not (not b) ≡ b
-      twice true = refl
-      twice false = refl
 
   pub unknown-blocks-count : length k.unknown_blocks ≡ k.at.blocks → count_set k.unknown_blocks ≡ unverified_blocks W
-  unknown-blocks-count len = count-is k.unknown_blocks
-      ∙ count-same (λ n. is_set k.unknown_blocks n) (λ q. not (W.known_blocks q)) (length k.unknown_blocks)
-      (λ m lt. unknown-block m (omega (arith, lt, len)))
-      ∙ ap (count_below (λ q. not (W.known_blocks q))) (len ∙ sym says.blocks)
+  unknown-blocks-count len =
+      counted k.unknown_blocks (λ q. not (W.known_blocks q)) k.at.blocks W.blocks len says.blocks unknown-block
 
 -- the three numbers that are kept are those of the machine, where they are so many together
 pub split-is : (all used free unchecked u f n : ℕ) → u + f + n ≡ all → unchecked ≡ n → free ≡ min f (all - n)

@@ -11,7 +11,6 @@ use Rattle.nofs_disk.specs.Disk.{DiskState, IsDisk, StaysButFaults}
 use Rattle.nofs_model.specs.Files.{is_special}
 use Rattle.nofs_history.specs.Search.{first_of}
 use Rattle.nofs_history.specs.World.{World, uses_inode}
-use Rattle.nofs_history.specs.Claims.{no_claims}
 use Rattle.nofs_history.specs.Refusals.{rows}
 use Rattle.nofs_history.specs.Next.{Learns}
 use Rattle.nofs_history.specs.declared.machine.history.Entry1.{Entry1}
@@ -21,14 +20,14 @@ use Rattle.nofs_agree.specs.Chain.{known_agreement}
 use Rattle.nofs_agree.proofs.OnKnown.{told-here, told-other}
 use Rattle.nofs_state.specs.Books.Maps.{IsSafe, Says}
 use Rattle.nofs_state.specs.Cores.Invariant.{IsOpen, Past}
-use Rattle.nofs_state.specs.Cores.Steps.{Follows, entry}
 use Rattle.nofs_state.specs.Books.Verdicts.{learned_inode, verdict_of_inode}
 use Rattle.nofs_state.specs.declared.books.maps.Books.{Books}
 use Rattle.nofs_state.proofs.OnBooks.Bits.{set-here, set-other, set-length}
 use Rattle.nofs_state.proofs.OnCores.Replies.{learns-known}
 use Rattle.nofs_state.proofs.OnBooks.Safe.{safe-sizes}
 use Rattle.nofs_state.proofs.OnBooks.Worlds.{says-maps}
-use Rattle.nofs_state.proofs.OnCores.Sees.{follows-seen, learns-seen, sees-inode, stands, verdict-is}
+use Rattle.nofs_state.proofs.OnCores.Sees.{FollowsSeen, follows-seen, follows-stood, learns-seen, sees-inode, stands}
+use Rattle.nofs_state.proofs.OnCores.Sees.{verdict-is}
 
 abbrev with_inode : World → ℕ → World
 with_inode W i = record W { known_inodes = λ j. eqb j i || W.known_inodes j }
@@ -155,22 +154,15 @@ module _ (old new : DiskState) (k : Books) (i : ℕ) (used : Bool) (is : IsDisk 
 
   -- the verdict stood
   pub inode-stood : (caller : ℕ) (H : List Entry1) (p : Past) → IsTrue old.tells → IsOpen old k H p
-      → verdict_of_inode k i ≡ Some used
-      → Follows old new k H p (entry caller old new (step.SeeInode i) no_claims (reply.Seen used))
+      → verdict_of_inode k i ≡ Some used → FollowsSeen old new k (step.SeeInode i) used caller H p
   inode-stood caller H p tells o stood =
-      follows-seen old new k k (step.SeeInode i) used is stays refl refl going going caller H p
-      p.world.known_inodes p.world.known_blocks o (sees-inode i) tells
-      (record {
-        rows = inode-row p.world p.world i k.at.inodes o.says.inodes low high;
-        reply = ap reply.Seen (inode-stands H p o stood);
-        learns = learns-again p.world i (inode-known H p o stood);
-      }) o.says
+      follows-stood old new k (step.SeeInode i) used is stays going caller H p tells o (sees-inode i)
+      (inode-row p.world p.world i k.at.inodes o.says.inodes low high) (ap reply.Seen (inode-stands H p o stood))
+      (learns-again p.world i (inode-known H p o stood))
 
   -- it was learned
   pub inode-learned : (caller : ℕ) (H : List Entry1) (p : Past) → IsTrue old.tells → IsOpen old k H p
-      → used ≡ uses_inode p.world i
-      → Follows old new (learned_inode k i used) H p
-      (entry caller old new (step.SeeInode i) no_claims (reply.Seen used))
+      → used ≡ uses_inode p.world i → FollowsSeen old new (learned_inode k i used) (step.SeeInode i) used caller H p
   inode-learned caller H p tells o right =
       follows-seen old new k (learned_inode k i used) (step.SeeInode i) used is stays refl refl going going caller H p
       (λ j. eqb j i || p.world.known_inodes j) p.world.known_blocks o (sees-inode i) tells

@@ -114,6 +114,19 @@ module _ (old new : DiskState) (k l : Books) (s : Step) (used : Bool) (is : IsDi
         (record { given = seeing.gives W.files; files = files-stay-so; no_flush = refl; no_fault = refl })
         (next-seen sees) keeps says at still refl
 
+-- the history goes on over a See step that answered so
+abbrev pub FollowsSeen : DiskState → DiskState → Books → Step → Bool → ℕ → List Entry1 → Past → Type 0
+FollowsSeen old new l s used caller H p = Follows old new l H p (entry caller old new s no_claims (reply.Seen used))
+
+-- so it does where the verdict stood, and the books stay
+pub follows-stood : (old new : DiskState) (k : Books) (s : Step) (used : Bool) → IsDisk old → StaysButFaults old new
+    → k.stopped ≡ false → (caller : ℕ) (H : List Entry1) (p : Past) → IsTrue old.tells → IsOpen old k H p → IsSeeing s
+    → first_of (rows p.world p.world s) ≡ None → reply.Seen used ≡ reply_of p.world s no_claims
+    → Learns p.world s true p.world → FollowsSeen old new k s used caller H p
+follows-stood old new k s used is stays going caller H p tells o seeing row answer learned =
+    follows-seen old new k k s used is stays refl refl going going caller H p p.world.known_inodes
+    p.world.known_blocks o seeing tells (record { rows = row; reply = answer; learns = learned }) o.says
+
 pub seen-causes : (old new : DiskState) (k l : Books) (used : Bool) → KeepsCells old new
     → k.stopped ≡ false → l.stopped ≡ false
     → Causes old new k l (reply.Seen used)
@@ -274,23 +287,15 @@ module _ (old new : DiskState) (k : Books) (b : ℕ) (used : Bool) (is : IsDisk 
 
   -- the verdict stood
   pub block-stood : (caller : ℕ) (H : List Entry1) (p : Past) → IsTrue old.tells → IsOpen old k H p
-      → verdict_of_block k b ≡ Some used
-      → Follows old new k H p (entry caller old new (step.SeeBlock b) no_claims (reply.Seen used))
+      → verdict_of_block k b ≡ Some used → FollowsSeen old new k (step.SeeBlock b) used caller H p
   block-stood caller H p tells o stood =
-      let again = learns-again p.world b (block-known H p o stood) in
-      follows-seen old new k k (step.SeeBlock b) used is stays refl refl going going caller H p p.world.known_inodes
-      p.world.known_blocks o (sees-block b) tells
-      (record {
-        rows = block-row p.world p.world b k.at.blocks o.says.blocks low;
-        reply = ap reply.Seen (block-stands H p o stood);
-        learns = again;
-      }) o.says
+      follows-stood old new k (step.SeeBlock b) used is stays going caller H p tells o (sees-block b)
+      (block-row p.world p.world b k.at.blocks o.says.blocks low) (ap reply.Seen (block-stands H p o stood))
+      (learns-again p.world b (block-known H p o stood))
 
   -- it was learned
   pub block-learned : (caller : ℕ) (H : List Entry1) (p : Past) → IsTrue old.tells → IsOpen old k H p
-      → used ≡ uses_block p.world b
-      → Follows old new (learned_block k b used) H p
-      (entry caller old new (step.SeeBlock b) no_claims (reply.Seen used))
+      → used ≡ uses_block p.world b → FollowsSeen old new (learned_block k b used) (step.SeeBlock b) used caller H p
   block-learned caller H p tells o right =
       follows-seen old new k (learned_block k b used) (step.SeeBlock b) used is stays refl refl going going caller H p
       p.world.known_inodes (λ q. eqb q b || p.world.known_blocks q) o (sees-block b) tells

@@ -13,7 +13,7 @@ use Rattle.nofs_model.specs.Geometry.{Image, super_at}
 use Rattle.nofs_model.specs.Sound.{IsSound}
 use Rattle.nofs_history.specs.Allowed.{IsAllowed}
 use Rattle.nofs_history.specs.declared.machine.history.Entry1.{Entry1}
-use Rattle.nofs_crashlaw.specs.Histories.Stage.{Lasts}
+use Rattle.nofs_crashlaw.specs.Histories.Stage.{Lasts, Stage}
 use Rattle.nofs_state.specs.Books.Maps.{IsSafe}
 use Rattle.nofs_state.specs.Cores.Invariant.{IsOpen, IsStopped, Past, Sounds}
 use Rattle.nofs_state.specs.Cores.WriteOuts.{WroteOne}
@@ -148,6 +148,21 @@ module _ (old new : DiskState) (result : Result (Option ℕ) OutFault) (out : Wr
     images = at-each-out (λ m X. IsAllowed B H m X) start rest images;
   }
 
+  stage-out : (B : Image) (H : List Entry1) (M : Image) (S start s : ℕ)
+      → ((X : Image) → Picks old.may old.blocks X → IsAllowed B H old.moment X)
+      → AtEach (λ m X. IsAllowed B H m X) start old → Stage B H M S start s before → Stage B H M S start s new
+  stage-out B H M S start s rest images st =
+      let lasts : Lasts B H M S start new = lasts-out B H M S start rest images st.lasts in
+      record {
+        lasts = lasts;
+        ready = record {
+          files = st.ready.files;
+          survives = lasts.survives;
+          positive = st.ready.positive;
+          fresh = st.ready.fresh;
+        };
+      }
+
   pub open-out : (k : Books) (H : List Entry1) (p : Past)
       → ((X : Image) → Picks old.may old.blocks X → IsAllowed p.base H old.moment X) → IsOpen old k H p
       → IsOpen new k H p
@@ -162,19 +177,7 @@ module _ (old new : DiskState) (result : Result (Option ℕ) OutFault) (out : Wr
         files = o.files;
         homes = o.homes;
         homes_past = o.homes_past;
-        stage = record {
-          lasts = lasts-out p.base H p.mark p.stamps k.history.start rest was.stage.lasts.images o.stage.lasts;
-          ready = record {
-            files = o.stage.ready.files;
-            survives = record {
-              mark = o.stage.ready.survives.mark;
-              size = o.stage.ready.survives.size;
-              explained = o.stage.ready.survives.explained;
-            };
-            positive = o.stage.ready.positive;
-            fresh = o.stage.ready.fresh;
-          };
-        };
+        stage = stage-out p.base H p.mark p.stamps k.history.start _ rest was.stage.lasts.images o.stage;
         older = o.older;
         rest = o.rest;
         no_fault = o.no_fault;

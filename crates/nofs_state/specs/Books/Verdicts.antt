@@ -81,3 +81,11 @@ VerifiesInode old k new l i =
 pub data OffersVerdict (k l : Books) (stood : Option Bool) (learned : Bool → Books) (used result : Bool) : Type 0 where
   StaysSo : stood ≡ Some result → l ≡ k → OffersVerdict k l stood learned used result
   LearnsIt : stood ≡ None → l ≡ learned used → result ≡ used → OffersVerdict k l stood learned used result
+
+-- that of a block is
+abbrev pub OffersBlock : Books → Books → ℕ → Bool → Bool → Type 0
+OffersBlock k l p = OffersVerdict k l (verdict_of_block k p) (learned_block k p)
+
+-- that of an inode is
+abbrev pub OffersInode : Books → Books → ℕ → Bool → Bool → Type 0
+OffersInode k l i = OffersVerdict k l (verdict_of_inode k i) (learned_inode k i)

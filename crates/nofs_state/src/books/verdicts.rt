@@ -1,7 +1,7 @@
 //! Verdicts of the maps: what stands there of a block or an inode, and what is learned of one.
 ghost use Rattle.std.specs.Prelude.{◌≡◌, ◌-◌, ◌<◌, ◌≤◌, length};
-ghost use Rattle.nofs_state.specs.Books.Verdicts.{OffersVerdict, learned_block, learned_inode, verdict_of_block};
-ghost use Rattle.nofs_state.specs.Books.Verdicts.{verdict_of_inode};
+ghost use Rattle.nofs_state.specs.Books.Verdicts.{OffersBlock, OffersInode, learned_block, learned_inode};
+ghost use Rattle.nofs_state.specs.Books.Verdicts.{verdict_of_block, verdict_of_inode};
 
 use crate::books::maps::Books;
 
@@ -64,8 +64,7 @@ impl Books {
     pub fn settle_block(&mut self, block: u64, used: bool) -> bool
         requires unknown { block < length self.old.unknown_blocks }
         requires free { block < length self.old.free_blocks }
-        ensures { OffersVerdict self.old self.new (verdict_of_block self.old block)
-            (learned_block self.old block) used result }
+        ensures { OffersBlock self.old self.new block used result }
     {
         let stands = self.verdict_of_block(block);
         if stands.is_none() {
@@ -80,8 +79,7 @@ impl Books {
         requires unknown { inode - 1 < length self.old.unknown_inodes }
         requires free { inode - 1 < length self.old.free_inodes }
         requires agreed { inode - 1 < length self.old.agreement }
-        ensures { OffersVerdict self.old self.new (verdict_of_inode self.old inode)
-            (learned_inode self.old inode) used result }
+        ensures { OffersInode self.old self.new inode used result }
     {
         let stands = self.verdict_of_inode(inode);
         if stands.is_none() {

@@ -47,9 +47,9 @@ impl<D: Disk + Drop> Core<D> {
 
     // Learns from the disk whether a block that was not examined is used.
     fn examine_block(&mut self, block: u64) -> Result<bool, Failed>
+        requires unknown { verdict_of_block self.old.books block ≡ None }
         requires safe { IsSafe (D.state self.old.disk) self.old.books }
         requires block { block < self.old.books.at.blocks }
-        requires unknown { verdict_of_block self.old.books block ≡ None }
         ensures { VerifiesBlock (D.state self.old.disk) self.old.books
             (D.state self.new.disk) self.new.books block result }
     {
@@ -60,10 +60,10 @@ impl<D: Disk + Drop> Core<D> {
 
     // Learns from the disk whether an inode that was not examined is used.
     fn examine_inode(&mut self, inode: u32) -> Result<bool, Failed>
+        requires unknown { verdict_of_inode self.old.books inode ≡ None }
         requires safe { IsSafe (D.state self.old.disk) self.old.books }
         requires from_one { 1 ≤ inode }
         requires within { inode ≤ self.old.books.at.inodes }
-        requires unknown { verdict_of_inode self.old.books inode ≡ None }
         ensures { VerifiesInode (D.state self.old.disk) self.old.books
             (D.state self.new.disk) self.new.books inode result }
     {
