@@ -10,7 +10,7 @@ ghost use Rattle.nofs_history.specs.declared.accepted.given.given.GivenNow.TheVa
 use crate::accepted::files::file::FilesNow;
 use crate::accepted::files::names::DirectoryName;
 use crate::accepted::given::given::GivenNow;
-use crate::accepted::given::slots::{Wanted, value_for};
+use crate::accepted::given::slots::Wanted;
 use crate::accepted::given::steps::{
     BytesIn, drop_given, link_given, make_given, put_given, rename_given,
 };
@@ -177,7 +177,7 @@ pub(crate) fn value_by_entry(
     let may_give = !is_refused(&entry.reply) || is_write_fault(&entry.reply);
     if may_give && is_fit(&entry.step, &entry.claims) {
         let given = step_given(alloc, files, &entry.step, &entry.claims)?;
-        value_for(alloc, files, wanted, &given)
+        given.value_for(alloc, files, wanted)
     } else {
         Ok(None)
     }

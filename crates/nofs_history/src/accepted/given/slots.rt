@@ -133,24 +133,26 @@ fn resize_given(
     size_given(alloc, files, inode, size, wanted.slot)
 }
 
-/// The value that goes to a slot by what a step gives.
-pub(crate) fn value_for(
-    alloc: Global,
-    files: &FilesNow,
-    wanted: &Wanted,
-    given: &GivenNow,
-) -> Result<Option<Value>, AllocError>
-    requires { wanted.now.slot < slot_limit }
-    ensures { IfOk result (λ it. it ≡ value_for (given_of (kept_files_of files.now) given.now) wanted.now) }
-{
-    match given {
-        GivenNow::Nothing => Ok(None),
-        GivenNow::Size {
-            inode,
-            generation,
-            size,
-        } => resize_given(alloc, files, wanted, *inode, *generation, *size),
-        GivenNow::Cell { cell, .. } => cell.value_for(alloc, wanted),
-        GivenNow::Make { cell, birth } => cell.value_beside(alloc, wanted, birth),
+impl GivenNow {
+    /// The value that goes to a slot.
+    pub(crate) fn value_for(
+        &self,
+        alloc: Global,
+        files: &FilesNow,
+        wanted: &Wanted,
+    ) -> Result<Option<Value>, AllocError>
+        requires { wanted.now.slot < slot_limit }
+        ensures { IfOk result (λ it. it ≡ value_for (given_of (kept_files_of files.now) self.now) wanted.now) }
+    {
+        match self {
+            GivenNow::Nothing => Ok(None),
+            GivenNow::Size {
+                inode,
+                generation,
+                size,
+            } => resize_given(alloc, files, wanted, *inode, *generation, *size),
+            GivenNow::Cell { cell, .. } => cell.value_for(alloc, wanted),
+            GivenNow::Make { cell, birth } => cell.value_beside(alloc, wanted, birth),
+        }
     }
 }
