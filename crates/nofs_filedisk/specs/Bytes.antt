@@ -47,15 +47,15 @@ pub record IsPartlyPut (at : ℕ) (part old new : List ℕ) : Type 0 where
 -- a call changes nothing but the count of faults
 pub record KeepsBytes (old new : HostFileState) : Type 0 where
   pub tells : new.tells ≡ old.tells
+  pub faults : old.faults ≤ new.faults
   pub bytes : new.bytes ≡ old.bytes
   pub durable : new.durable ≡ old.durable
-  pub faults : old.faults ≤ new.faults
 
 -- a call makes nothing durable
 pub record KeepsDurable (old new : HostFileState) : Type 0 where
   pub tells : new.tells ≡ old.tells
-  pub durable : new.durable ≡ old.durable
   pub faults : old.faults ≤ new.faults
+  pub durable : new.durable ≡ old.durable
 
 -- `read_at(at, into)`: some bytes, none only at the end
 pub record ReadsSome (old new : HostFileState) (at : ℕ) (from into : List ℕ) (result : Result ℕ Failed) : Type 0 where

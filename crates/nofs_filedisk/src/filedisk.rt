@@ -106,10 +106,6 @@ impl<B: Positioned + Drop> Disk for FileDisk<B> {
         (file_calls d.past.value) d.moment d.spare
         (B.is_file d.contents.file) d.made d.room d.sized };
 
-    fn blocks(&self) -> u64 {
-        BLOCKS
-    }
-
     /// A crash now may leave each image that picks.
     fn moment(&self) -> u64
         ensures moment { result ≡ (⟦<FileDisk<B> as Disk>⟧.state self.now).moment }
@@ -118,6 +114,10 @@ impl<B: Positioned + Drop> Disk for FileDisk<B> {
             → (⟦<FileDisk<B> as Disk>⟧.state self.now).left (⟦<FileDisk<B> as Disk>⟧.state self.now).moment image }
     {
         self.moment
+    }
+
+    fn blocks(&self) -> u64 {
+        BLOCKS
     }
 
     fn ready(&mut self, calls: u64) -> Result<(), AllocError> {

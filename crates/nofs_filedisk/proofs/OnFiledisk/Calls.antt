@@ -29,6 +29,11 @@ use Rattle.nofs_filedisk.proofs.OnFiledisk.Present.{present-all}
 
 -- A disk that tells or not
 
+picks_as : (m n : ℕ) (may : ℕ → List Cell) (image : List Cell) → n ≡ m → Picks may m image → Picks may n image
+picks_as m n may image same picks =
+    let F : ℕ → Type 0 = λ k. Picks may k image in
+    subst F (sym same) picks
+
 told_same : (t u : Bool) (n : ℕ) (d e : DiskState) → u ≡ t → IsSameDisk d e
     → IsSameDisk (telling_disk t n d) (telling_disk u n e)
 told_same t u n d e same s = record { blocks = refl; tells = same; holds_back = s.holds_back; faults = s.faults }
@@ -40,20 +45,18 @@ told_writes : (t u : Bool) (n : ℕ) (d e : DiskState) (block : ℕ) (cell : Cel
     → u ≡ t → e.blocks ≡ n
     → Writes d e block cell result → Writes (telling_disk t n d) (telling_disk u n e) block cell result
 told_writes t u n d e block cell result same blocks w = record {
+  moment = w.moment;
   disk = told_same t u n d e same w.disk;
   past = told_past t u n d e w.past;
-  moment = w.moment;
   spare = w.spare;
   ok = w.ok;
+  no_fault = w.no_fault;
   err = w.err;
+  cause = w.cause;
+  during = λ image left. picks_as e.blocks n e.may image (sym blocks) (w.during image left);
   may = w.may;
   stays = w.stays;
   others = w.others;
-  during = λ image left.
-      let F : ℕ → Type 0 = λ k. Picks e.may k image in
-      subst F blocks (w.during image left);
-  cause = w.cause;
-  no_fault = w.no_fault;
   dirty = w.dirty;
   held = w.held;
 }
@@ -73,16 +76,14 @@ told_flushes t u n d e result same blocks blocks_now f = record {
   spare = f.spare;
   now = f.now;
   may = λ b c low has. f.may b c (omega arith) has;
+  dirty = f.dirty;
+  during = λ image left. picks_as d.blocks n d.may image (sym blocks) (f.during image left);
   settled = on_ok result (λ (s : IsSettled e) b c low has. s b c (omega arith) has) f.settled;
   was = f.was;
   clean = f.clean;
-  err = f.err;
-  dirty = f.dirty;
-  during = λ image left.
-      let F : ℕ → Type 0 = λ k. Picks d.may k image in
-      subst F blocks (f.during image left);
-  cause = f.cause;
   no_fault = f.no_fault;
+  err = f.err;
+  cause = f.cause;
 }
 
 -- What the calls do
@@ -124,11 +125,6 @@ module _ (file new first : HostFileState) (calls : List Call) (s t : ℕ) (room 
         (went_not taken result file.faults new.faults is cause) no_fault)
 
 -- What a crash may leave: each image that picks
-
-picks_as : (m n : ℕ) (may : ℕ → List Cell) (image : List Cell) → n ≡ m → Picks may m image → Picks may n image
-picks_as m n may image same picks =
-    let F : ℕ → Type 0 = λ k. Picks may k image in
-    subst F (sym same) picks
 
 module _ (file first : HostFileState) (calls : List Call) (spare : ℕ) (image : List Cell) where
   pub rest_leaves : Picks (file_state file first calls spare).may 1048576 image

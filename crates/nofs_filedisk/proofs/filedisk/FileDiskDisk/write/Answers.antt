@@ -8,9 +8,8 @@ invariant_of-self g c =
     let old = c.args.self.now in
     let did = c.write-result in
     write_holds (g.B.Positioned.state old.contents.file) (g.B.Positioned.state did.new.self.file)
-    (g.B.Positioned.state old.first.value) old.contents.run
-    did.new.self.run (file_calls old.past.value) old.moment old.spare old.made old.room old.sized old.present
-    old.lasting did.ensures.keeps.tells
+    (g.B.Positioned.state old.first.value) old.contents.run did.new.self.run (file_calls old.past.value) old.moment
+    old.spare old.made old.room old.sized old.present old.lasting did.ensures.keeps.tells
     c.requires.spare c.args.block c.args.cell.now c.is_ok.result did.result c.is_ok.ensures.value
     c.note_sizes.ensures did.ensures.takes
     did.ensures.stays did.ensures.keeps.durable
