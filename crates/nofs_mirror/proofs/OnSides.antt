@@ -1,6 +1,7 @@
 -- What a side may leave at the moments of the mirror, while it makes calls.
 use Rattle.std.proofs.Common.{◌≡◌, ℕ, zero, suc, ◌+◌, ◌*◌, ◌<◌, ◌≤◌, Bool, List, [], ◌∷◌, length, get_or, arith, inl}
 use Rattle.std.proofs.Common.{inr, sym, subst}
+use Rattle.std.specs.Prelude.{◌↔◌}
 use Rattle.nofs_disk.specs.declared.tag.Cell.{Cell}
 use Rattle.nofs_disk.specs.Disk.{DiskState, KeepsPast}
 use Rattle.nofs_mirror.specs.declared.sides.past.MirrorCall.{MirrorCall}
@@ -63,26 +64,18 @@ left_keeps side l l' n opened (call ∷ past) to u m image goes low marked (inr 
     inr (inr (left_keeps side l l' n opened past (side call).began u m image goes (marked.begins 0 (omega arith))
     (marked_tail side opened call past u marked) left))
 
--- a call that makes no moment leaves nothing more
-pub stays_no_more : (side : MirrorCall → Span) (n : ℕ) (opened : Span) (past : List MirrorCall) (old new : DiskState)
+-- a call that makes no moment leaves what could be left
+pub stays_left : (side : MirrorCall → Span) (n : ℕ) (opened : Span) (past : List MirrorCall) (old new : DiskState)
     (m : ℕ) (image : List Cell)
     → KeepsPast old new → new.moment ≡ old.moment → IsMarkedBySide side opened past old.moment
-    → SideLeft side new.left n opened past new.moment m image → SideLeft side old.left n opened past old.moment m image
-stays_no_more side n opened past old new m image keeps same marked left =
-    let F : ℕ → Type 0 = λ k. SideLeft side new.left n opened past k m image in
-    left_keeps side new.left old.left n opened past old.moment old.moment m image (λ j w le l. keeps.no_more j w le l)
-    (omega arith) marked (subst F same left)
-
--- and nothing less
-pub stays_no_less : (side : MirrorCall → Span) (n : ℕ) (opened : Span) (past : List MirrorCall) (old new : DiskState)
-    (m : ℕ) (image : List Cell)
-    → KeepsPast old new → new.moment ≡ old.moment → IsMarkedBySide side opened past old.moment
-    → SideLeft side old.left n opened past old.moment m image → SideLeft side new.left n opened past new.moment m image
-stays_no_less side n opened past old new m image keeps same marked left =
-    let F : ℕ → Type 0 = λ k. SideLeft side new.left n opened past k m image in
-    subst F (sym same) (left_keeps side old.left new.left n opened past old.moment old.moment m image
-    (λ j w le l. keeps.no_less j w le l) (omega arith)
-    marked left)
+    → SideLeft side new.left n opened past new.moment m image ↔ SideLeft side old.left n opened past old.moment m image
+stays_left side n opened past old new m image keeps same marked =
+    let F : ℕ → Type 0 = λ k. SideLeft side new.left n opened past k m image in (
+      λ left. left_keeps side new.left old.left n opened past old.moment old.moment m image
+          (λ j w le l. keeps.no_more j w le l) (omega arith) marked (subst F same left),
+      λ left. subst F (sym same) (left_keeps side old.left new.left n opened past old.moment old.moment m image
+          (λ j w le l. keeps.no_less j w le l) (omega arith) marked left),
+    )
 
 -- a write or flush leaves nothing more at earlier moments
 pub moves_no_more : (side : MirrorCall → Span) (n : ℕ) (opened : Span) (past : List MirrorCall) (call : MirrorCall)

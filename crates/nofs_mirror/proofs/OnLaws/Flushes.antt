@@ -20,13 +20,13 @@ use Rattle.nofs_mirror.specs.Sides.Calls.{lead_stays}
 use Rattle.nofs_mirror.specs.Laws.{MirrorKeeps, told-Picks, told-has, told-is}
 use Rattle.nofs_mirror.specs.Mirror.{both_tell, flushed_cells, may_step, mirror_state, now_of, if_told}
 use Rattle.nofs_mirror.specs.Sides.Past.{mirror_calls}
-use Rattle.nofs_mirror.proofs.OnMirror.Calls.{AreAsked, Called, asked_kept, asked_now, called_during, called_goes}
-use Rattle.nofs_mirror.proofs.OnMirror.Calls.{called_may, called_tells, calls_sides}
-use Rattle.nofs_mirror.proofs.OnMirror.Calls.{mirror_cause, mirror_disk, mirror_no_fault}
+use Rattle.nofs_mirror.proofs.OnMirror.Calls.{AreAsked, Called, asked_kept, asked_now, called_disk, called_during}
+use Rattle.nofs_mirror.proofs.OnMirror.Calls.{called_may, called_past, called_tells, calls_sides}
+use Rattle.nofs_mirror.proofs.OnMirror.Calls.{mirror_cause, mirror_no_fault}
 use Rattle.nofs_mirror.proofs.OnMirror.Cells.{cells_of, flush_goes, may_of, on_err, on_ok, told_put}
 use Rattle.nofs_mirror.proofs.OnMirror.Flushes.{FlushedSides, below_in, flush_mirrored, flushed_now, mirror_now}
 use Rattle.nofs_mirror.proofs.OnMirror.Flushes.{settled_back, side_leaves}
-use Rattle.nofs_mirror.proofs.OnMirror.Past.{past_moves, told_same, was_now}
+use Rattle.nofs_mirror.proofs.OnMirror.Past.{told_same, was_now}
 
 -- a flush asks the sides
 pub record CalledFlush (lead lead_new other other_new first : DiskState) (opening : MirrorStart)
@@ -92,10 +92,8 @@ module _ {lead lead_new other other_new first : DiskState} {opening : MirrorStar
       → Flushes (mirror_state lead other first opening past s e)
       (mirror_state lead_new other_new first opening (call ∷ past) t f) result
   mirror_flushes t e f result room low is count = record {
-    disk = mirror_disk lead lead_new other other_new first opening past (call ∷ past) s t e f _
-        (called_goes w.called) low count;
-    past = past_moves lead lead_new other other_new first opening past call s t e f
-        (called_goes w.called) w.called.on_lead.began w.called.on_other.began;
+    disk = called_disk w.called call t e f _ low count;
+    past = called_past w.called call t e f refl refl;
     moment = omega arith;
     spare = room;
     now = told_when (both_tell lead other) (both_tell lead_new other_new) now now_new tells now_same;

@@ -1,5 +1,5 @@
 -- A write of a mirror meets the promises of a disk.
-use Rattle.std.proofs.Common.{◌≡◌, ◌⊎◌, ℕ, ◌+◌, ◌^◌, ◌<◌, Bool, true, false, List, ◌∷◌, set, arith, inl, inr, sym}
+use Rattle.std.proofs.Common.{◌≡◌, ◌⊎◌, ℕ, ◌+◌, ◌^◌, ◌<◌, Bool, true, false, List, ◌∷◌, set, arith, inl, inr, refl, sym}
 use Rattle.std.proofs.Common.{subst, ◌∙◌, Result}
 use Rattle.std.specs.Prelude.{Contains, IsFalse, IsTrue, is_ok}
 use Rattle.std.proofs.Math.Logic.{∥∥₁_elim, ∥∥₁_prop}
@@ -19,11 +19,11 @@ use Rattle.nofs_mirror.specs.Sides.Calls.{SideWrites, any_done, answered_call, c
 use Rattle.nofs_mirror.specs.Laws.{MirrorKeeps, told-Picks, told-has}
 use Rattle.nofs_mirror.specs.Mirror.{both_tell, flushed_cells, if_told, mirror_state, now_of}
 use Rattle.nofs_mirror.specs.Sides.Past.{mirror_calls}
-use Rattle.nofs_mirror.proofs.OnMirror.Calls.{Called, asked_kept, asked_now, called_during, called_goes, called_may}
-use Rattle.nofs_mirror.proofs.OnMirror.Calls.{called_tells, calls_sides, mirror_cause}
-use Rattle.nofs_mirror.proofs.OnMirror.Calls.{mirror_disk, mirror_no_fault, told_either, told_goes, told_set}
+use Rattle.nofs_mirror.proofs.OnMirror.Calls.{Called, asked_kept, asked_now, called_disk, called_during}
+use Rattle.nofs_mirror.proofs.OnMirror.Calls.{called_may, called_past, called_tells, calls_sides}
+use Rattle.nofs_mirror.proofs.OnMirror.Calls.{mirror_cause, mirror_no_fault, told_either, told_goes, told_set}
 use Rattle.nofs_mirror.proofs.OnMirror.Cells.{cells_of, may_of, on_err, on_ok, told_put, write_goes}
-use Rattle.nofs_mirror.proofs.OnMirror.Past.{past_moves, told_same}
+use Rattle.nofs_mirror.proofs.OnMirror.Past.{told_same}
 use Rattle.nofs_mirror.proofs.OnMirror.Writes.{side_leaves, write_err, write_mirrored, write_ok, written}
 use Rattle.nofs_mirror.proofs.OnMirror.Writes.{written_cases, written_grows, written_other}
 
@@ -65,10 +65,8 @@ module _ {lead lead_new other other_new first : DiskState} {opening : MirrorStar
       → Writes (mirror_state lead other first opening past s e)
       (mirror_state lead_new other_new first opening (call ∷ past) t f) b snap.value result
   mirror_writes t e f result room low is count = record {
-    disk = mirror_disk lead lead_new other other_new first opening past (call ∷ past) s t e f _
-        (called_goes w.called) low count;
-    past = past_moves lead lead_new other other_new first opening past call s t e f
-        (called_goes w.called) w.called.on_lead.began w.called.on_other.began;
+    disk = called_disk w.called call t e f _ low count;
+    past = called_past w.called call t e f refl refl;
     moment = omega arith;
     spare = room;
     ok = on_ok result _ (λ done. told_set _ _ now now_new b snap.value tells (λ if_told. ok if_told (sym is ∙ done)));

@@ -7,7 +7,7 @@ use Rattle.std.proofs.Math.Logic.{∥∥₁_elim, ∥∥₁_prop}
 use Rattle.nofs_disk.specs.declared.disk.Disk.{Ghosts}
 use Rattle.nofs_disk.specs.declared.Failed.{Failed}
 use Rattle.nofs_disk.specs.declared.tag.Cell.{Cell}
-use Rattle.nofs_disk.specs.Disk.{DiskState, IsDisk, IsSameDisk, Picks, Rose}
+use Rattle.nofs_disk.specs.Disk.{DiskState, IsDisk, IsSameDisk, KeepsPast, Picks, Rose}
 use Rattle.nofs_mirror.specs.declared.sides.calls.SideCall.{SideCall}
 use Rattle.nofs_mirror.specs.declared.sides.log.Sides.{Sides}
 use Rattle.nofs_mirror.specs.declared.mirror.Mirror.{Mirror}
@@ -24,7 +24,7 @@ use Rattle.nofs_mirror.proofs.OnMirror.Cells.{Holds, LeavesFirst, SideGoes, cell
 use Rattle.nofs_mirror.proofs.OnMirror.Cells.{mirrored_same, on_err, on_ok, side_during}
 use Rattle.nofs_mirror.proofs.OnMirror.Cells.{side_goes, some_stays, told_put}
 use Rattle.nofs_mirror.proofs.OnMirror.Leaves.{during_leaves}
-use Rattle.nofs_mirror.proofs.OnMirror.Past.{Goes, SideKeeps, SidesLeave, goes_was, may_keeps, tells_same}
+use Rattle.nofs_mirror.proofs.OnMirror.Past.{Goes, SideKeeps, SidesLeave, goes_was, may_keeps, past_moves, tells_same}
 use Rattle.nofs_mirror.proofs.OnSides.{left_during}
 
 -- a write or flush asks a side of a mirror where it is in
@@ -118,7 +118,7 @@ counted_grows : (done : Bool) (e : ℕ) → e < 2 ^ 64 → e ≤ counted_if done
 counted_grows true e low = omega arith
 counted_grows false e low = omega arith
 
-pub mirror_disk : (lead lead_new other other_new first : DiskState) (opening : MirrorStart)
+mirror_disk : (lead lead_new other other_new first : DiskState) (opening : MirrorStart)
     (past next : List MirrorCall) (s t e f : ℕ) (done : Bool)
     → Goes lead lead_new other other_new opening past → e < 2 ^ 64 → f ≡ counted_if done e
     → IsSameDisk (mirror_state lead other first opening past s e)
@@ -129,6 +129,22 @@ mirror_disk lead lead_new other other_new first opening past next s t e f done g
   holds_back = refl;
   faults = let p = counted_grows done e low in omega arith;
 }
+
+-- what a write or flush leaves of the mirror, whatever it gives
+module _ {lead lead_new other other_new first : DiskState} {opening : MirrorStart} {past : List MirrorCall} {s : ℕ}
+    {a o : SideCall}
+    (c : Called lead lead_new other other_new first opening past s a o) (call : MirrorCall) (t e f : ℕ) where
+  pub called_disk : (done : Bool) → e < 2 ^ 64 → f ≡ counted_if done e
+      → IsSameDisk (mirror_state lead other first opening past s e)
+      (mirror_state lead_new other_new first opening (call ∷ past) t f)
+  called_disk done low count = mirror_disk lead lead_new other other_new first opening past (call ∷ past) s t e f done
+      (called_goes c) low count
+
+  pub called_past : call.lead.began ≡ a.began → call.other.began ≡ o.began
+      → KeepsPast (mirror_state lead other first opening past s e)
+      (mirror_state lead_new other_new first opening (call ∷ past) t f)
+  called_past lead_at other_at = past_moves lead lead_new other other_new first opening past call s t e f
+      (called_goes c) (lead_at ∙ c.on_lead.began) (other_at ∙ c.on_other.began)
 
 -- a call that failed is counted
 pub mirror_cause : (result : Result (Unit {0}) Failed) (done : Bool) (e f : ℕ)

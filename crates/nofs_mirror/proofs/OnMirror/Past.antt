@@ -1,7 +1,7 @@
 -- What is told of earlier moments stays.
 use Rattle.std.proofs.Common.{◌≡◌, ◌⊎◌, ℕ, ◌*◌, ◌≤◌, Bool, ◌&&◌, List, [], ◌∷◌, ◌++◌, length, take, cond, arith, inl}
 use Rattle.std.proofs.Common.{inr, refl, sym, ◌∙◌}
-use Rattle.std.specs.Prelude.{eqb}
+use Rattle.std.specs.Prelude.{◌↔◌, eqb}
 use Rattle.std.proofs.lemmas.Bool.{eq-eqb, ne_eqb}
 use Rattle.nofs_disk.specs.declared.tag.Cell.{Cell}
 use Rattle.nofs_disk.specs.Disk.{DiskState, IsSameDisk, KeepsPast}
@@ -13,7 +13,7 @@ use Rattle.nofs_mirror.specs.declared.sides.past.Span.{Span}
 use Rattle.nofs_mirror.specs.Mirror.{IsMarkedBySide, SideLeft, both_tell, flushed_cells, may_after, may_step}
 use Rattle.nofs_mirror.specs.Mirror.{mirror_state, only_below, if_told}
 use Rattle.nofs_mirror.specs.Mirror.{was_after}
-use Rattle.nofs_mirror.proofs.OnSides.{marked_tail, moves_no_less, moves_no_more, stays_no_less, stays_no_more}
+use Rattle.nofs_mirror.proofs.OnSides.{marked_tail, moves_no_less, moves_no_more, stays_left}
 
 -- each side keeps what it held at the calls so far
 pub record KeepsWas (a a' b b' : ℕ → List Cell) (lead other : Span) (past : List MirrorCall) (u v : ℕ) : Type 0 where
@@ -119,28 +119,27 @@ past_stays lead lead_new other other_new first opening past s t e f g lead_at ot
   was = λ m low. told_same (both_tell lead other) (both_tell lead_new other_new) _ _
       (tells_same lead lead_new other other_new opening past g)
       (was_keeps _ _ _ _ _ _ opening.blocks past _ _ m (goes_was lead lead_new other other_new opening past g));
-  no_more = λ m image low left.
-      (sym (tells_same lead lead_new other other_new opening past g) ∙ left.0, more m image left.1);
-  no_less = λ m image low left. (tells_same lead lead_new other other_new opening past g ∙ left.0, less m image left.1);
+  no_more = λ m image low left. (
+    sym (tells_same lead lead_new other other_new opening past g) ∙ left.0,
+    elim left.1 [ inl was ↦ inl ((on_lead m image).0 was) | inr was ↦ inr ((on_other m image).0 was) ],
+  );
+  no_less = λ m image low left. (
+    tells_same lead lead_new other other_new opening past g ∙ left.0,
+    elim left.1 [ inl was ↦ inl ((on_lead m image).1 was) | inr was ↦ inr ((on_other m image).1 was) ],
+  );
 }
   where
-    more : (m : ℕ) (image : List Cell) → SidesLeave lead_new other_new opening past m image
-        → SidesLeave lead other opening past m image
-    more m image (inl left) =
-        inl (stays_no_more (λ c. c.lead) opening.blocks opening.lead past lead lead_new m image g.on_lead.past lead_at
-        g.on_lead.marked left)
-    more m image (inr left) =
-        inr (stays_no_more (λ c. c.other) opening.blocks opening.other past other other_new m image g.on_other.past
-        other_at g.on_other.marked left)
+    on_lead : (m : ℕ) (image : List Cell)
+        → SideLeft (λ c. c.lead) lead_new.left opening.blocks opening.lead past lead_new.moment m image
+        ↔ SideLeft (λ c. c.lead) lead.left opening.blocks opening.lead past lead.moment m image
+    on_lead m image = stays_left (λ c. c.lead) opening.blocks opening.lead past lead lead_new m image g.on_lead.past
+        lead_at g.on_lead.marked
 
-    less : (m : ℕ) (image : List Cell) → SidesLeave lead other opening past m image
-        → SidesLeave lead_new other_new opening past m image
-    less m image (inl left) =
-        inl (stays_no_less (λ c. c.lead) opening.blocks opening.lead past lead lead_new m image g.on_lead.past lead_at
-        g.on_lead.marked left)
-    less m image (inr left) =
-        inr (stays_no_less (λ c. c.other) opening.blocks opening.other past other other_new m image g.on_other.past
-        other_at g.on_other.marked left)
+    on_other : (m : ℕ) (image : List Cell)
+        → SideLeft (λ c. c.other) other_new.left opening.blocks opening.other past other_new.moment m image
+        ↔ SideLeft (λ c. c.other) other.left opening.blocks opening.other past other.moment m image
+    on_other m image = stays_left (λ c. c.other) opening.blocks opening.other past other other_new m image
+        g.on_other.past other_at g.on_other.marked
 
 -- a write or flush
 pub past_moves : (lead lead_new other other_new first : DiskState) (opening : MirrorStart) (past : List MirrorCall)

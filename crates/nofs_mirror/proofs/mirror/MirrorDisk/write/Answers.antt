@@ -24,13 +24,11 @@ returns-clause-does g c =
 pub returns-clause-lead_left : goal.returns-clause-lead_left
 returns-clause-lead_left g c =
     let w = writes_sides c.args.self.now c.of.result g.met.A.Disk.is_disk g.met.B.Disk.is_disk c.requires.block
-    c.note_sizes.ensures c.of.ensures
-    c.write_side-lead.ensures c.write_side-other.ensures in
+    c.note_sizes.ensures c.of.ensures c.write_side-lead.ensures c.write_side-other.ensures in
     rw c.note.ensures.past (called_leaves c.args.self.now (Write c.args.block c.of.result) _ _ w.called).0
 
 pub returns-clause-other_left : goal.returns-clause-other_left
 returns-clause-other_left g c =
     let w = writes_sides c.args.self.now c.of.result g.met.A.Disk.is_disk g.met.B.Disk.is_disk c.requires.block
-    c.note_sizes.ensures c.of.ensures
-    c.write_side-lead.ensures c.write_side-other.ensures in
+    c.note_sizes.ensures c.of.ensures c.write_side-lead.ensures c.write_side-other.ensures in
     rw c.note.ensures.past (called_leaves c.args.self.now (Write c.args.block c.of.result) _ _ w.called).1
