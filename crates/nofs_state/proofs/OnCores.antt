@@ -3,6 +3,7 @@ pub mod Runs
 pub mod NoWrites
 pub mod Replies
 pub mod Unchanged
+pub mod Readings
 pub mod SafeSteps
 pub mod Faults
 pub mod Flushes

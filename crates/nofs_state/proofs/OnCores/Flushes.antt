@@ -27,7 +27,7 @@ use Rattle.nofs_crashlaw.specs.Histories.Stage.{flush_entry}
 use Rattle.nofs_crashlaw.proofs.OnHistories.FlushStage.{law-flush-stage, files-stay}
 use Rattle.nofs_state.specs.Books.Maps.{IsSafe}
 use Rattle.nofs_state.specs.Cores.Invariant.{IsOpen, IsRun, Past}
-use Rattle.nofs_state.specs.Cores.Steps.{FlushesAlone, Goes, IsReading, entry}
+use Rattle.nofs_state.specs.Cores.Steps.{FlushesAlone, Goes, entry}
 use Rattle.nofs_disk.specs.Order.{OnlyFlushes, has_failed}
 use Rattle.nofs_state.specs.declared.books.maps.Books.{Books}
 use Rattle.nofs_state.proofs.OnBooks.Safe.{safe-over}
@@ -35,19 +35,9 @@ use Rattle.nofs_state.proofs.OnCores.SafeSteps.{safely-done, safely-goes}
 use Rattle.nofs_state.proofs.OnWrites.NoWrites.{sounds-flush}
 use Rattle.nofs_state.proofs.OnCores.Faults.{goes-fault, stopped_books, stopped_world}
 use Rattle.nofs_state.proofs.OnCores.NoWrites.{run-more}
+use Rattle.nofs_state.proofs.OnCores.Readings.{flush-reads}
 use Rattle.nofs_state.proofs.OnCores.Replies.{by-answer, open-files}
 use Rattle.nofs_state.proofs.OnCores.Runs.{rest-idle, faults-append}
-
-flush-reads : (i g : ℕ) → IsReading (step.Flush i g)
-unfolding gives
-flush-reads i g = record {
-  no_inode = refl;
-  no_block = λ F. refl;
-  gives = λ F. refl;
-  no_slot = λ F. refl;
-  sees_no_inode = λ j. refl;
-  sees_no_block = λ p. refl;
-}
 
 flush-files : (F : Files) (caller i g : ℕ) (old new : DiskState) → files_by F (flush_entry caller old new i g) ≡ F
 unfolding gives
