@@ -99,7 +99,22 @@ abbrev pub takes_time : Reply → Bool
 takes_time reply.Flushed = true
 takes_time (reply.Refused refusal.WriteFault) = true
 -- no other refusal comes after a write or a flush
-takes_time _ = false
+takes_time (reply.Refused _) = false
+takes_time (reply.Found _) = false
+takes_time (reply.Made _ _) = false
+takes_time reply.Linked = false
+takes_time (reply.Dropped _) = false
+takes_time reply.Renamed = false
+takes_time (reply.Names _ _) = false
+takes_time (reply.LostNames _) = false
+takes_time reply.NoMore = false
+takes_time (reply.Bytes _) = false
+takes_time reply.Hole = false
+takes_time reply.Lost = false
+takes_time reply.Stored = false
+takes_time reply.Resized = false
+takes_time (reply.Stat _) = false
+takes_time (reply.Seen _) = false
 
 -- these entries lead from W to V; each begins at the moment at which the one before ended
 abbrev pub Run : ℕ → World → List Entry1 → World → Type 0

@@ -196,7 +196,24 @@ abbrev pub reads_nothing : Refusal → Bool
 reads_nothing refusal.BadName = true
 reads_nothing refusal.BadRange = true
 reads_nothing refusal.TooLarge = true
-reads_nothing _ = false
+reads_nothing refusal.Missing = false
+reads_nothing (refusal.LostEntry _) = false
+reads_nothing (refusal.LostSlot _) = false
+reads_nothing refusal.Exists = false
+reads_nothing refusal.NotDirectory = false
+reads_nothing refusal.IsDirectory = false
+reads_nothing refusal.NotEmpty = false
+reads_nothing refusal.TooManyLinks = false
+reads_nothing refusal.DirectoryFull = false
+reads_nothing refusal.PastEnd = false
+reads_nothing refusal.Stale = false
+reads_nothing (refusal.Full _ _ _ _) = false
+reads_nothing (refusal.InodesFull _ _) = false
+reads_nothing refusal.SerialsSpent = false
+reads_nothing refusal.ReadFault = false
+reads_nothing refusal.WriteFault = false
+reads_nothing refusal.Stopped = false
+reads_nothing refusal.OutOfMemory = false
 
 -- steps that may write or flush
 abbrev pub may_write : Step → Bool

@@ -41,7 +41,15 @@ makes_calls reply.Stored = true
 makes_calls reply.Resized = true
 makes_calls reply.Flushed = true
 makes_calls (reply.Refused why) = is_write_fault (reply.Refused why)
-makes_calls _ = false
+makes_calls (reply.Found found) = false
+makes_calls (reply.Names slot names) = false
+makes_calls (reply.LostNames slot) = false
+makes_calls reply.NoMore = false
+makes_calls (reply.Bytes bytes) = false
+makes_calls reply.Hole = false
+makes_calls reply.Lost = false
+makes_calls (reply.Stat stat) = false
+makes_calls (reply.Seen seen) = false
 
 -- A new block of the way to a slot changes what stands above it: a block of pointers, or the record itself
 

@@ -13,7 +13,15 @@ is_fit (step.Put i g k at bytes) claims = nat_lt k slot_limit && nat_le (at + le
 is_fit (step.Make d g name kind) claims = nat_le (length name) 48 && nat_lt 0 claims.inode
 is_fit (step.Link d g name i of) claims = nat_le (length name) 48
 is_fit (step.Rename d g old new) claims = nat_le (length new) 48
-is_fit _ claims = true
+is_fit (step.Look d g name) claims = true
+is_fit (step.Drop d g name) claims = true
+is_fit (step.List d g k) claims = true
+is_fit (step.Get i g k) claims = true
+is_fit (step.Resize i g size) claims = true
+is_fit (step.Stat i g) claims = true
+is_fit (step.Flush i g) claims = true
+is_fit (step.SeeInode i) claims = true
+is_fit (step.SeeBlock b) claims = true
 
 -- an entry that gives something keeps them
 abbrev pub IsFit : Entry1 → Type 0
