@@ -21,8 +21,9 @@ use Rattle.nofs_state.specs.Cores.Steps.{Follows, Goes, LeavesDisk, entry}
 use Rattle.nofs_state.specs.Books.Verdicts.{InData, Judges, Verifies, Stood, Learned, Unread, learned_block}
 use Rattle.nofs_state.specs.Books.Verdicts.{learned_inode, verdict_of_block, verdict_of_inode}
 use Rattle.nofs_state.specs.declared.books.maps.Books.{Books}
+use Rattle.nofs_scan.specs.Steps.Sees.{Examines}
 use Rattle.nofs_state.proofs.OnWrites.NoWrites.{sounds-keep}
-use Rattle.nofs_state.proofs.OnCores.Replies.{goes-row, goes-read, safe-on}
+use Rattle.nofs_state.proofs.OnCores.Replies.{goes-row, goes-read, goes-stopped, safe-on}
 use Rattle.nofs_state.proofs.OnBooks.Machine.{are-agreed}
 use Rattle.nofs_state.proofs.OnCores.Sees.{block-learned, block-row, block-stands, block-stood, machine-block}
 use Rattle.nofs_state.proofs.OnCores.Sees.{machine-inode, safe-block, seen-causes}
@@ -36,6 +37,12 @@ in-table n i e = (low n i e, high n i e)
 
     high : (n i : ℕ) → (eqb i 0 || ltb n i) ≡ false → i ≤ n
     high n i e = grind (arith, nat_tests)
+
+-- a stopped mount looks at nothing
+pub examined-stopped : (d : DiskState) (k : Books) (s : Step) → IsDisk d → IsSafe d k → k.stopped ≡ true
+    → Examines d k d k s (Err refusal.Stopped)
+examined-stopped d k s is safe stopped =
+    record { goes = goes-stopped d d k s is safe (StaysButFaults-refl d) stopped; memory = refl }
 
 -- an element of these books: its verdict, what the books learn of it, and the scan's verdict
 pub record IsElement (old : DiskState) (k : Books) (s : Step) (stood : Option Bool) (learned : Bool → Books)

@@ -40,10 +40,11 @@ pub fn see_inode<D: Disk + Drop>(core: &mut Core<D>, inode: u32) -> Result<bool,
     ensures { Examines (D.state core.old.disk) core.old.books (D.state core.new.disk) core.new.books
         (step.SeeInode inode) result }
 {
+    let beyond = is_beyond(core.books.at.inodes, inode);
     if core.books.stopped {
         return Err(Refusal::Stopped);
     }
-    if is_beyond(core.books.at.inodes, inode) {
+    if beyond {
         return Err(Refusal::BadRange);
     }
     match core.verify_inode(inode) {

@@ -1,18 +1,11 @@
 use Rattle.std.proofs.Common.{refl}
-use Rattle.nofs_disk.specs.Chains.{StaysButFaults-refl}
 use Rattle.nofs_history.specs.declared.machine.steps.Step.TheVariants as step
-use Rattle.nofs_state.proofs.OnCores.Replies.{goes-stopped}
-use Rattle.nofs_scan.proofs.OnSteps.Elements.{block-beyond, block-verified}
+use Rattle.nofs_scan.proofs.OnSteps.Elements.{block-beyond, block-verified, examined-stopped}
 use Rattle.nofs_scan.proofs.steps.sees.see_block.Goals as goal
 
 pub returns-then-core : goal.returns-then-core
-returns-then-core g c = record {
-  goes = goes-stopped (g.D.Disk.state c.args.core.now.disk) (g.D.Disk.state c.args.core.now.disk) c.args.core.now.books
-      (step.SeeBlock c.args.block)
-      (g.met.D.Disk.is_disk c.args.core.now.disk)
-      c.requires (StaysButFaults-refl (g.D.Disk.state c.args.core.now.disk)) c.if-core.true;
-  memory = refl;
-}
+returns-then-core g c = examined-stopped (g.D.Disk.state c.args.core.now.disk) c.args.core.now.books
+    (step.SeeBlock c.args.block) (g.met.D.Disk.is_disk c.args.core.now.disk) c.requires c.if-core.true
 
 pub returns-then-block-core : goal.returns-then-block-core
 returns-then-block-core g c = record {

@@ -1,24 +1,17 @@
 use Rattle.std.proofs.Common.{refl, sym, ◌∙◌}
-use Rattle.nofs_disk.specs.Chains.{StaysButFaults-refl}
 use Rattle.nofs_history.specs.declared.machine.steps.Step.TheVariants as step
-use Rattle.nofs_state.proofs.OnCores.Replies.{goes-stopped}
-use Rattle.nofs_scan.proofs.OnSteps.Elements.{inode-beyond, inode-verified}
+use Rattle.nofs_scan.proofs.OnSteps.Elements.{inode-beyond, inode-verified, examined-stopped}
 use Rattle.nofs_scan.proofs.steps.sees.see_inode.Goals as goal
 
 pub returns-then-core : goal.returns-then-core
-returns-then-core g c = record {
-  goes = goes-stopped (g.D.Disk.state c.args.core.now.disk) (g.D.Disk.state c.args.core.now.disk) c.args.core.now.books
-      (step.SeeInode c.args.inode)
-      (g.met.D.Disk.is_disk c.args.core.now.disk)
-      c.requires (StaysButFaults-refl (g.D.Disk.state c.args.core.now.disk)) c.if-core.true;
-  memory = refl;
-}
+returns-then-core g c = examined-stopped (g.D.Disk.state c.args.core.now.disk) c.args.core.now.books
+    (step.SeeInode c.args.inode) (g.met.D.Disk.is_disk c.args.core.now.disk) c.requires c.if-core.true
 
-pub returns-then-is_beyond : goal.returns-then-is_beyond
-returns-then-is_beyond g c = record {
+pub returns-then-beyond : goal.returns-then-beyond
+returns-then-beyond g c = record {
   goes = inode-beyond (g.D.Disk.state c.args.core.now.disk) c.args.core.now.books
       (g.met.D.Disk.is_disk c.args.core.now.disk) c.requires c.if-core.false
-      c.args.inode (sym c.is_beyond.ensures ∙ c.if-is_beyond.true);
+      c.args.inode (sym c.is_beyond-beyond.ensures ∙ c.if-beyond.true);
   memory = refl;
 }
 
@@ -26,13 +19,13 @@ pub returns-in-Ok : goal.returns-in-Ok
 returns-in-Ok g c =
     let seen = inode-verified _ c.args.core.now.books
     (g.met.D.Disk.is_disk c.args.core.now.disk) c.requires c.if-core.false _ _ _ c.args.inode
-    (sym c.is_beyond.ensures ∙ c.if-is_beyond.false) c.verify_inode.ensures in
+    (sym c.is_beyond-beyond.ensures ∙ c.if-beyond.false) c.verify_inode.ensures in
     record { goes = seen.read c.in-Ok.used c.in-Ok.is; memory = refl }
 
 pub returns-in-Err : goal.returns-in-Err
 returns-in-Err g c = record {
   goes = (inode-verified _ c.args.core.now.books
       (g.met.D.Disk.is_disk c.args.core.now.disk) c.requires c.if-core.false _ _ _ c.args.inode
-      (sym c.is_beyond.ensures ∙ c.if-is_beyond.false) c.verify_inode.ensures).unread c.in-Err.field-0 c.in-Err.is;
+      (sym c.is_beyond-beyond.ensures ∙ c.if-beyond.false) c.verify_inode.ensures).unread c.in-Err.field-0 c.in-Err.is;
   memory = refl;
 }
