@@ -1,0 +1,97 @@
+"""Tests of README.md and docs/: what they name is there."""
+import glob
+import os
+import re
+import unittest
+
+TOP = os.path.dirname(os.path.dirname(os.path.abspath(__file__)))
+PAGES = ["README.md", *sorted(glob.glob("docs/*.md", root_dir=TOP))]
+CODE = re.compile(r"```.*?```|`([^`\n]+)`", re.S)
+CRATE = re.compile(r"\bnofs_[a-z_]+")
+ITEM = re.compile(r"\b(nofs_[a-z_]+)::((?:\w+::)*)(\w+)")
+PATH = re.compile(r"(?:crates|docs|tools|bench)/[\w./-]*\w|nofs_\w+/[\w./-]*\w")
+LINK = re.compile(r"\]\(([^)#\s]*)(?:#([^)\s]*))?\)")
+# What is no crate though its name looks so: a package of tools/ and the files of the client in C.
+OTHERS = {"nofs_mount", "nofs_client_h", "nofs_format", "nofs_example"}
+
+
+def read(path):
+    with open(os.path.join(TOP, path), encoding="utf-8") as page:
+        return page.read()
+
+
+def crates():
+    return {line.split(":")[0].split()[0] for line in read("crates.txt").splitlines() if ":" in line and line[0] != "#"}
+
+
+def sources(crate):
+    """The text of a crate's code and specs."""
+    files = [it for part, end in (("src", "rt"), ("specs", "antt")) for it in
+             glob.glob(f"crates/{crate}/{part}/**/*.{end}", root_dir=TOP, recursive=True)]
+    return "\n".join(read(it) for it in files)
+
+
+def names_in(page):
+    """The names in `..` on a page, each as it stands."""
+    return [it.group(1) for it in CODE.finditer(page) if it.group(1)]
+
+
+def anchor(heading):
+    """What a link to this heading ends with."""
+    return re.sub(r"[^\w\- ]", "", heading.strip().lower()).replace(" ", "-")
+
+
+class Pages(unittest.TestCase):
+    """Whatever a page names by crate, path or link is in the repository."""
+
+    def each(self, found):
+        """Fails with what was found, page by page."""
+        lost = [f"{path}: {it}" for path in PAGES for it in found(path, read(path))]
+        self.assertEqual(lost, [])
+
+    def test_a_crate_that_is_named_is_there(self):
+        known = crates() | OTHERS
+        self.each(lambda path, page: sorted({
+            crate for name in names_in(page) for crate in CRATE.findall(name)
+            if crate not in known and not glob.glob(f"tools/{crate}*", root_dir=TOP) and not name.startswith("tools/")
+            and not crate.endswith("_")}))
+
+    def test_an_item_that_is_named_stands_in_its_crate(self):
+        texts = {crate: sources(crate) for crate in crates()}
+
+        def lost(path, page):
+            for name in names_in(page):
+                for crate, way, item in ITEM.findall(name):
+                    words = [it for it in [*way.split("::"), item] if it]
+                    if crate in texts and not all(re.search(rf"\b{word}\b", texts[crate]) or os.path.isdir(
+                            os.path.join(TOP, "crates", crate, "src", word)) for word in words):
+                        yield f"{crate}::{way}{item}"
+
+        self.each(lost)
+
+    def test_a_path_that_is_named_is_there(self):
+        def lost(path, page):
+            for name in names_in(page):
+                for it in PATH.findall(name):
+                    at = it if it.split("/")[0] in ("crates", "docs", "tools", "bench") else f"crates/{it}"
+                    if "out/" not in at + "/" and not glob.glob(at, root_dir=TOP) and not at[-1] == "/":
+                        yield it
+
+        self.each(lost)
+
+    def test_a_link_leads_to_a_page_and_a_heading(self):
+        def lost(path, page):
+            for to, part in LINK.findall(page):
+                if to.startswith("http"):
+                    continue
+                at = os.path.normpath(os.path.join(os.path.dirname(path), to)) if to else path
+                if not os.path.exists(os.path.join(TOP, at)):
+                    yield to
+                elif part and part not in {anchor(it) for it in re.findall(r"^#+ (.*)$", read(at), re.M)}:
+                    yield f"{to}#{part}"
+
+        self.each(lost)
+
+
+if __name__ == "__main__":
+    unittest.main()
