@@ -124,10 +124,10 @@ module _ {T E F : Type 0} (entries : T → List E) (fixed : T → F) (f : F) (st
         taken = r.taken;
         holder = r.holder;
         bit = r.bit;
+        home = λ free. r.home free;
         words = same;
         small = r.small;
         grown = r.grown;
-        home = r.home;
       }
 
   -- a step that changes one view in nothing but its looks

@@ -22,19 +22,7 @@ module _ {E F : Type 0} where
 
   -- a seat of a turn that was made over the list xs, with the part f
   abbrev pub fresh : F → List E → ℕ → View E F
-  fresh f xs seats = record {
-    fixed = Some f;
-    start = length xs;
-    seats = seats;
-    seen = xs;
-    heard = [];
-    mine = [];
-    has = false;
-    splits = 0;
-    stands = 1;
-    looks = 0;
-    last = 0;
-  }
+  fresh f xs seats = record spent { fixed = Some f; start = length xs; seats = seats; seen = xs; stands = 1 }
 
   -- the maker's seat
   abbrev pub maker : F → List E → ℕ → View E F
