@@ -136,11 +136,11 @@ module _ (F : Files) (X Y : Image) (i g k at : ℕ) (bytes : List ℕ) (f : File
     generation = p.generation;
     file = p.file;
     range = p.range;
+    content = ap (λ (y : Pointer). (cell_at Y y.block).payload) (find-held X i (path_of k) x p.held).same ∙ p.content;
+    touches = touches;
     names = p.names;
     size = p.size;
-    touches = touches;
     grows = grows;
-    content = ap (λ (y : Pointer). (cell_at Y y.block).payload) (find-held X i (path_of k) x p.held).same ∙ p.content;
     old = p.old;
   }
 

@@ -156,12 +156,12 @@ module _ (F E : Files) (step : Step) (c : Claims) (X Y : Image) (move : HomesMov
       elim (move.held home.inode h.path h.pointer h.is_slot h.agreed h.holds) [
         | inl m ↦ houses-owner X home p
             (record {
+              agreed = m.0;
+              holds = m.1;
               path = h.path;
               pointer = h.pointer;
               is_slot = h.is_slot;
               slot = h.slot;
-              agreed = m.0;
-              holds = m.1;
               block = h.block;
             })
         | inr m ↦ absurd (none (claimed_home F step c p) free

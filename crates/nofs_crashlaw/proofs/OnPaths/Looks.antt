@@ -192,10 +192,10 @@ only-linked F d i g b p dg name entry k ex ne =
         generation = k.generation;
         at = k.at;
         parent = k.parent;
+        passes = one ∙ whole;
         older = k.older;
         entry = k.entry;
         there = k.there;
-        passes = one ∙ whole;
         names_inode = k.names_inode;
         names_generation = k.names_generation;
       },

@@ -139,11 +139,11 @@ LawLinkInHole = (F : Files) (X Y : Image) (d g n i of b s : ℕ) (name : List �
 pub record MakeLies (F : Files) (X Y : Image) (d g n s : ℕ) (name : List ℕ) (kind : FileKind) (claims : Claims)
     (f : FileState) : Type 0 where
   pub files : FilesMatch F X
+  pub none : F claims.inode ≡ None
+  pub plain : is_special claims.inode ≡ false
   pub is : F d ≡ Some f
   pub generation : f.generation ≡ g
   pub folder : is_folder f.kind ≡ true
-  pub none : F claims.inode ≡ None
-  pub plain : is_special claims.inode ≡ false
   pub young : f.generation < claims.generation
   pub range : n < entry_limit
   pub unpaired : is_paired F d n ≡ false
