@@ -109,10 +109,10 @@ module _ {T E F : Type 0} (entries : T → List E) (fixed : T → F) (f : F) (st
         of_turn = x.of_turn;
         seen = x.seen;
         heard = x.heard;
+        turn = λ has. turn has;
         rising = x.rising;
         mine = x.mine;
         stands = x.stands;
-        turn = turn;
       }
 
   -- the count stays where the words say the same
