@@ -1,13 +1,13 @@
 -- What Look answers.
 use Rattle.std.proofs.Common.{◌≡◌, ℕ, Bool, true, false, cond, ◌&&◌, not, eqb, is_some, option_map, List, [], ◌∷◌, ◌++◌}
-use Rattle.std.proofs.Common.{Option, Some, None, IsTrue, Result, Ok, Err, IfErr, refl, sym, ap, ◌∙◌, subst}
+use Rattle.std.proofs.Common.{Option, Some, None, IsTrue, Result, Ok, Err, refl, sym, ap, ◌∙◌, subst}
 use Rattle.nofs_disk.specs.Disk.{DiskState, IsDisk}
 use Rattle.nofs_disk.specs.Chains.{StaysButFaults-refl, StaysButFaults-trans}
 use Rattle.nofs_dirent.specs.Names.{is_name}
 use Rattle.nofs_inode.specs.declared.inode.Record.{Record}
 use Rattle.nofs_model.specs.Geometry.{Image, inode}
 use Rattle.nofs_history.specs.Search.{first_of}
-use Rattle.nofs_history.specs.Machine.{gives, generation_of, is_folder_at, found, first_dead, first_lost_slot}
+use Rattle.nofs_history.specs.Machine.{generation_of, is_folder_at, found, first_dead, first_lost_slot}
 use Rattle.nofs_history.specs.World.{World}
 use Rattle.nofs_history.specs.Claims.{no_claims}
 use Rattle.nofs_history.specs.Refusals.{rows, reads_nothing, missing}
@@ -23,29 +23,19 @@ use Rattle.nofs_agree.specs.declared.reads.LastRead.{LastRead}
 use Rattle.nofs_agree.proofs.OnChain.{told-on, record-of}
 use Rattle.nofs_state.specs.Books.Maps.{IsSafe}
 use Rattle.nofs_state.specs.Cores.Invariant.{IsOpen, Past}
-use Rattle.nofs_state.specs.Cores.Steps.{Goes, IsReading}
+use Rattle.nofs_state.specs.Cores.Steps.{Goes}
 use Rattle.nofs_state.specs.declared.books.maps.Books.{Books}
+use Rattle.nofs_state.proofs.OnCores.Readings.{look-reads}
 use Rattle.nofs_state.proofs.OnCores.Replies.{goes-row, goes-answer, open-files}
 use Rattle.nofs_state.proofs.OnCores.Refusals.{IsLate, first-late, late-row}
 use Rattle.nofs_state.proofs.OnBooks.Machine.{agreed-live, are-agreed}
 use Rattle.nofs_names.specs.Searches.Slots.{IsFoundEntry}
-use Rattle.nofs_names.specs.Searches.Refusals.{Fails, KnownTrue, IsThere, directory_rows, missing_rows}
+use Rattle.nofs_names.specs.Searches.Refusals.{IsThere, directory_rows, missing_rows}
 use Rattle.nofs_names.specs.Searches.Refusals.{OpensDirectory, FindsPair}
 use Rattle.nofs_names.specs.declared.searches.slots.Paired.{Paired}
 use Rattle.nofs_names.proofs.OnSearches.PairTests.{kind-of}
+use Rattle.nofs_names.proofs.OnLists.Answers.{goes-unopened}
 use Rattle.nofs_names.proofs.OnSteps.Parts.{first-left, first-right, goes-fails, opened-fails}
-
-pub look-reads : (d g : ℕ) (name : List ℕ) → IsReading (step.Look d g name)
-unfolding gives
-look-reads d g name =
-    record {
-      no_inode = refl;
-      no_block = λ F. refl;
-      gives = λ F. refl;
-      no_slot = λ F. refl;
-      sees_no_inode = λ j. refl;
-      sees_no_block = λ p. refl;
-    }
 
 -- a name that is missing is so after reads
 pub missing-late : (W : World) (d : ℕ) (name : List ℕ) → IsLate (missing W d name)
@@ -82,11 +72,8 @@ module _ (old : DiskState) (k : Books) (d g : ℕ) (name : List ℕ) (is : IsDis
         → OpensDirectory old mid k d g last res
         → res ≡ Err why → Goes old k mid k (step.Look d g name) no_claims (reply.Refused why)
     look-unopened mid last res why opens e =
-        goes-fails old mid k (step.Look d g name) (directory_rows d g) why is safe going opens.stays
-        (subst (λ (r : Result Record Refusal). IfErr r (Fails old mid (KnownTrue k) (directory_rows d g)))
-        e opens.refused)
-        (λ t H p o q. rows-are p.world
-        ∙ first-left (directory_rows d g p.world) (missing_rows d name p.world) why q) look-late
+        goes-unopened (step.Look d g name) is safe going opens e
+        (λ W q. rows-are W ∙ first-left (directory_rows d g W) (missing_rows d name W) why q) look-late
 
     module _ (mid new : DiskState) (last names records : LastRead) (r : Record)
         (opens : OpensDirectory old mid k d g last (Ok r)) where

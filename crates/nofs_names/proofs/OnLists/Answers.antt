@@ -11,13 +11,14 @@ use Rattle.nofs_model.specs.Slots.{value}
 use Rattle.nofs_model.specs.declared.image.value.Value.{Value}
 use Rattle.nofs_model.specs.declared.image.value.Value.TheVariants.{Hole, Bytes, Lost}
 use Rattle.nofs_history.specs.Search.{first_of, least_from}
-use Rattle.nofs_history.specs.Machine.{gives, generation_of, is_folder_at, value_of, is_hole, is_lost, is_refused}
+use Rattle.nofs_history.specs.Machine.{generation_of, is_folder_at, value_of, is_hole, is_lost, is_refused}
 use Rattle.nofs_history.specs.World.{World}
 use Rattle.nofs_history.specs.Claims.{no_claims}
 use Rattle.nofs_history.specs.Refusals.{rows}
 use Rattle.nofs_history.specs.Answers.{listed_reply, lines_in_slot}
 use Rattle.nofs_history.specs.History.{FilesMatch}
 use Rattle.nofs_history.specs.declared.machine.replies.NameLine.{NameLine}
+use Rattle.nofs_history.specs.declared.machine.steps.Step.{Step}
 use Rattle.nofs_history.specs.declared.machine.steps.Step.TheVariants as step
 use Rattle.nofs_history.specs.declared.machine.replies.Reply.{Reply}
 use Rattle.nofs_history.specs.declared.machine.replies.Reply.TheVariants as reply
@@ -27,10 +28,11 @@ use Rattle.nofs_agree.specs.declared.reads.LastRead.{LastRead}
 use Rattle.nofs_agree.proofs.OnChain.{told-on, record-of}
 use Rattle.nofs_state.specs.Books.Maps.{IsSafe}
 use Rattle.nofs_history.specs.Writes.{makes_calls}
-use Rattle.nofs_state.specs.Cores.Steps.{Goes, IsReading}
+use Rattle.nofs_state.specs.Cores.Steps.{Goes}
 use Rattle.nofs_state.specs.declared.books.maps.Books.{Books}
 use Rattle.nofs_state.specs.Inodes.Blocks.{MarkFails}
 use Rattle.nofs_state.proofs.OnCores.Unchanged.{goes-memory, reads-keep}
+use Rattle.nofs_state.proofs.OnCores.Readings.{list-reads}
 use Rattle.nofs_state.proofs.OnCores.Replies.{goes-answer, goes-read, open-files}
 use Rattle.nofs_state.proofs.OnCores.Refusals.{IsLate, first-late, late-row}
 use Rattle.nofs_state.proofs.OnBooks.Machine.{are-agreed}
@@ -41,18 +43,6 @@ use Rattle.nofs_names.specs.Lists.{AreHoles, InDirectory, FindsListed, IsListedS
 use Rattle.nofs_names.specs.declared.lists.ListedSlot.{ListedSlot}
 use Rattle.nofs_names.specs.declared.lists.ListedSlot.TheVariants as found
 use Rattle.nofs_names.proofs.OnSteps.Parts.{goes-fails}
-
-list-reads : (d g slot : ℕ) → IsReading (step.List d g slot)
-unfolding gives
-list-reads d g slot =
-    record {
-      no_inode = refl;
-      no_block = λ F. refl;
-      gives = λ F. refl;
-      no_slot = λ F. refl;
-      sees_no_inode = λ j. refl;
-      sees_no_block = λ p. refl;
-    }
 
 -- it may be one that found no memory, wherever it ends
 module _ (old : DiskState) (k : Books) (d g slot : ℕ) (safe : IsSafe old k) where
@@ -70,6 +60,17 @@ module _ (old : DiskState) (k : Books) (d g slot : ℕ) (safe : IsSafe old k) wh
   list-memory-read mid new end opened found read =
       list-memory end (StaysButFaults-trans old new end (StaysButFaults-trans old mid new opened found) read)
 
+-- a step whose directory was not opened
+pub goes-unopened : {old mid : DiskState} {k : Books} {d g : ℕ} {last : LastRead} {res : Result Record Refusal}
+    {why : Refusal} (s : Step) → IsDisk old → IsSafe old k → k.stopped ≡ false
+    → OpensDirectory old mid k d g last res → res ≡ Err why
+    → ((W : World) → first_of (directory_rows d g W) ≡ Some why → first_of (rows W W s) ≡ Some why)
+    → ((W : World) → IsLate (first_of (rows W W s))) → Goes old k mid k s no_claims (reply.Refused why)
+goes-unopened {old} {mid} {k} {d} {g} {last} {res} {why} s is safe going opens e row-is late =
+    goes-fails old mid k s (directory_rows d g) why is safe going opens.stays
+    (subst (λ (r : Result Record Refusal). IfErr r (Fails old mid (KnownTrue k) (directory_rows d g))) e opens.refused)
+    (λ t H p o q. row-is p.world q) late
+
 module _ (old : DiskState) (k : Books) (d g slot : ℕ) (is : IsDisk old) (safe : IsSafe old k)
     (going : k.stopped ≡ false) where
   list-late : (W : World) → IsLate (first_of (rows W W (step.List d g slot)))
@@ -81,11 +82,7 @@ module _ (old : DiskState) (k : Books) (d g slot : ℕ) (is : IsDisk old) (safe 
   pub list-unopened : (mid : DiskState) (last : LastRead) (res : Result Record Refusal) (why : Refusal)
       → OpensDirectory old mid k d g last res
       → res ≡ Err why → Goes old k mid k (step.List d g slot) no_claims (reply.Refused why)
-  list-unopened mid last res why opens e =
-      goes-fails old mid k (step.List d g slot) (directory_rows d g) why is safe going opens.stays
-      (subst (λ (r : Result Record Refusal). IfErr r (Fails old mid (KnownTrue k) (directory_rows d g)))
-      e opens.refused)
-      (λ t H p o q. q) list-late
+  list-unopened mid last res why opens e = goes-unopened (step.List d g slot) is safe going opens e (λ W q. q) list-late
 
   module _ (mid : DiskState) (last : LastRead) (r : Record) (opens : OpensDirectory old mid k d g last (Ok r)) where
     pub list-unread : (new : DiskState) (next : LastRead) (e : Failed) → FindsListed mid new d slot next (Err e)
