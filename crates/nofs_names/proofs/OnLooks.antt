@@ -1,8 +1,8 @@
 -- What Look answers.
 use Rattle.std.proofs.Common.{◌≡◌, ℕ, Bool, true, false, cond, ◌&&◌, not, eqb, is_some, option_map, List, [], ◌∷◌, ◌++◌}
-use Rattle.std.proofs.Common.{Option, Some, None, IsTrue, Result, Ok, Err, refl, sym, ap, ◌∙◌, subst}
+use Rattle.std.proofs.Common.{Option, Some, None, Result, Ok, Err, refl, sym, ap, ◌∙◌, subst}
 use Rattle.nofs_disk.specs.Disk.{DiskState, IsDisk}
-use Rattle.nofs_disk.specs.Chains.{StaysButFaults-refl, StaysButFaults-trans}
+use Rattle.nofs_disk.specs.Chains.{StaysButFaults-trans}
 use Rattle.nofs_dirent.specs.Names.{is_name}
 use Rattle.nofs_inode.specs.declared.inode.Record.{Record}
 use Rattle.nofs_model.specs.Geometry.{Image, inode}
@@ -13,7 +13,6 @@ use Rattle.nofs_history.specs.Claims.{no_claims}
 use Rattle.nofs_history.specs.Refusals.{rows, reads_nothing, missing}
 use Rattle.nofs_history.specs.Answers.{found_file, found_entry, found_reply}
 use Rattle.nofs_history.specs.History.{FilesMatch}
-use Rattle.nofs_history.specs.declared.machine.history.Entry1.{Entry1}
 use Rattle.nofs_history.specs.declared.machine.steps.Step.TheVariants as step
 use Rattle.nofs_history.specs.declared.machine.replies.Reply.TheVariants as reply
 use Rattle.nofs_history.specs.declared.machine.replies.Refusal.{Refusal}
@@ -22,11 +21,10 @@ use Rattle.nofs_crashlaw.proofs.OnUntouched.Matches.{matched-agreed}
 use Rattle.nofs_agree.specs.declared.reads.LastRead.{LastRead}
 use Rattle.nofs_agree.proofs.OnChain.{told-on, record-of}
 use Rattle.nofs_state.specs.Books.Maps.{IsSafe}
-use Rattle.nofs_state.specs.Cores.Invariant.{IsOpen, Past}
 use Rattle.nofs_state.specs.Cores.Steps.{Goes}
 use Rattle.nofs_state.specs.declared.books.maps.Books.{Books}
 use Rattle.nofs_state.proofs.OnCores.Readings.{look-reads}
-use Rattle.nofs_state.proofs.OnCores.Replies.{goes-row, goes-answer, open-files}
+use Rattle.nofs_state.proofs.OnCores.Replies.{goes-answer, open-files}
 use Rattle.nofs_state.proofs.OnCores.Refusals.{IsLate, first-late, late-row}
 use Rattle.nofs_state.proofs.OnBooks.Machine.{agreed-live, are-agreed}
 use Rattle.nofs_names.specs.Searches.Slots.{IsFoundEntry}
@@ -34,8 +32,8 @@ use Rattle.nofs_names.specs.Searches.Refusals.{IsThere, directory_rows, missing_
 use Rattle.nofs_names.specs.Searches.Refusals.{OpensDirectory, FindsPair}
 use Rattle.nofs_names.specs.declared.searches.slots.Paired.{Paired}
 use Rattle.nofs_names.proofs.OnSearches.PairTests.{kind-of}
-use Rattle.nofs_names.proofs.OnLists.Answers.{goes-unopened}
-use Rattle.nofs_names.proofs.OnSteps.Parts.{first-left, first-right, goes-fails, opened-fails}
+use Rattle.nofs_names.proofs.OnSteps.Parts.{Unopened, directory-passes, first-right, goes-bad, goes-unopened}
+use Rattle.nofs_names.proofs.OnSteps.Parts.{goes-within}
 
 -- a name that is missing is so after reads
 pub missing-late : (W : World) (d : ℕ) (name : List ℕ) → IsLate (missing W d name)
@@ -54,8 +52,7 @@ missing-late W d name why e =
 module _ (old : DiskState) (k : Books) (d g : ℕ) (name : List ℕ) (is : IsDisk old) (safe : IsSafe old k)
     (going : k.stopped ≡ false) where
   pub look-bad : is_name name ≡ false → Goes old k old k (step.Look d g name) no_claims (reply.Refused refusal.BadName)
-  look-bad bad = goes-row old old k (step.Look d g name) is safe (StaysButFaults-refl old) refusal.BadName refl tt going
-      (λ tells H p o. rw bad refl)
+  look-bad bad = goes-bad old k (step.Look d g name) is safe going (λ W. rw bad refl)
 
   module _ (ok : is_name name ≡ true) where
     rows-are : (W : World)
@@ -68,27 +65,16 @@ module _ (old : DiskState) (k : Books) (d g : ℕ) (name : List ℕ) (is : IsDis
       (late-row (not (is_folder_at W.files d)) refusal.NotDirectory refl, (missing-late W d name, tt)),
     ) why (sym (rows-are W) ∙ e)
 
-    pub look-unopened : (mid : DiskState) (last : LastRead) (res : Result Record Refusal) (why : Refusal)
-        → OpensDirectory old mid k d g last res
-        → res ≡ Err why → Goes old k mid k (step.Look d g name) no_claims (reply.Refused why)
-    look-unopened mid last res why opens e =
-        goes-unopened (step.Look d g name) is safe going opens e
-        (λ W q. rows-are W ∙ first-left (directory_rows d g W) (missing_rows d name W) why q) look-late
+    pub look-unopened : Unopened old k d g (step.Look d g name)
+    look-unopened = goes-unopened old k d g (step.Look d g name) (missing_rows d name) is safe going rows-are look-late
 
     module _ (mid new : DiskState) (last names records : LastRead) (r : Record)
         (opens : OpensDirectory old mid k d g last (Ok r)) where
-      none-before : IsTrue old.tells → (H : List Entry1) (p : Past) → IsOpen old k H p
-          → first_of (directory_rows d g p.world) ≡ None
-      none-before t H p o = opens.passes t (are-agreed old k H p safe o) p.world (open-files old k H p o)
-
       pub look-missing : (res : Result Paired Refusal) (why : Refusal)
           → FindsPair mid new k.at d name names records res → res ≡ Err why
           → Goes old k new k (step.Look d g name) no_claims (reply.Refused why)
-      look-missing res why finds e = goes-fails old new k (step.Look d g name) (missing_rows d name) why is safe going
-          (StaysButFaults-trans old mid new opens.stays finds.stays)
-          (opened-fails old mid new k d (missing_rows d name) res why opens.stays opens.there e finds.refused)
-          (λ t H p o q. rows-are p.world
-          ∙ first-right (directory_rows d g p.world) (missing_rows d name p.world) (none-before t H p o) ∙ q) look-late
+      look-missing res why finds e = goes-within old mid k d g last r safe opens new (step.Look d g name)
+          (missing_rows d name) (λ W. []) res why is going rows-are look-late finds.stays e finds.refused
 
       pub look-found : (it : Paired) → FindsPair mid new k.at d name names records (Ok it)
           → Goes old k new k (step.Look d g name) no_claims
@@ -115,7 +101,7 @@ module _ (old : DiskState) (k : Books) (d g : ℕ) (name : List ℕ) (is : IsDis
           ∙ ap (λ (q : Record). q.kind) rec ∙ finds.known.1) in
           let file : p.world.files f.pair.entry.inode ≡ Some m.file = ap p.world.files f.pair.names ∙ m.is in (
             rows-are p.world ∙ first-right (directory_rows d g p.world) (missing_rows d name p.world)
-                (none-before t H p o) ∙ (let s = f.found in rw s refl),
+                (directory-passes old mid k d g last r safe opens t H p o) ∙ (let s = f.found in rw s refl),
             (λ j. reply.Found (record { inode = sym f.pair.names j; generation = sym gen j; kind = sym kind j }))
                 ∙ sym (ap (found_reply p.world.files d) f.found ∙ ap (found_entry p.world.files) f.pair.at
                 ∙ ap (found_file f.pair.entry.inode) file),

@@ -29,6 +29,7 @@ use Rattle.nofs_state.specs.declared.books.maps.Books.{Books}
 use Rattle.nofs_names.specs.Searches.Refusals.{IsThere, KnownTrue}
 use Rattle.nofs_names.specs.Links.{PlaceIs, block_rows}
 use Rattle.nofs_names.specs.Entries.Places.{AreFree, FitsSlot, IsEntrySlot, IsSlotCell, slot_blocks}
+use Rattle.nofs_state.specs.declared.books.maps.InodeClaim.{InodeClaim}
 use Rattle.nofs_state.specs.declared.writes.ends.Ended.{Ended}
 use Rattle.nofs_names.specs.declared.entries.writes.EntryPlace.{EntryPlace}
 use Rattle.nofs_names.specs.declared.makes.new_file.NewFile.{NewFile}
@@ -58,6 +59,10 @@ pub record FindsInode (k : Books) (result : Result ℕ Refusal) : Type 0 where
   pub free : IfOk result (λ i. is_set k.free_inodes (i - 1) ≡ true)
   pub raised : OnOk result (is_raised k ≡ true)
   pub refused : IfErr result (NoInode k)
+
+-- what was claimed for an entry, with the inode
+abbrev pub with_inode : Claims → InodeClaim → Claims
+with_inode c claim = record c { inode = claim.inode; generation = claim.generation }
 
 abbrev pub made_answer : Claims → Result (Unit {0}) Refusal → Reply
 made_answer c (Ok done) = reply.Made c.inode c.generation

@@ -2,10 +2,10 @@
 ghost use Rattle.std.specs.Prelude.{◌≡◌, ◌≤◌, false};
 ghost use Rattle.nofs_history.specs.declared.machine.steps.Step.TheVariants as step;
 ghost use Rattle.nofs_history.specs.declared.machine.replies.Reply.TheVariants as reply;
-ghost use Rattle.nofs_state.specs.Cores.Steps.{Goes};
-ghost use Rattle.nofs_agree.specs.Reads.{IsLast};
 ghost use Rattle.nofs_history.specs.Claims.{no_claims};
+ghost use Rattle.nofs_agree.specs.Reads.{IsLast};
 ghost use Rattle.nofs_state.specs.Books.Maps.{IsSafe};
+ghost use Rattle.nofs_state.specs.Cores.Steps.{Goes};
 ghost use Rattle.nofs_names.specs.Renames.Parts.{done_answer};
 ghost use Rattle.nofs_names.specs.Renames.Answers.{MayRename, RenameGoes};
 

@@ -1,5 +1,5 @@
 -- A step with which one inode goes: what it used is free, and known to be.
-use Rattle.std.proofs.Common.{◌≡◌, ◌≢◌, ℕ, ◌+◌, ◌-◌, ◌<◌, ◌≤◌, ◌⊎◌, Bool, true, false, cond, ltb, eqb, eq-eqb, ◌&&◌}
+use Rattle.std.proofs.Common.{◌≡◌, ◌≢◌, ℕ, ◌-◌, ◌<◌, ◌≤◌, ◌⊎◌, Bool, true, false, cond, ltb, eqb, eq-eqb, ◌&&◌}
 use Rattle.std.proofs.Common.{◌||◌, not, Option, Some, None, is_some, inl, inr, refl, sym, ap, ◌∙◌, subst, arith}
 use Rattle.nofs_agree.specs.Chain.{known_agreement}
 use Rattle.std.proofs.lemmas.Bool.{cases_eq, ne_eqb}
@@ -7,15 +7,13 @@ use Rattle.std.proofs.Math.Bool.{or-false, or-true}
 use Rattle.nofs_ptrs.specs.Paths.{slot_limit}
 use Rattle.nofs_bits.specs.Bits.{is_set}
 use Rattle.nofs_super.specs.declared.superblock.SuperBlock.{SuperBlock}
-use Rattle.nofs_disk.specs.Pointer.{null}
 use Rattle.nofs_model.specs.Geometry.{Image}
 use Rattle.nofs_model.specs.Files.{is_special, FileState, Files}
 use Rattle.nofs_model.specs.Owners.{Home}
 use Rattle.nofs_history.specs.Machine.{gives, files_after}
 use Rattle.nofs_history.specs.World.{World, is_fixed, blocks_needed, inodes_needed, uses_inode, uses_block}
 use Rattle.nofs_history.specs.World.{is_free_block}
-use Rattle.nofs_history.specs.Claims.{no_claims, IsBlockClaim, next_stamp, has_block, homes_after, claimed_home}
-use Rattle.nofs_history.specs.Claims.{IsClaim, IsInodeClaim, Unclaimed, NoInode}
+use Rattle.nofs_history.specs.Claims.{no_claims, has_block, homes_after, claimed_home, IsClaim}
 use Rattle.nofs_history.specs.History.{FilesMatch}
 use Rattle.nofs_history.specs.Next.{Learns, sees_inode, sees_block}
 use Rattle.nofs_history.specs.declared.machine.steps.Step.{Step}
@@ -26,7 +24,7 @@ use Rattle.nofs_state.proofs.OnCores.Done.{after_world}
 use Rattle.nofs_state.proofs.OnCores.Replies.{home-has}
 use Rattle.nofs_names.proofs.OnSteps.OpenMount.{Follows}
 use Rattle.nofs_names.specs.Drops.Removal.{is_of}
-use Rattle.nofs_names.proofs.OnSteps.NoClaims.{block_in}
+use Rattle.nofs_names.proofs.OnSteps.NoClaims.{block_in, no-claim}
 
 -- what a step owes with which inode i goes
 pub record IsLeaving (W : World) (s : Step) (G : Files) (i : ℕ) : Type 0 where
@@ -58,17 +56,7 @@ pub record Freed (k l : Books) (i : ℕ) (owned : ℕ → Bool) : Type 0 where
       → (j ≢ i) × (known_agreement k.agreement j ≡ Some a)
 
 pub leaving-claim : (W : World) (s : Step) (G : Files) (i : ℕ) → IsLeaving W s G i → IsClaim W s no_claims
-leaving-claim W s G i leaving = record {
-  inode = subst (λ (n : ℕ). IsInodeClaim W (next_stamp W) no_claims (ltb 0 n)) (sym leaving.no_inode)
-      (NoInode refl refl);
-  cell = subst (λ (n : ℕ). IsBlockClaim W (next_stamp W + inodes_needed s) null (ltb 0 n)) (sym leaving.no_block)
-      (Unclaimed refl);
-  leaf = subst (λ (n : ℕ). IsBlockClaim W (next_stamp W + inodes_needed s + 1) null (ltb 1 n)) (sym leaving.no_block)
-      (Unclaimed refl);
-  top = subst (λ (n : ℕ). IsBlockClaim W (next_stamp W + inodes_needed s + 2) null (ltb 2 n)) (sym leaving.no_block)
-      (Unclaimed refl);
-  apart = tt;
-}
+leaving-claim W s G i leaving = no-claim W s leaving.no_inode leaving.no_block
 
 module _ (X : Image) (k l : Books) (W : World) (s : Step) (G : Files) (i : ℕ) (says : Says k W)
     (match : FilesMatch W.files X) (homes : HomesMatch W X)

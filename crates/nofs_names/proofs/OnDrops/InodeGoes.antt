@@ -172,13 +172,13 @@ pub remove-ends : (old mid new : DiskState) (k m l : Books) (d g : ℕ) (name : 
 remove-ends old mid new k m l d g name r x c1 before c2 q freed result is_mid is_new stays safe going directory gen
     there record-known q-kind found-in
     no_names loses positive held cleared table record-in table-tag blocks pass stores ok err =
+    let dropping = is-dropping old k d g name r x c1 q directory gen there record-known found-in no_names positive held
+    cleared in
     goes-after old mid (reads-keep old mid stays) new k l (step.Drop d g name) no_claims
     (done_answer (reply.Dropped true) result)
     (removed-goes mid new k l d g name r x c1 c2 q freed is_mid is_new
     (safe-keeps old mid (reads-keep old mid stays) k safe) going
-    (dropping-on old k d g name r x c1 q
-    (is-dropping old k d g name r x c1 q directory gen there record-known found-in no_names positive held cleared) mid
-    stays)
+    (dropping-on old k d g name r x c1 q dropping mid stays)
     q-kind
     (λ t all F w. loses (told t) (subst (λ (X : Image). KnownTrue k X) now all) F
     (subst (λ (X : Image). FilesMatch F X) now w))

@@ -124,13 +124,12 @@ pub drop-ends : (old mid new : DiskState) (k l : Books) (d g : ℕ) (name : List
 drop-ends old mid new k l d g name r x c1 before c2 q result is_mid is_new stays safe going directory gen there
     record-known found-in no_names keeps positive
     held cleared table record-in table-tag pass stores =
-    goes-after old mid (reads-keep old mid stays) new k l (step.Drop d g name) no_claims
-    (done_answer (reply.Dropped false) result)
+    let dropping = is-dropping old k d g name r x c1 q directory gen there record-known found-in no_names positive held
+    cleared in
+    goes-after old mid (reads-keep old mid stays) new k l _ no_claims (done_answer (reply.Dropped false) result)
     (dropped-goes mid new k l d g name r x c1 c2 q result is_mid is_new
     (safe-keeps old mid (reads-keep old mid stays) k safe) going
-    (dropping-on old k d g name r x c1 q
-    (is-dropping old k d g name r x c1 q directory gen there record-known found-in no_names positive held cleared) mid
-    stays)
+    (dropping-on old k d g name r x c1 q dropping mid stays)
     (λ t all F m. keeps (told t) (subst (λ (X : Image). KnownTrue k X) now all) F
     (subst (λ (X : Image). FilesMatch F X) now m))
     (λ t. subst (λ (z : Cell). RecordIn z q.inode (relinked q.record (link_to d q.entry g)) c2)

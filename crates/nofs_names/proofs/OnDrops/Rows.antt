@@ -3,7 +3,7 @@ use Rattle.std.proofs.Common.{◌≡◌, ℕ, Bool, true, false, not, eqb, ◌&&
 use Rattle.std.proofs.Common.{None, IsTrue, Result, Ok, Err, IfErr, refl, sym, ap, ◌∙◌, ◌<◌, subst, arith}
 use Rattle.nofs_dirent.specs.Entries.{entry_limit}
 use Rattle.nofs_disk.specs.Disk.{DiskState, IsDisk, StaysButFaults}
-use Rattle.nofs_disk.specs.Chains.{StaysButFaults-refl, StaysButFaults-trans}
+use Rattle.nofs_disk.specs.Chains.{StaysButFaults-trans}
 use Rattle.nofs_dirent.specs.Names.{is_name}
 use Rattle.nofs_dirent.specs.declared.entry.Entry.{Entry}
 use Rattle.nofs_inode.specs.declared.inode.Record.{Record}
@@ -31,13 +31,14 @@ use Rattle.nofs_names.specs.Searches.Refusals.{Fails, ByRow, ByRead, KnownTrue, 
 use Rattle.nofs_names.specs.Searches.Refusals.{OpensDirectory, FindsPair}
 use Rattle.nofs_names.specs.declared.searches.slots.Paired.{Paired}
 use Rattle.nofs_state.proofs.OnCores.Unchanged.{open-back, reads-keep}
-use Rattle.nofs_state.proofs.OnCores.Replies.{goes-row, open-files}
+use Rattle.nofs_state.proofs.OnCores.Replies.{open-files}
 use Rattle.nofs_state.proofs.OnCores.Refusals.{IsLate, first-late, late-row}
 use Rattle.nofs_state.proofs.OnBooks.Machine.{are-agreed}
-use Rattle.nofs_names.proofs.OnEntries.Least.{least-none}
+use Rattle.nofs_state.proofs.OnBooks.Counts.{least-none}
 use Rattle.nofs_names.proofs.OnLooks.{missing-late}
 use Rattle.nofs_names.proofs.OnSteps.Reads.{directory-on, there-on, paired-on, found-on, no-names-on}
-use Rattle.nofs_names.proofs.OnSteps.Parts.{first-left, first-right, fails-after, goes-fails, opened-fails}
+use Rattle.nofs_names.proofs.OnSteps.Parts.{Unopened, directory-passes, fails-after, first-right, goes-bad, goes-fails}
+use Rattle.nofs_names.proofs.OnSteps.Parts.{goes-unopened, goes-within}
 use Rattle.nofs_names.specs.Drops.Answers.{FindsEmpty, MayDrop, filled_rows}
 
 filled-late : (W : World) (d : ℕ) (name : List ℕ) → IsLate (not_empty W d name)
@@ -69,8 +70,7 @@ none-filled F i none = go (is_folder_at F i) refl
 module _ (old : DiskState) (k : Books) (d g : ℕ) (name : List ℕ) (is : IsDisk old) (safe : IsSafe old k)
     (going : k.stopped ≡ false) where
   pub drop-bad : is_name name ≡ false → Goes old k old k (step.Drop d g name) no_claims (reply.Refused refusal.BadName)
-  drop-bad bad = goes-row old old k (step.Drop d g name) is safe (StaysButFaults-refl old) refusal.BadName refl tt going
-      (λ tells H p o. rw bad refl)
+  drop-bad bad = goes-bad old k (step.Drop d g name) is safe going (λ W. rw bad refl)
 
   module _ (ok : is_name name ≡ true) where
     rows-are : (W V : World) → first_of (rows W V (step.Drop d g name)) ≡ first_of
@@ -87,32 +87,18 @@ module _ (old : DiskState) (k : Books) (d g : ℕ) (name : List ℕ) (is : IsDis
     ) why
         (sym (rows-are W W) ∙ e)
 
-    pub drop-unopened : (mid : DiskState) (last : LastRead) (res : Result Record Refusal) (why : Refusal)
-        → OpensDirectory old mid k d g last res
-        → res ≡ Err why → Goes old k mid k (step.Drop d g name) no_claims (reply.Refused why)
-    drop-unopened mid last res why opens e =
-        goes-fails old mid k (step.Drop d g name) (directory_rows d g) why is safe going opens.stays
-        (subst (λ (r : Result Record Refusal). IfErr r (Fails old mid (KnownTrue k) (directory_rows d g)))
-        e opens.refused)
-        (λ t H p o q. rows-are p.world p.world
-        ∙ first-left (directory_rows d g p.world) (missing_rows d name p.world ++ (not_empty p.world d name ∷ [])) why
-        q) late
+    pub drop-unopened : Unopened old k d g (step.Drop d g name)
+    drop-unopened = goes-unopened old k d g (step.Drop d g name)
+        (λ W. missing_rows d name W ++ (not_empty W d name ∷ [])) is safe going (λ W. rows-are W W) late
 
     module _ (mid : DiskState) (last : LastRead) (r : Record) (opens : OpensDirectory old mid k d g last (Ok r)) where
-      none-before : IsTrue old.tells → (H : List Entry1) (p : Past) → IsOpen old k H p
-          → first_of (directory_rows d g p.world) ≡ None
-      none-before t H p o = opens.passes t (are-agreed old k H p safe o) p.world (open-files old k H p o)
-
       module _ (new : DiskState) (names records : LastRead) where
         pub drop-missing : (res : Result Paired Refusal) (why : Refusal)
             → FindsPair mid new k.at d name names records res → res ≡ Err why
             → Goes old k new k (step.Drop d g name) no_claims (reply.Refused why)
-        drop-missing res why finds e = goes-fails old new k (step.Drop d g name) (missing_rows d name) why is safe going
-            (StaysButFaults-trans old mid new opens.stays finds.stays)
-            (opened-fails old mid new k d (missing_rows d name) res why opens.stays opens.there e finds.refused)
-            (λ t H p o q. rows-are p.world p.world
-            ∙ first-right (directory_rows d g p.world) (missing_rows d name p.world ++ (not_empty p.world d name ∷ []))
-            (none-before t H p o) ∙ first-left (missing_rows d name p.world) (not_empty p.world d name ∷ []) why q) late
+        drop-missing res why finds e = goes-within old mid k d g last r safe opens new (step.Drop d g name)
+            (missing_rows d name) (λ W. not_empty W d name ∷ []) res why is going (λ W. rows-are W W) late finds.stays e
+            finds.refused
 
         module _ (end : DiskState) (q : Paired) (finds : FindsPair mid new k.at d name names records (Ok q)) where
           to-new : StaysButFaults old new
@@ -136,7 +122,7 @@ module _ (old : DiskState) (k : Books) (d g : ℕ) (name : List ℕ) (is : IsDis
               → first_of (rows p.world V (step.Drop d g name)) ≡ first_of (filled_rows q.inode p.world)
           to-filled t H p o V = rows-are p.world V ∙ first-right (directory_rows d g p.world)
               (missing_rows d name p.world ++ (not_empty p.world d name ∷ []))
-              (none-before t H p o)
+              (directory-passes old mid k d g last r safe opens t H p o)
               ∙ first-right (missing_rows d name p.world) (not_empty p.world d name ∷ []) (none-missing t H p o)
               ∙ ap (λ (x : Option Refusal). first_of (x ∷ [])) (filled-is p.world old.now d name q (found-here t H p o))
 

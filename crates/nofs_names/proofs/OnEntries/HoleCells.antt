@@ -131,21 +131,15 @@ module _ (X : Image) (d i e : ℕ) (dr : Record) (ready : IsReady X d i e dr) wh
         ∙ (λ j. tag_for Y d (is j) x.stamp));
   }
 
-  content-is : (x : Pointer) (Y : Image) (c : Cell) (it : Entry) → IsNewCell d dr.generation e it x.stamp c
-      → cell_at Y x.block ≡ c
-      → length (spelled_entry it.inode it.generation it.name) ≡ 64
-      → Bytes (cell_at Y x.block).payload ≡ with_entry Hole e (spelled_entry it.inode it.generation it.name)
-  content-is x Y c it filled here short = ap (λ (z : Cell). Bytes z.payload) here ∙ ap Bytes filled.payload
-      ∙ content-new e it short
-
   pub hole-facts : HoleFacts X d e dr
   hole-facts = record {
     low = low;
     fits = fits;
     above = above;
     off = off;
+    content_is = λ x Y c it filled here short. ap (λ (z : Cell). Bytes z.payload) here ∙ ap Bytes filled.payload
+        ∙ content-new e it short;
     in_table = in-table;
     below = below;
     claimed_cell = claimed-cell;
-    content_is = content-is;
   }

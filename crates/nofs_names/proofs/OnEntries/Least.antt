@@ -3,6 +3,7 @@ use Rattle.std.proofs.Common.{◌≡◌, ℕ, zero, suc, ◌+◌, ◌-◌, ◌<�
 use Rattle.std.proofs.Common.{sym, ap, ◌∙◌, arith}
 use Rattle.nofs_history.specs.Search.{least_from}
 use Rattle.nofs_names.specs.Searches.Slots.{first_or, where_true}
+use Rattle.nofs_state.proofs.OnBooks.Counts.{least-none}
 
 pub least-one : (test : ℕ → Bool) (at : ℕ) → least_from test at 1 ≡ where_true (test at) at
 unfolding least_from
@@ -34,14 +35,6 @@ pub least-next : (test : ℕ → Bool) (n : ℕ)
 least-next test n = least-more test 0 n 1
     ∙ (let z : 0 + n ≡ n = omega arith in (λ j. first_or (least_from test 0 n) (least_from test (z j) 1)))
     ∙ ap (first_or (least_from test 0 n)) (least-one test n)
-
--- none of the next numbers passes
-pub least-none : (test : ℕ → Bool) (at n : ℕ) → ((k : ℕ) → at ≤ k → k < at + n → test k ≡ false)
-    → least_from test at n ≡ None
-unfolding least_from
-least-none test at zero none = refl
-least-none test at (suc n) none = rw (none at (omega arith) (omega arith))
-    (least-none test (suc at) n (λ k low high. none k (omega (arith, low)) (omega (arith, high))))
 
 pub or-none : (o : Option ℕ) → first_or o None ≡ o
 or-none None = refl

@@ -89,11 +89,6 @@ hole-under old mid at d k names a res high low hole f is = go a f is
         })
     go answer.Lost f e = subst (λ (r : Result EntrySlot Refusal). FindsEntrySlot old mid at d k names r) (sym e)
         (record {
-          stays = f.stays;
-          fits = tt;
-          found = tt;
-          cell = tt;
-          kept = tt;
           refused = inl (
             refl,
             tt,
@@ -103,6 +98,11 @@ hole-under old mid at d k names a res high low hole f is = go a f is
                 let h = hole t in
                 ((λ x q. cc (lost, q)), (λ q. cc (lost, q))),
           );
+          stays = f.stays;
+          fits = tt;
+          found = tt;
+          cell = tt;
+          kept = tt;
         })
 
 -- The blocks

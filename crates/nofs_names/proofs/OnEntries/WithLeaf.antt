@@ -104,12 +104,12 @@ module _ (X : Image) (d i e : ℕ) (dr : Record) (ready : IsReady X d i e dr) (s
   with-enters = record {
     super = written.super;
     inode_is = written.inode_is;
+    each = each;
     entry = record {
       empty = hole;
       claimed = WithLeaf high facts.below claimed;
       content = facts.content_is x Y c it filled cell-is short;
     };
-    each = each;
     once = (
       (xy, written.apart x.block block.area),
       (written.apart y.block leaf-block.area, written.once),

@@ -167,10 +167,10 @@ place-none test (l ∷ links) b none =
 -- each of the first so many back links is a pair with an agreed directory
 pub record Lives (old now : DiskState) (known : List (Option Bool)) (i : ℕ) (r : Record) (last : LastRead)
     (place : ℕ) : Type 0 where
-  pub stays : StaysButFaults old now
-  pub kept : IsLast now last
   pub all : IsTrue old.tells → AreTrue old.now known
       → (m : ℕ) → m < place → is_agreed_link (files_in old.now) i (get_or r.links m no_link) ≡ true
+  pub stays : StaysButFaults old now
+  pub kept : IsLast now last
 
 module _ (old now new : DiskState) (known : List (Option Bool)) (i : ℕ) (r : Record) (last next : LastRead) (place : ℕ)
     (res : Result Bool Failed)

@@ -1,6 +1,6 @@
 -- What List answers.
 use Rattle.std.proofs.Common.{◌≡◌, ℕ, ◌-◌, ◌<◌, ◌≤◌, false, cond, not, eqb, ◌&&◌, is_some, List, Some, None, IsTrue}
-use Rattle.std.proofs.Common.{Result, Ok, Err, IfErr, inl, inr, refl, sym, ap, ◌∙◌, subst, arith, le_refl}
+use Rattle.std.proofs.Common.{[], Result, Ok, Err, IfErr, inl, inr, refl, sym, ap, ◌∙◌, subst, arith, le_refl}
 use Rattle.nofs_disk.specs.Disk.{DiskState, IsDisk, StaysButFaults}
 use Rattle.nofs_disk.specs.Chains.{StaysButFaults-trans, Rose-within}
 use Rattle.nofs_disk.specs.declared.Failed.{Failed}
@@ -18,7 +18,6 @@ use Rattle.nofs_history.specs.Refusals.{rows}
 use Rattle.nofs_history.specs.Answers.{listed_reply, lines_in_slot}
 use Rattle.nofs_history.specs.History.{FilesMatch}
 use Rattle.nofs_history.specs.declared.machine.replies.NameLine.{NameLine}
-use Rattle.nofs_history.specs.declared.machine.steps.Step.{Step}
 use Rattle.nofs_history.specs.declared.machine.steps.Step.TheVariants as step
 use Rattle.nofs_history.specs.declared.machine.replies.Reply.{Reply}
 use Rattle.nofs_history.specs.declared.machine.replies.Reply.TheVariants as reply
@@ -36,13 +35,14 @@ use Rattle.nofs_state.proofs.OnCores.Readings.{list-reads}
 use Rattle.nofs_state.proofs.OnCores.Replies.{goes-answer, goes-read, open-files}
 use Rattle.nofs_state.proofs.OnCores.Refusals.{IsLate, first-late, late-row}
 use Rattle.nofs_state.proofs.OnBooks.Machine.{are-agreed}
-use Rattle.nofs_names.proofs.OnEntries.Least.{least-first, least-none}
+use Rattle.nofs_state.proofs.OnBooks.Counts.{least-none}
+use Rattle.nofs_names.proofs.OnEntries.Least.{least-first}
 use Rattle.nofs_names.proofs.OnSearches.Progress.{value-at}
-use Rattle.nofs_names.specs.Searches.Refusals.{Fails, KnownTrue, IsThere, directory_rows, OpensDirectory}
+use Rattle.nofs_names.specs.Searches.Refusals.{IsThere, directory_rows, OpensDirectory}
 use Rattle.nofs_names.specs.Lists.{AreHoles, InDirectory, FindsListed, IsListedSlot, ReadsLines}
 use Rattle.nofs_names.specs.declared.lists.ListedSlot.{ListedSlot}
 use Rattle.nofs_names.specs.declared.lists.ListedSlot.TheVariants as found
-use Rattle.nofs_names.proofs.OnSteps.Parts.{goes-fails}
+use Rattle.nofs_names.proofs.OnSteps.Parts.{Unopened, goes-unopened}
 
 -- it may be one that found no memory, wherever it ends
 module _ (old : DiskState) (k : Books) (d g slot : ℕ) (safe : IsSafe old k) where
@@ -60,17 +60,6 @@ module _ (old : DiskState) (k : Books) (d g slot : ℕ) (safe : IsSafe old k) wh
   list-memory-read mid new end opened found read =
       list-memory end (StaysButFaults-trans old new end (StaysButFaults-trans old mid new opened found) read)
 
--- a step whose directory was not opened
-pub goes-unopened : {old mid : DiskState} {k : Books} {d g : ℕ} {last : LastRead} {res : Result Record Refusal}
-    {why : Refusal} (s : Step) → IsDisk old → IsSafe old k → k.stopped ≡ false
-    → OpensDirectory old mid k d g last res → res ≡ Err why
-    → ((W : World) → first_of (directory_rows d g W) ≡ Some why → first_of (rows W W s) ≡ Some why)
-    → ((W : World) → IsLate (first_of (rows W W s))) → Goes old k mid k s no_claims (reply.Refused why)
-goes-unopened {old} {mid} {k} {d} {g} {last} {res} {why} s is safe going opens e row-is late =
-    goes-fails old mid k s (directory_rows d g) why is safe going opens.stays
-    (subst (λ (r : Result Record Refusal). IfErr r (Fails old mid (KnownTrue k) (directory_rows d g))) e opens.refused)
-    (λ t H p o q. row-is p.world q) late
-
 module _ (old : DiskState) (k : Books) (d g slot : ℕ) (is : IsDisk old) (safe : IsSafe old k)
     (going : k.stopped ≡ false) where
   list-late : (W : World) → IsLate (first_of (rows W W (step.List d g slot)))
@@ -79,10 +68,8 @@ module _ (old : DiskState) (k : Books) (d g slot : ℕ) (is : IsDisk old) (safe 
     (late-row (not (is_folder_at W.files d)) refusal.NotDirectory refl, tt),
   )
 
-  pub list-unopened : (mid : DiskState) (last : LastRead) (res : Result Record Refusal) (why : Refusal)
-      → OpensDirectory old mid k d g last res
-      → res ≡ Err why → Goes old k mid k (step.List d g slot) no_claims (reply.Refused why)
-  list-unopened mid last res why opens e = goes-unopened (step.List d g slot) is safe going opens e (λ W q. q) list-late
+  pub list-unopened : Unopened old k d g (step.List d g slot)
+  list-unopened = goes-unopened old k d g (step.List d g slot) (λ W. []) is safe going (λ W. refl) list-late
 
   module _ (mid : DiskState) (last : LastRead) (r : Record) (opens : OpensDirectory old mid k d g last (Ok r)) where
     pub list-unread : (new : DiskState) (next : LastRead) (e : Failed) → FindsListed mid new d slot next (Err e)

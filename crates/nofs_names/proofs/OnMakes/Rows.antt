@@ -6,7 +6,7 @@ use Rattle.std.proofs.lemmas.Bool.Decides.{nat_tests}
 use Rattle.std.proofs.lemmas.List.Sums.{count_by-le-length}
 use Rattle.nofs_dirent.specs.Entries.{entry_limit}
 use Rattle.nofs_bits.specs.Bits.{count_set, is_set}
-use Rattle.nofs_disk.specs.Disk.{DiskState, IsDisk, Rose, StaysButFaults}
+use Rattle.nofs_disk.specs.Disk.{DiskState, IsDisk, StaysButFaults}
 use Rattle.nofs_disk.specs.Chains.{StaysButFaults-refl, StaysButFaults-trans}
 use Rattle.nofs_dirent.specs.Names.{is_name}
 use Rattle.nofs_inode.specs.declared.inode.FileKind.{FileKind}
@@ -39,14 +39,15 @@ use Rattle.nofs_state.proofs.OnCores.Refusals.{IsLate, first-late, late-row}
 use Rattle.nofs_state.proofs.OnBooks.Machine.{are-agreed, agreed-live}
 use Rattle.nofs_names.proofs.OnSteps.Reads.{directory-on, there-on}
 use Rattle.nofs_names.proofs.OnSteps.Refusals.{exists-none, place-is}
-use Rattle.nofs_names.proofs.OnSteps.Parts.{first-left, first-right, goes-fails, opened-fails}
+use Rattle.nofs_names.proofs.OnSteps.Parts.{Unopened, directory-passes, first-right, goes-bad, goes-unopened}
+use Rattle.nofs_names.proofs.OnSteps.Parts.{goes-within}
 use Rattle.nofs_crashlaw.proofs.OnNames.Premises.{least-passes}
 use Rattle.nofs_state.specs.Books.Maps.{IsSafe, Says}
 use Rattle.nofs_state.specs.Cores.Invariant.{IsOpen, Past}
 use Rattle.nofs_state.specs.Cores.Steps.{Goes, is_plain}
 use Rattle.nofs_state.specs.declared.books.maps.Books.{Books}
 use Rattle.nofs_names.specs.Searches.Slots.{Passed}
-use Rattle.nofs_names.specs.Searches.Refusals.{Fails, KnownTrue, IsThere, directory_rows, exists_rows, OpensDirectory}
+use Rattle.nofs_names.specs.Searches.Refusals.{KnownTrue, IsThere, directory_rows, exists_rows, OpensDirectory}
 use Rattle.nofs_names.specs.Searches.Refusals.{FindsNone}
 use Rattle.nofs_names.specs.Entries.Places.{FindsEntrySlot, FitsSlot, IsEntrySlot, IsPlaceOf, IsSlotCell, LiesInside}
 use Rattle.nofs_names.specs.Entries.Places.{SlotFails, TakesBlocks, slot_blocks, room_rows, place_or_full}
@@ -88,8 +89,7 @@ module _ (old : DiskState) (k : Books) (d g : ℕ) (name : List ℕ) (kind : Fil
     (safe : IsSafe old k) (going : k.stopped ≡ false) where
   pub make-bad : is_name name ≡ false
       → Goes old k old k (step.Make d g name kind) no_claims (reply.Refused refusal.BadName)
-  make-bad bad = goes-row old old k (step.Make d g name kind) is safe
-      (StaysButFaults-refl old) refusal.BadName refl tt going (λ tells H p o. rw bad refl)
+  make-bad bad = goes-bad old k (step.Make d g name kind) is safe going (λ W. rw bad refl)
 
   module _ (ok : is_name name ≡ true) where
     rows-are : (W V : World) → first_of (rows W V (step.Make d g name kind)) ≡ first_of
@@ -112,39 +112,27 @@ module _ (old : DiskState) (k : Books) (d g : ℕ) (name : List ℕ) (kind : Fil
           ),
         ) why (sym (rows-are W W) ∙ e)
 
-    pub make-unopened : (mid : DiskState) (last : LastRead) (res : Result Record Refusal) (why : Refusal)
-        → OpensDirectory old mid k d g last res
-        → res ≡ Err why → Goes old k mid k (step.Make d g name kind) no_claims (reply.Refused why)
-    make-unopened mid last res why opens e =
-        goes-fails old mid k (step.Make d g name kind) (directory_rows d g) why is safe going opens.stays
-        (subst (λ (r : Result Record Refusal). IfErr r (Fails old mid (KnownTrue k) (directory_rows d g)))
-        e opens.refused)
-        (λ t H p o q. rows-are p.world p.world ∙ first-left (directory_rows d g p.world)
-        (exists_rows d name p.world ++ (directory_full p.world d name ∷ room_left d g name kind p.world p.world)) why q)
-        make-late
+    pub make-unopened : Unopened old k d g (step.Make d g name kind)
+    make-unopened = goes-unopened old k d g (step.Make d g name kind)
+        (λ W. exists_rows d name W ++ (directory_full W d name ∷ room_left d g name kind W W)) is safe going
+        (λ W. rows-are W W) make-late
 
     module _ (mid : DiskState) (last : LastRead) (r : Record) (opens : OpensDirectory old mid k d g last (Ok r))
         (new : DiskState)
         (names records : LastRead) where
-      none-before : IsTrue old.tells → (H : List Entry1) (p : Past) → IsOpen old k H p
-          → first_of (directory_rows d g p.world) ≡ None
-      none-before t H p o = opens.passes t (are-agreed old k H p safe o) p.world (open-files old k H p o)
-
       to-exists : IsTrue old.tells → (H : List Entry1) (p : Past) → IsOpen old k H p → (V : World)
           → first_of (rows p.world V (step.Make d g name kind)) ≡ first_of
           (exists_rows d name p.world ++ (directory_full p.world d name ∷ room_left d g name kind p.world V))
       to-exists t H p o V = rows-are p.world V ∙ first-right (directory_rows d g p.world)
           (exists_rows d name p.world ++ (directory_full p.world d name ∷ room_left d g name kind p.world V))
-          (none-before t H p o)
+          (directory-passes old mid k d g last r safe opens t H p o)
 
       pub make-exists : (res : Result Unfound Refusal) (why : Refusal)
           → FindsNone mid new d name names records res → res ≡ Err why
           → Goes old k new k (step.Make d g name kind) no_claims (reply.Refused why)
-      make-exists res why none e = goes-fails old new k (step.Make d g name kind) (exists_rows d name) why is safe going
-          (StaysButFaults-trans old mid new opens.stays none.stays)
-          (opened-fails old mid new k d (exists_rows d name) res why opens.stays opens.there e none.refused)
-          (λ t H p o z. to-exists t H p o p.world ∙ first-left (exists_rows d name p.world)
-          (directory_full p.world d name ∷ room_left d g name kind p.world p.world) why z) make-late
+      make-exists res why none e = goes-within old mid k d g last r safe opens new (step.Make d g name kind)
+          (exists_rows d name) (λ W. directory_full W d name ∷ room_left d g name kind W W) res why is going
+          (λ W. rows-are W W) make-late none.stays e none.refused
 
       module _ (u : Unfound) (none : FindsNone mid new d name names records (Ok u)) where
         stays : StaysButFaults old new
@@ -315,15 +303,6 @@ module _ (old : DiskState) (k : Books) (d g : ℕ) (name : List ℕ) (kind : Fil
 
   pub make-passes : (b : EntryBlocks) → TakesBlocks k n 1 (Ok b) → RowsPass old k (step.Make d g name kind)
   make-passes b takes t H p o V = room-is t H p o V ∙ takes.passes p.world V o.says
-
--- A read after that which failed
-pub make-unread : (old mid : DiskState) (k : Books) (d g : ℕ) (name : List ℕ) (kind : FileKind) → IsDisk old
-    → IsSafe old k → k.stopped ≡ false
-    → StaysButFaults old mid → Rose old.faults mid.faults → RowsPass old k (step.Make d g name kind)
-    → Goes old k mid k (step.Make d g name kind) no_claims (reply.Refused refusal.ReadFault)
-make-unread old mid k d g name kind is safe going stays rose pass =
-    goes-read old mid k (step.Make d g name kind) is safe stays going rose
-    (λ t H p o why e. absurd (let n = pass t H p o p.world in cc (n, e)))
 
 -- What holds of a disk holds after reads
 

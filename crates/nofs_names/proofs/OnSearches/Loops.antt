@@ -150,14 +150,19 @@ module _ (old mid : DiskState) (at : SuperBlock) (d : ℕ) (dr : Record) (slot :
   finds-as res a b f e h =
       subst (λ (r : Result PathAnswer Failed). FindsSlot old mid at (λ X. find X d path) names r) (e ∙ ap Ok h) f
 
-  -- a slot that holds no cell is passed
-  slot-passed : (v : Unfound) (res : Result PathAnswer Failed) (b c : PathAnswer)
+  -- the search goes on after a slot of which this was answered
+  abbrev GoesOn : Unfound → PathAnswer → Type 0
+  GoesOn v c = (res : Result PathAnswer Failed) (b : PathAnswer)
       → FindsSlot old mid at (λ X. find X d path) names res → res ≡ Ok b → b ≡ c
+      → SearchesOn old mid at d name (16 * slot) slot (16 * (slot + 1)) (slot + 1) u v last (Ok None)
+
+  -- a slot that holds no cell is passed
+  slot-passed : (v : Unfound) (c : PathAnswer)
       → ((F : Files) → FilesMatch F old.now
       → agreed (files_in old.now) d ≡ true → inode old.now d ≡ dr → value old.now d slot ≡ value_in old.now c
       → Passed F d name (16 * slot) slot u → Passed F d name (16 * (slot + 1)) (slot + 1) v)
-      → SearchesOn old mid at d name (16 * slot) slot (16 * (slot + 1)) (slot + 1) u v last (Ok None)
-  slot-passed v res b c fs e h past = let f = finds-as res b c fs e h in record {
+      → GoesOn v c
+  slot-passed v c past res b fs e h = let f = finds-as res b c fs e h in record {
     stays = f.stays;
     known = tt;
     past = λ t F match a p. past F match a (known.known.same t) (found-value c f t) p;
@@ -165,19 +170,13 @@ module _ (old mid : DiskState) (at : SuperBlock) (d : ℕ) (dr : Record) (slot :
     cause = tt;
   }
 
-  pub slot-hole : (v : Unfound) (res : Result PathAnswer Failed) (b : PathAnswer)
-      → v ≡ record u { hole = first_or u.hole (Some slot) }
-      → FindsSlot old mid at (λ X. find X d path) names res → res ≡ Ok b → b ≡ answer.Hole
-      → SearchesOn old mid at d name (16 * slot) slot (16 * (slot + 1)) (slot + 1) u v last (Ok None)
-  slot-hole v res b ev fs e h = slot-passed v res b answer.Hole fs e h
+  pub slot-hole : (v : Unfound) → v ≡ record u { hole = first_or u.hole (Some slot) } → GoesOn v answer.Hole
+  slot-hole v ev = slot-passed v answer.Hole
       (λ F match a is was p. subst (Passed F d name (16 * (slot + 1)) (slot + 1)) (sym ev)
       (ends-hole F old.now d dr match a is known.kind slot name u low was p))
 
-  pub slot-lost : (v : Unfound) (res : Result PathAnswer Failed) (b : PathAnswer)
-      → v ≡ record u { lost = first_or u.lost (Some slot) }
-      → FindsSlot old mid at (λ X. find X d path) names res → res ≡ Ok b → b ≡ answer.Lost
-      → SearchesOn old mid at d name (16 * slot) slot (16 * (slot + 1)) (slot + 1) u v last (Ok None)
-  slot-lost v res b ev fs e h = slot-passed v res b answer.Lost fs e h
+  pub slot-lost : (v : Unfound) → v ≡ record u { lost = first_or u.lost (Some slot) } → GoesOn v answer.Lost
+  slot-lost v ev = slot-passed v answer.Lost
       (λ F match a is was p. subst (Passed F d name (16 * (slot + 1)) (slot + 1)) (sym ev)
       (ends-lost F old.now d dr match a is known.kind slot name u low was p))
 

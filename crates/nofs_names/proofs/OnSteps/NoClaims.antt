@@ -34,6 +34,19 @@ pub record IsQuiet (W : World) (s : Step) (G : Files) : Type 0 where
   pub sees_no_inode : (i : ℕ) → sees_inode s i ≡ false
   pub sees_no_block : (p : ℕ) → sees_block s p ≡ false
 
+-- a step that asks for no inode and for no block claims nothing
+pub no-claim : (W : World) (s : Step) → inodes_needed s ≡ 0 → blocks_needed W.files s ≡ 0 → IsClaim W s no_claims
+no-claim W s no_inode no_block = record {
+  inode = subst (λ (n : ℕ). IsInodeClaim W (next_stamp W) no_claims (ltb 0 n)) (sym no_inode) (NoInode refl refl);
+  cell = subst (λ (n : ℕ). IsBlockClaim W (next_stamp W + inodes_needed s) null (ltb 0 n)) (sym no_block)
+      (Unclaimed refl);
+  leaf = subst (λ (n : ℕ). IsBlockClaim W (next_stamp W + inodes_needed s + 1) null (ltb 1 n)) (sym no_block)
+      (Unclaimed refl);
+  top = subst (λ (n : ℕ). IsBlockClaim W (next_stamp W + inodes_needed s + 2) null (ltb 2 n)) (sym no_block)
+      (Unclaimed refl);
+  apart = tt;
+}
+
 module _ (X : Image) (k : Books) (W : World) (s : Step) (G : Files) (says : Says k W) (match : FilesMatch W.files X)
     (homes : HomesMatch W X) (past : (b : ℕ)
     → W.blocks ≤ b → W.homes b ≡ None) (quiet : IsQuiet W s G) where
@@ -41,17 +54,7 @@ module _ (X : Image) (k : Books) (W : World) (s : Step) (G : Files) (says : Says
   V = after_world W s no_claims k
 
   pub quiet-claim : IsClaim W s no_claims
-  quiet-claim = record {
-    inode = subst (λ (n : ℕ). IsInodeClaim W (next_stamp W) no_claims (ltb 0 n)) (sym quiet.no_inode)
-        (NoInode refl refl);
-    cell = subst (λ (n : ℕ). IsBlockClaim W (next_stamp W + inodes_needed s) null (ltb 0 n)) (sym quiet.no_block)
-        (Unclaimed refl);
-    leaf = subst (λ (n : ℕ). IsBlockClaim W (next_stamp W + inodes_needed s + 1) null (ltb 1 n)) (sym quiet.no_block)
-        (Unclaimed refl);
-    top = subst (λ (n : ℕ). IsBlockClaim W (next_stamp W + inodes_needed s + 2) null (ltb 2 n)) (sym quiet.no_block)
-        (Unclaimed refl);
-    apart = tt;
-  }
+  quiet-claim = no-claim W s quiet.no_inode quiet.no_block
 
   homes-same : (q : ℕ) → homes_after W s no_claims V.files q ≡ W.homes q
   homes-same q = rw (quiet.none_claimed q, homes_after) (go (W.homes q) refl)

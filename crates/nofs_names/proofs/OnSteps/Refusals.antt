@@ -53,16 +53,8 @@ module _ (old new : DiskState) (k : Books) (d g : ℕ) (last : LastRead) (res : 
     (opens : Opens old new k d g last res) where
   no-directory : (why : Refusal) → Fails old new (KnownTrue k) (directory_rows d g) why
       → OpensDirectory old new k d g last (Err why)
-  no-directory why fails =
-      record {
-        stays = opens.stays;
-        directory = tt;
-        generation = tt;
-        passes = tt;
-        there = tt;
-        kept = tt;
-        refused = fails;
-      }
+  no-directory why f =
+      record { stays = opens.stays; directory = tt; generation = tt; passes = tt; there = tt; kept = tt; refused = f }
 
   pub directory-stale : (why : Refusal) → res ≡ Err why → OpensDirectory old new k d g last (Err why)
   directory-stale why e = no-directory why

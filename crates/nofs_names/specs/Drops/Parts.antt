@@ -12,12 +12,17 @@ use Rattle.nofs_history.specs.Meta.{is_gone}
 use Rattle.nofs_history.specs.Machine.{is_folder_at, is_paired, drop_meta, link_to, without_link}
 use Rattle.nofs_history.specs.History.{FilesMatch}
 use Rattle.nofs_state.specs.declared.books.maps.Books.{Books}
+use Rattle.nofs_names.specs.declared.searches.pairs.NamedPair.{NamedPair}
 use Rattle.nofs_names.specs.declared.searches.slots.Paired.{Paired}
 use Rattle.nofs_names.specs.Searches.Refusals.{KnownTrue}
 
 -- the record without a back link
 abbrev pub relinked : Record → BackLink → Record
 relinked r gone = record r { links = without_link gone r.links }
+
+-- the record of what was found, without its back link
+abbrev pub without_name : NamedPair → Record
+without_name p = relinked p.found.record (link_to p.at.directory p.found.entry p.at.generation)
 
 -- the cell is that of a block, without the entry at a place
 pub record ClearedIn (d : DiskState) (x : Pointer) (place : ℕ) (c : Cell) : Type 0 where

@@ -8,7 +8,7 @@ ghost use Rattle.nofs_state.specs.Cores.Steps.{Goes};
 ghost use Rattle.nofs_agree.specs.Reads.{IsLast};
 ghost use Rattle.nofs_history.specs.Claims.{no_claims};
 ghost use Rattle.nofs_state.specs.Books.Maps.{IsSafe};
-ghost use Rattle.nofs_names.specs.Drops.Parts.{KeepsName, relinked};
+ghost use Rattle.nofs_names.specs.Drops.Parts.{KeepsName, relinked, without_name};
 ghost use Rattle.nofs_names.specs.Drops.Removal.{LosesName};
 ghost use Rattle.nofs_names.specs.Renames.Parts.{done_answer};
 ghost use Rattle.nofs_names.specs.Drops.Answers.{DropGoes, IsCleared, MayDrop, drop_answer};
@@ -142,8 +142,7 @@ fn clear_place(payload: &mut [u8; 1024], place: u32)
 
 // The record of what was found, without its back link.
 fn without_name(it: NamedPair<'_>) -> Record
-    ensures { result ≡ relinked
-        it.entry.found.record (machine.link_to it.entry.at.directory it.entry.found.entry it.entry.at.generation) }
+    ensures { result ≡ without_name it.entry }
 {
     let gone = BackLink {
         directory: it.at.directory,

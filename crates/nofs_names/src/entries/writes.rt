@@ -246,8 +246,8 @@ fn enter_held<D: Disk + Drop>(core: &mut Core<D>, new: NewEntry<'_>, pointer: Po
 
 // Writes an entry into a hole of the record.
 fn enter_direct<D: Disk + Drop>(core: &mut Core<D>, new: NewEntry<'_>) -> Ended
-    requires slot { new.place.now.slot ≡ EntrySlot.Direct }
     requires entering { IsEntering 3 (D.state core.old.disk) core.old.books new }
+    requires slot { new.place.now.slot ≡ EntrySlot.Direct }
     ensures { EntersDirect (D.state core.old.disk) core.old.books (D.state core.new.disk)
         core.new.books new.entry.directory new.entry.it.now new.entry.place.now new.entry.named.now new.entry.record.now
         new.entry.tables.now result }

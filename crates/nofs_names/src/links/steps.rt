@@ -1,10 +1,10 @@
 //! A file gets a further name.
 ghost use Rattle.std.specs.Prelude.{◌≡◌, ◌≤◌, ◌<◌, IfOk, false, length};
+ghost use Rattle.nofs_history.specs.declared.machine.steps.Step.TheVariants as step;
+ghost use Rattle.nofs_history.specs.declared.machine.replies.Reply.TheVariants as reply;
 ghost use Rattle.nofs_dirent.specs.Entries.{HasEntrySpelling, entry_with, spelled_entry};
 ghost use Rattle.nofs_dirent.specs.EntryLaws.{Spells};
 ghost use Rattle.nofs_dirent.specs.Names.{NameOk};
-ghost use Rattle.nofs_history.specs.declared.machine.steps.Step.TheVariants as step;
-ghost use Rattle.nofs_history.specs.declared.machine.replies.Reply.TheVariants as reply;
 ghost use Rattle.nofs_state.specs.Cores.Steps.{Goes};
 ghost use Rattle.nofs_agree.specs.Reads.{IsAt};
 ghost use Rattle.nofs_state.specs.Books.Maps.{IsSafe};

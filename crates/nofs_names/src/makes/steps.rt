@@ -7,7 +7,7 @@ ghost use Rattle.nofs_agree.specs.Reads.{IsLast};
 ghost use Rattle.nofs_state.specs.Books.Maps.{IsSafe};
 ghost use Rattle.nofs_state.specs.Writes.Premises.{RowsPass};
 ghost use Rattle.nofs_names.specs.Makes.{AreInodesFull, FindsInode, GoesIn, MakeGoes, MayMake, RowsLeft, is_raised};
-ghost use Rattle.nofs_names.specs.Makes.{made_answer, made_record};
+ghost use Rattle.nofs_names.specs.Makes.{made_answer, made_record, with_inode};
 
 use crate::entries::places::{entry_place, find_entry_slot, take_blocks};
 use crate::entries::writes::{EntryPlace, NewEntry, enter, read_tables};
@@ -234,7 +234,7 @@ fn made_record(kind: FileKind, generation: u64, link: BackLink) -> Record
 
 // What was claimed for an entry, with the inode.
 fn with_inode(ended: Ended, claim: InodeClaim) -> Ended
-    ensures claims { result.claims ≡ record ended.claims { inode = claim.inode; generation = claim.generation } }
+    ensures claims { result.claims ≡ with_inode ended.claims claim }
     ensures result { result.result ≡ ended.result }
 {
     let Ended { claims, result } = ended;

@@ -19,48 +19,37 @@ returns-in-Err-clause-goes g c = list-unopened (g.D.Disk.state c.args.core.now.d
     c.open_directory.new.last c.open_directory.result c.in-Err.why c.open_directory.ensures c.in-Err.is
 
 pub returns-in-Err-find_listed-clause-goes : goal.returns-in-Err-find_listed-clause-goes
-returns-in-Err-find_listed-clause-goes g c = list-unread (g.D.Disk.state c.args.core.now.disk)
-    c.args.core.now.books c.args.directory c.args.generation c.args.slot
-    (g.met.D.Disk.is_disk c.args.core.now.disk) c.requires c.if-core.false
-    (g.D.Disk.state c.open_directory.new.disk) c.open_directory.new.last c.in-Ok.it
-    c.in-Ok.ensures (g.D.Disk.state c.find_listed.new.disk)
-    c.find_listed.new.names c.in-Err-find_listed.field-0 c.in-Err-find_listed.ensures
+returns-in-Err-find_listed-clause-goes g c = list-unread _ _ _ _ _ (g.met.D.Disk.is_disk c.args.core.now.disk)
+    c.requires c.if-core.false _ _ c.in-Ok.it c.in-Ok.ensures _ _ c.in-Err-find_listed.field-0
+    c.in-Err-find_listed.ensures
 
 pub returns-in-NoMore-clause-goes : goal.returns-in-NoMore-clause-goes
 returns-in-NoMore-clause-goes g c =
-    list-none (g.D.Disk.state c.args.core.now.disk) c.args.core.now.books c.args.directory c.args.generation c.args.slot
-    (g.met.D.Disk.is_disk c.args.core.now.disk) c.requires c.if-core.false (g.D.Disk.state c.open_directory.new.disk)
-    c.open_directory.new.last c.in-Ok.it c.in-Ok.ensures (g.D.Disk.state c.find_listed.new.disk)
-    c.find_listed.new.names c.in-Ok-find_listed.found c.in-Ok-find_listed.ensures c.in-NoMore.is
+    list-none _ _ _ _ _
+    (g.met.D.Disk.is_disk c.args.core.now.disk) c.requires c.if-core.false _ _ c.in-Ok.it c.in-Ok.ensures
+    _ _ c.in-Ok-find_listed.found c.in-Ok-find_listed.ensures c.in-NoMore.is
 
 pub returns-in-Lost-clause-goes : goal.returns-in-Lost-clause-goes
 returns-in-Lost-clause-goes g c =
-    list-lost (g.D.Disk.state c.args.core.now.disk) c.args.core.now.books c.args.directory c.args.generation c.args.slot
-    (g.met.D.Disk.is_disk c.args.core.now.disk) c.requires c.if-core.false (g.D.Disk.state c.open_directory.new.disk)
-    c.open_directory.new.last c.in-Ok.it c.in-Ok.ensures (g.D.Disk.state c.find_listed.new.disk)
-    c.find_listed.new.names c.in-Ok-find_listed.found c.in-Ok-find_listed.ensures c.in-Lost.slot c.from.result
+    list-lost _ _ _ _ _
+    (g.met.D.Disk.is_disk c.args.core.now.disk) c.requires c.if-core.false _ _ c.in-Ok.it c.in-Ok.ensures
+    _ _ c.in-Ok-find_listed.found c.in-Ok-find_listed.ensures c.in-Lost.slot c.from.result
     c.in-Lost.is c.from.ensures
 
 pub returns-in-Ok-read_lines-clause-goes : goal.returns-in-Ok-read_lines-clause-goes
-returns-in-Ok-read_lines-clause-goes g c = list-names (g.D.Disk.state c.args.core.now.disk)
-    c.args.core.now.books c.args.directory c.args.generation c.args.slot
-    (g.met.D.Disk.is_disk c.args.core.now.disk) c.requires c.if-core.false
-    (g.D.Disk.state c.open_directory.new.disk) c.open_directory.new.last c.in-Ok.it
-    c.in-Ok.ensures (g.D.Disk.state c.find_listed.new.disk)
-    c.find_listed.new.names c.in-Ok-find_listed.found c.in-Ok-find_listed.ensures c.in-Holds.slot c.in-Holds.is
-    (g.D.Disk.state c.read_lines.new.disk)
-    c.read_lines.result c.read_lines.ensures c.in-Ok-read_lines.lines c.from-in-Ok-read_lines.result
+returns-in-Ok-read_lines-clause-goes g c =
+    list-names _ _ _ _ _
+    (g.met.D.Disk.is_disk c.args.core.now.disk) c.requires c.if-core.false _ _ c.in-Ok.it c.in-Ok.ensures
+    _ _ c.in-Ok-find_listed.found c.in-Ok-find_listed.ensures c.in-Holds.slot c.in-Holds.is
+    _ c.read_lines.result c.read_lines.ensures c.in-Ok-read_lines.lines c.from-in-Ok-read_lines.result
     c.in-Ok-read_lines.is c.from-in-Ok-read_lines.ensures
 
 pub returns-in-Err-read_lines-clause-goes : goal.returns-in-Err-read_lines-clause-goes
-returns-in-Err-read_lines-clause-goes g c = list-failed (g.D.Disk.state c.args.core.now.disk)
-    c.args.core.now.books c.args.directory c.args.generation c.args.slot
-    (g.met.D.Disk.is_disk c.args.core.now.disk) c.requires c.if-core.false
-    (g.D.Disk.state c.open_directory.new.disk) c.open_directory.new.last c.in-Ok.it
-    c.in-Ok.ensures (g.D.Disk.state c.find_listed.new.disk)
-    c.find_listed.new.names c.in-Ok-find_listed.found c.in-Ok-find_listed.ensures c.in-Holds.slot c.in-Holds.is
-    (g.D.Disk.state c.read_lines.new.disk)
-    c.read_lines.result c.read_lines.ensures c.in-Err-read_lines.why c.in-Err-read_lines.is
+returns-in-Err-read_lines-clause-goes g c =
+    list-failed _ _ _ _ _
+    (g.met.D.Disk.is_disk c.args.core.now.disk) c.requires c.if-core.false _ _ c.in-Ok.it c.in-Ok.ensures
+    _ _ c.in-Ok-find_listed.found c.in-Ok-find_listed.ensures c.in-Holds.slot c.in-Holds.is
+    _ c.read_lines.result c.read_lines.ensures c.in-Err-read_lines.why c.in-Err-read_lines.is
 
 -- it has only read
 pub returns-then-core-clause-memory : goal.returns-then-core-clause-memory
@@ -75,33 +64,21 @@ returns-in-Err-clause-memory g c = list-memory (g.D.Disk.state c.args.core.now.d
     c.requires (g.D.Disk.state c.open_directory.new.disk) c.open_directory.ensures.stays
 
 pub returns-in-Err-find_listed-clause-memory : goal.returns-in-Err-find_listed-clause-memory
-returns-in-Err-find_listed-clause-memory g c = list-memory-found (g.D.Disk.state c.args.core.now.disk)
-    c.args.core.now.books c.args.directory c.args.generation c.args.slot
-    c.requires (g.D.Disk.state c.open_directory.new.disk)
-    (g.D.Disk.state c.find_listed.new.disk) c.open_directory.ensures.stays c.find_listed.ensures.stays
+returns-in-Err-find_listed-clause-memory g c = list-memory-found _ _ _ _ _ c.requires _ _ c.open_directory.ensures.stays
+    c.find_listed.ensures.stays
 
 pub returns-in-NoMore-clause-memory : goal.returns-in-NoMore-clause-memory
-returns-in-NoMore-clause-memory g c = list-memory-found (g.D.Disk.state c.args.core.now.disk)
-    c.args.core.now.books c.args.directory c.args.generation c.args.slot
-    c.requires (g.D.Disk.state c.open_directory.new.disk)
-    (g.D.Disk.state c.find_listed.new.disk) c.open_directory.ensures.stays c.find_listed.ensures.stays
+returns-in-NoMore-clause-memory g c = list-memory-found _ _ _ _ _ c.requires _ _ c.open_directory.ensures.stays
+    c.find_listed.ensures.stays
 
 pub returns-in-Lost-clause-memory : goal.returns-in-Lost-clause-memory
-returns-in-Lost-clause-memory g c = list-memory-found (g.D.Disk.state c.args.core.now.disk)
-    c.args.core.now.books c.args.directory c.args.generation c.args.slot
-    c.requires (g.D.Disk.state c.open_directory.new.disk)
-    (g.D.Disk.state c.find_listed.new.disk) c.open_directory.ensures.stays c.find_listed.ensures.stays
+returns-in-Lost-clause-memory g c = list-memory-found _ _ _ _ _ c.requires _ _ c.open_directory.ensures.stays
+    c.find_listed.ensures.stays
 
 pub returns-in-Ok-read_lines-clause-memory : goal.returns-in-Ok-read_lines-clause-memory
-returns-in-Ok-read_lines-clause-memory g c = list-memory-read (g.D.Disk.state c.args.core.now.disk)
-    c.args.core.now.books c.args.directory c.args.generation c.args.slot
-    c.requires (g.D.Disk.state c.open_directory.new.disk)
-    (g.D.Disk.state c.find_listed.new.disk) (g.D.Disk.state c.read_lines.new.disk)
-    c.open_directory.ensures.stays c.find_listed.ensures.stays c.read_lines.ensures.stays
+returns-in-Ok-read_lines-clause-memory g c = list-memory-read _ _ _ _ _ c.requires _ _ _ c.open_directory.ensures.stays
+    c.find_listed.ensures.stays c.read_lines.ensures.stays
 
 pub returns-in-Err-read_lines-clause-memory : goal.returns-in-Err-read_lines-clause-memory
-returns-in-Err-read_lines-clause-memory g c = list-memory-read (g.D.Disk.state c.args.core.now.disk)
-    c.args.core.now.books c.args.directory c.args.generation c.args.slot
-    c.requires (g.D.Disk.state c.open_directory.new.disk)
-    (g.D.Disk.state c.find_listed.new.disk) (g.D.Disk.state c.read_lines.new.disk)
-    c.open_directory.ensures.stays c.find_listed.ensures.stays c.read_lines.ensures.stays
+returns-in-Err-read_lines-clause-memory g c = list-memory-read _ _ _ _ _ c.requires _ _ _ c.open_directory.ensures.stays
+    c.find_listed.ensures.stays c.read_lines.ensures.stays

@@ -23,18 +23,11 @@ returns-in-Err g c =
     going good new last (Err c.in-Err.why) c.in-Err.why opens refl) c.in-Err.ensures.refused
 
 pub returns-in-Ok-find_pair : goal.returns-in-Ok-find_pair
-returns-in-Ok-find_pair g c = look-found (g.D.Disk.state c.args.core.now.disk) c.args.core.now.books c.args.directory
-    c.args.generation c.args.name.now
-    (g.met.D.Disk.is_disk c.args.core.now.disk) c.requires c.in-Ok.ensures.going c.in-Ok.ensures.name_is
-    (g.D.Disk.state c.open_named.new.disk) (g.D.Disk.state c.find_pair.new.disk)
-    c.open_named.new.last c.find_pair.new.names c.find_pair.new.records c.in-Ok.it c.in-Ok.ensures.opened
+returns-in-Ok-find_pair g c = look-found _ _ _ _ _ (g.met.D.Disk.is_disk c.args.core.now.disk) c.requires
+    c.in-Ok.ensures.going c.in-Ok.ensures.name_is _ _ _ _ _ c.in-Ok.it c.in-Ok.ensures.opened
     c.in-Ok-find_pair.found c.in-Ok-find_pair.ensures
 
 pub returns-in-Err-find_pair : goal.returns-in-Err-find_pair
-returns-in-Err-find_pair g c = look-missing (g.D.Disk.state c.args.core.now.disk) c.args.core.now.books c.args.directory
-    c.args.generation c.args.name.now
-    (g.met.D.Disk.is_disk c.args.core.now.disk) c.requires c.in-Ok.ensures.going c.in-Ok.ensures.name_is
-    (g.D.Disk.state c.open_named.new.disk) (g.D.Disk.state c.find_pair.new.disk)
-    c.open_named.new.last c.find_pair.new.names c.find_pair.new.records c.in-Ok.it c.in-Ok.ensures.opened
-    c.find_pair.result c.in-Err-find_pair.why
-    c.find_pair.ensures c.in-Err-find_pair.is
+returns-in-Err-find_pair g c = look-missing _ _ _ _ _ (g.met.D.Disk.is_disk c.args.core.now.disk) c.requires
+    c.in-Ok.ensures.going c.in-Ok.ensures.name_is _ _ _ _ _ c.in-Ok.it c.in-Ok.ensures.opened
+    c.find_pair.result _ c.find_pair.ensures c.in-Err-find_pair.is

@@ -49,14 +49,10 @@ returns-in-Err g c =
     c.in-Err.ensures.refused
 
 pub returns-in-Err-find_pair : goal.returns-in-Err-find_pair
-returns-in-Err-find_pair g c = rename-missing (g.D.Disk.state c.args.core.now.disk)
-    c.args.core.now.books c.args.at.directory c.args.at.generation c.args.at.name.now c.args.new.now
-    (g.met.D.Disk.is_disk c.args.core.now.disk)
+returns-in-Err-find_pair g c = rename-missing _ _ _ _ _ _ (g.met.D.Disk.is_disk c.args.core.now.disk)
     c.requires.safe c.if-core.false (sym c.if-not-name_ok.ensures.value) (sym c.if-not-name_ok-2.ensures.value)
-    (g.D.Disk.state c.open_named.new.disk)
-    c.open_named.new.last c.in-Ok.it c.in-Ok.ensures.opened (g.D.Disk.state c.find_pair.new.disk)
-    c.find_pair.new.names c.find_pair.new.records c.find_pair.result c.in-Err-find_pair.why
-    c.find_pair.ensures c.in-Err-find_pair.is
+    _ _ c.in-Ok.it c.in-Ok.ensures.opened _ _ _ c.find_pair.result _ c.find_pair.ensures
+    c.in-Err-find_pair.is
 
 pub rename_found-requires-clause-may : goal.rename_found-requires-clause-may
 rename_found-requires-clause-may g c =
@@ -77,15 +73,9 @@ rename_found-requires-clause-may g c =
       known = paired-on found new last k.at c.in-Ok-find_pair.found c.in-Ok-find_pair.ensures.known;
       found = found-on opened new next d c.args.at.name.now c.in-Ok-find_pair.found c.in-Ok-find_pair.ensures.found;
       good = c.if-not-name_ok-2.ensures.fact.0 refl;
-      rows = rename-passes (g.D.Disk.state c.args.core.now.disk)
-          c.args.core.now.books c.args.at.directory c.args.at.generation c.args.at.name.now c.args.new.now
-          (g.met.D.Disk.is_disk c.args.core.now.disk)
+      rows = rename-passes _ _ _ _ _ _ (g.met.D.Disk.is_disk c.args.core.now.disk)
           c.requires.safe c.if-core.false (sym c.if-not-name_ok.ensures.value) (sym c.if-not-name_ok-2.ensures.value)
-          (g.D.Disk.state c.open_named.new.disk)
-          c.open_named.new.last c.in-Ok.it c.in-Ok.ensures.opened
-          (g.D.Disk.state c.find_pair.new.disk) c.find_pair.new.names c.find_pair.new.records
-          (g.D.Disk.state c.find_unused.new.disk) c.find_unused.new.names c.find_unused.new.records
-          c.in-Ok-find_pair.found c.in-Ok-find_pair.ensures
+          _ _ c.in-Ok.it c.in-Ok.ensures.opened _ _ _ _ _ _ c.in-Ok-find_pair.found c.in-Ok-find_pair.ensures
           c.in-Ok-find_unused.field-0 c.in-Ok-find_unused.ensures;
     }
 
@@ -103,13 +93,7 @@ returns-in-Ok-find_unused g c =
     c.rename_found.ensures
 
 pub returns-in-Err-find_unused : goal.returns-in-Err-find_unused
-returns-in-Err-find_unused g c = rename-exists (g.D.Disk.state c.args.core.now.disk)
-    c.args.core.now.books c.args.at.directory c.args.at.generation c.args.at.name.now c.args.new.now
-    (g.met.D.Disk.is_disk c.args.core.now.disk)
+returns-in-Err-find_unused g c = rename-exists _ _ _ _ _ _ (g.met.D.Disk.is_disk c.args.core.now.disk)
     c.requires.safe c.if-core.false (sym c.if-not-name_ok.ensures.value) (sym c.if-not-name_ok-2.ensures.value)
-    (g.D.Disk.state c.open_named.new.disk)
-    c.open_named.new.last c.in-Ok.it c.in-Ok.ensures.opened
-    (g.D.Disk.state c.find_pair.new.disk) c.find_pair.new.names c.find_pair.new.records
-    (g.D.Disk.state c.find_unused.new.disk) c.find_unused.new.names c.find_unused.new.records c.in-Ok-find_pair.found
-    c.in-Ok-find_pair.ensures
-    c.find_unused.result c.in-Err-find_unused.why c.find_unused.ensures c.in-Err-find_unused.is
+    _ _ c.in-Ok.it c.in-Ok.ensures.opened _ _ _ _ _ _ c.in-Ok-find_pair.found
+    c.in-Ok-find_pair.ensures c.find_unused.result _ c.find_unused.ensures c.in-Err-find_unused.is

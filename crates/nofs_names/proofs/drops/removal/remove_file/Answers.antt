@@ -1,7 +1,6 @@
 use Rattle.std.proofs.Common.{refl, Ok, Err}
-use Rattle.nofs_history.specs.declared.machine.steps.Step.TheVariants as step
-use Rattle.nofs_state.proofs.OnCores.Replies.{goes-read}
 use Rattle.nofs_names.proofs.OnDrops.Premises.{removed-ends}
+use Rattle.nofs_names.proofs.OnSteps.Parts.{goes-unread}
 use Rattle.nofs_names.proofs.drops.removal.remove_file.Goals as goal
 
 pub returns-in-Ok-write_two : goal.returns-in-Ok-write_two
@@ -26,9 +25,5 @@ returns-in-Err-write_two g c =
     (λ why e. refl)
 
 pub returns-in-Err : goal.returns-in-Err
-returns-in-Err g c =
-    goes-read (g.D.Disk.state c.args.core.now.disk) (g.D.Disk.state c.read_block.new.disk) c.args.core.now.books
-    (step.Drop c.args.it.pair.at.directory c.args.it.pair.at.generation c.args.it.pair.at.name.now)
-    (g.met.D.Disk.is_disk c.args.core.now.disk)
-    c.requires.cleared.safe c.read_block.ensures.stays c.requires.cleared.going c.in-Err.ensures.cause
-    (λ tells H p o why e. absurd (let n = c.requires.cleared.finds.rows tells H p o p.world in cc (n, e)))
+returns-in-Err g c = goes-unread _ _ _ _ (g.met.D.Disk.is_disk c.args.core.now.disk) c.requires.cleared.safe
+    c.requires.cleared.going c.read_block.ensures.stays c.in-Err.ensures.cause c.requires.cleared.finds.rows

@@ -3,12 +3,11 @@ use Rattle.nofs_disk.specs.Disk.{cell_at}
 use Rattle.nofs_inode.specs.InodeRecords.{HasRecordSpelling}
 use Rattle.nofs_inode.specs.declared.inode.Record.{Record}
 use Rattle.nofs_history.specs.Machine.{link_to}
-use Rattle.nofs_history.specs.declared.machine.steps.Step.TheVariants as step
 use Rattle.nofs_state.specs.Writes.Cells.{Stores}
 use Rattle.nofs_state.specs.Writes.Premises.{RecordIn}
-use Rattle.nofs_state.proofs.OnCores.Replies.{goes-read}
 use Rattle.nofs_names.proofs.OnDrops.Records.{relinked-spells}
 use Rattle.nofs_names.proofs.OnDrops.NameGoes.{drop-ends}
+use Rattle.nofs_names.proofs.OnSteps.Parts.{goes-unread}
 use Rattle.nofs_names.proofs.drops.steps.drop_link.Goals as goal
 
 pub with_record-requires-clause-spelling : goal.with_record-requires-clause-spelling
@@ -43,9 +42,5 @@ returns-in-Ok g c = drop-ends (g.D.Disk.state c.args.core.now.disk) (g.D.Disk.st
     c.table_block-block.ensures c.write_two.ensures)
 
 pub returns-in-Err : goal.returns-in-Err
-returns-in-Err g c =
-    goes-read (g.D.Disk.state c.args.core.now.disk) (g.D.Disk.state c.read_block.new.disk) c.args.core.now.books
-    (step.Drop c.args.it.pair.at.directory c.args.it.pair.at.generation c.args.it.pair.at.name.now)
-    (g.met.D.Disk.is_disk c.args.core.now.disk)
-    c.requires.cleared.safe c.read_block.ensures.stays c.requires.cleared.going c.in-Err.ensures.cause
-    (λ tells H p o why e. absurd (let n = c.requires.cleared.finds.rows tells H p o p.world in cc (n, e)))
+returns-in-Err g c = goes-unread _ _ _ _ (g.met.D.Disk.is_disk c.args.core.now.disk) c.requires.cleared.safe
+    c.requires.cleared.going c.read_block.ensures.stays c.in-Err.ensures.cause c.requires.cleared.finds.rows

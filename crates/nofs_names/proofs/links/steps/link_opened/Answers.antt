@@ -15,30 +15,17 @@ use Rattle.nofs_names.proofs.OnLinks.Reads.{stands-on}
 use Rattle.nofs_names.proofs.links.steps.link_opened.Goals as goal
 
 pub returns-in-Err : goal.returns-in-Err
-returns-in-Err g c = link-refused _
-    (g.D.Disk.state c.find_unused.new.disk) c.args.core.now.books c.args.new c.refused.result _ c.refused.ensures
-    (link-exists (g.D.Disk.state c.args.core.now.disk) c.args.core.now.books c.args.new.at.directory
-    c.args.new.at.generation c.args.new.at.name.now
-    c.args.new.inode c.args.new.of
-    (g.met.D.Disk.is_disk c.args.core.now.disk) c.requires.safe c.requires.going c.requires.stands.name_is
-    c.requires.stands.there c.requires.lead
-    (g.D.Disk.state c.find_unused.new.disk) c.find_unused.new.names c.find_unused.new.records c.find_unused.result
-    c.in-Err.why c.find_unused.ensures
-    c.in-Err.is)
+returns-in-Err g c = link-refused _ _ _ c.args.new c.refused.result _ c.refused.ensures
+    (link-exists _ _ _ _ _ _ _ (g.met.D.Disk.is_disk c.args.core.now.disk) c.requires.safe c.requires.going
+    c.requires.stands.name_is c.requires.stands.there c.requires.lead
+    _ _ _ c.find_unused.result _ c.find_unused.ensures c.in-Err.is)
 
 pub returns-in-Err-link_place : goal.returns-in-Err-link_place
-returns-in-Err-link_place g c = link-refused _
-    (g.D.Disk.state c.link_place.new.disk) c.args.core.now.books c.args.new c.refused-in-Err-link_place.result _
+returns-in-Err-link_place g c = link-refused _ _ _ c.args.new c.refused-in-Err-link_place.result _
     c.refused-in-Err-link_place.ensures
-    (link-many (g.D.Disk.state c.args.core.now.disk) c.args.core.now.books c.args.new.at.directory
-    c.args.new.at.generation c.args.new.at.name.now
-    c.args.new.inode c.args.new.of
-    (g.met.D.Disk.is_disk c.args.core.now.disk) c.requires.safe c.requires.going c.requires.stands.name_is
-    c.requires.stands.there c.requires.lead
-    (g.D.Disk.state c.find_unused.new.disk) c.find_unused.new.names c.find_unused.new.records
-    c.in-Ok.seen c.in-Ok.ensures
-    (g.D.Disk.state c.link_place.new.disk) c.link_place.new.last c.link_place.result c.in-Err-link_place.why
-    c.link_place.ensures c.in-Err-link_place.is)
+    (link-many _ _ _ _ _ _ _ (g.met.D.Disk.is_disk c.args.core.now.disk) c.requires.safe c.requires.going
+    c.requires.stands.name_is c.requires.stands.there c.requires.lead
+    _ _ _ c.in-Ok.seen c.in-Ok.ensures _ _ c.link_place.result _ c.link_place.ensures c.in-Err-link_place.is)
 
 pub returns-in-Err-entry_place : goal.returns-in-Err-entry_place
 returns-in-Err-entry_place g c =
@@ -49,15 +36,9 @@ returns-in-Err-entry_place g c =
     r.result))
     (sym (c.refused-in-Err-entry_place.ensures ∙ ap (λ (w : Refusal). record { claims = no_claims; result = Err w })
     c.in-Err-entry_place.ensures.refused))
-    (link-full (g.D.Disk.state c.args.core.now.disk) c.args.core.now.books c.args.new.at.directory
-    c.args.new.at.generation c.args.new.at.name.now
-    c.args.new.inode c.args.new.of
-    (g.met.D.Disk.is_disk c.args.core.now.disk) c.requires.safe c.requires.going c.requires.stands.name_is
-    c.requires.stands.there c.requires.lead
-    (g.D.Disk.state c.find_unused.new.disk) c.find_unused.new.names c.find_unused.new.records
-    c.in-Ok.seen c.in-Ok.ensures
-    (g.D.Disk.state c.link_place.new.disk) c.link_place.new.last c.in-Ok-link_place.link
-    c.in-Ok-link_place.ensures c.entry_place.result
+    (link-full _ _ _ _ _ _ _ (g.met.D.Disk.is_disk c.args.core.now.disk) c.requires.safe c.requires.going
+    c.requires.stands.name_is c.requires.stands.there c.requires.lead
+    _ _ _ c.in-Ok.seen c.in-Ok.ensures _ _ c.in-Ok-link_place.link c.in-Ok-link_place.ensures c.entry_place.result
     c.entry_place.ensures.place (c.in-Err-entry_place.is ∙ ap Err c.in-Err-entry_place.ensures.refused))
 
 pub link_at-requires-clause-stands : goal.link_at-requires-clause-stands
@@ -71,38 +52,23 @@ link_at-requires-clause-stands g c =
 
 pub link_at-requires-clause-places : goal.link_at-requires-clause-places
 link_at-requires-clause-places g c = record {
-  place = link-place (g.D.Disk.state c.args.core.now.disk) c.args.core.now.books c.args.new.at.directory
-      c.args.new.at.generation c.args.new.at.name.now
-      c.args.new.inode c.args.new.of
-      (g.met.D.Disk.is_disk c.args.core.now.disk) c.requires.safe c.requires.going c.requires.stands.name_is
-      c.requires.stands.there
-      c.requires.lead (g.D.Disk.state c.find_unused.new.disk) c.find_unused.new.names c.find_unused.new.records
-      c.in-Ok.seen c.in-Ok.ensures
-      (g.D.Disk.state c.link_place.new.disk) c.link_place.new.last c.in-Ok-link_place.link
-      c.in-Ok-link_place.ensures c.entry_place.result
-      c.in-Ok-entry_place.entry c.entry_place.ensures.place c.in-Ok-entry_place.is;
+  place = link-place _ _ _ _ _ _ _ (g.met.D.Disk.is_disk c.args.core.now.disk) c.requires.safe c.requires.going
+      c.requires.stands.name_is c.requires.stands.there c.requires.lead _ _ _ c.in-Ok.seen c.in-Ok.ensures
+      _ _ c.in-Ok-link_place.link c.in-Ok-link_place.ensures c.entry_place.result _ c.entry_place.ensures.place
+      c.in-Ok-entry_place.is;
   entry = c.in-Ok-entry_place.ensures.range;
-  spot = link-spot (g.D.Disk.state c.args.core.now.disk) c.args.core.now.books c.args.new.at.directory
-      c.args.new.at.generation c.args.new.at.name.now
-      c.args.new.inode c.args.new.of
-      (g.met.D.Disk.is_disk c.args.core.now.disk) c.requires.safe c.requires.going c.requires.stands.name_is
-      c.requires.stands.there
-      c.requires.lead (g.D.Disk.state c.find_unused.new.disk) c.find_unused.new.names c.find_unused.new.records
-      c.in-Ok.seen c.in-Ok.ensures
-      (g.D.Disk.state c.link_place.new.disk) c.link_place.new.last c.in-Ok-link_place.link c.in-Ok-link_place.ensures;
+  spot = link-spot _ _ _ _ _ _ _ (g.met.D.Disk.is_disk c.args.core.now.disk) c.requires.safe c.requires.going
+      c.requires.stands.name_is c.requires.stands.there c.requires.lead _ _ _ c.in-Ok.seen c.in-Ok.ensures
+      _ _ c.in-Ok-link_place.link c.in-Ok-link_place.ensures;
   link = c.in-Ok-link_place.ensures.range;
 }
 
 pub link_at-requires-clause-lead : goal.link_at-requires-clause-lead
-link_at-requires-clause-lead g c = link-lead-blocks (g.D.Disk.state c.args.core.now.disk) c.args.core.now.books
-    c.args.new.at.directory c.args.new.at.generation
-    c.args.new.at.name.now c.args.new.inode c.args.new.of
-    (g.met.D.Disk.is_disk c.args.core.now.disk) c.requires.safe c.requires.going c.requires.stands.name_is
-    c.requires.stands.there c.requires.lead
-    (g.D.Disk.state c.find_unused.new.disk) c.find_unused.new.names c.find_unused.new.records c.in-Ok.seen
-    c.in-Ok.ensures (g.D.Disk.state c.link_place.new.disk) c.link_place.new.last c.in-Ok-link_place.link
-    c.in-Ok-link_place.ensures c.entry_place.result
-    c.in-Ok-entry_place.entry c.entry_place.ensures.place c.in-Ok-entry_place.is
+link_at-requires-clause-lead g c =
+    link-lead-blocks _ _ _ _ _ _ _ (g.met.D.Disk.is_disk c.args.core.now.disk) c.requires.safe c.requires.going
+    c.requires.stands.name_is c.requires.stands.there c.requires.lead _ _ _ c.in-Ok.seen c.in-Ok.ensures
+    _ _ c.in-Ok-link_place.link c.in-Ok-link_place.ensures c.entry_place.result _ c.entry_place.ensures.place
+    c.in-Ok-entry_place.is
 
 pub returns-in-Ok-entry_place : goal.returns-in-Ok-entry_place
 returns-in-Ok-entry_place g c = goes-after (g.D.Disk.state c.args.core.now.disk) (g.D.Disk.state c.link_place.new.disk)

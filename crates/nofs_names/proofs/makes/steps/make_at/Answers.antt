@@ -16,7 +16,8 @@ use Rattle.nofs_state.proofs.OnBooks.Claims.{made-safe}
 use Rattle.nofs_names.specs.Makes.{made_answer}
 use Rattle.nofs_names.proofs.OnMakes.Entries.{next_of}
 use Rattle.nofs_names.proofs.OnMakes.Ends.{entered-goes, enters-as}
-use Rattle.nofs_names.proofs.OnMakes.Rows.{make-pass-on, make-unread, may-on, refused-goes}
+use Rattle.nofs_names.proofs.OnMakes.Rows.{make-pass-on, may-on, refused-goes}
+use Rattle.nofs_names.proofs.OnSteps.Parts.{goes-unread}
 use Rattle.nofs_names.proofs.OnMakes.Places.{directory-range, may-enter, raised-stamp, table-fits}
 use Rattle.nofs_names.proofs.makes.steps.make_at.Goals as goal
 
@@ -40,11 +41,8 @@ pub returns-in-Err : goal.returns-in-Err
 returns-in-Err g c = refused-goes (g.D.Disk.state c.args.core.now.disk)
     (g.D.Disk.state c.read_tables.new.disk) c.args.core.now.books c.args.to.directory
     c.args.to.generation c.args.name c.args.to.kind c.refused.result refusal.ReadFault c.refused.ensures
-    (make-unread (g.D.Disk.state c.args.core.now.disk)
-    (g.D.Disk.state c.read_tables.new.disk) c.args.core.now.books c.args.to.directory c.args.to.generation
-    c.args.name c.args.to.kind (g.met.D.Disk.is_disk c.args.core.now.disk) c.requires.safe c.requires.going
-    c.read_tables.ensures.stays c.in-Err.ensures.cause
-    c.requires.rows)
+    (goes-unread _ _ _ _ (g.met.D.Disk.is_disk c.args.core.now.disk) c.requires.safe c.requires.going
+    c.read_tables.ensures.stays c.in-Err.ensures.cause c.requires.rows)
 
 pub made_record-made-requires-clause-generation : goal.made_record-made-requires-clause-generation
 made_record-made-requires-clause-generation g c =

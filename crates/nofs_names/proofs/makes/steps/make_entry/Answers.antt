@@ -24,8 +24,7 @@ returns-in-Err g c = refused-goes (g.D.Disk.state c.args.core.now.disk)
 
 pub returns-in-Err-free_inode : goal.returns-in-Err-free_inode
 returns-in-Err-free_inode g c =
-    refused-goes _ _ c.args.core.now.books c.args.to.directory c.args.to.generation c.args.name c.args.to.kind
-    c.refused-in-Err-free_inode.result c.in-Err-free_inode.why c.refused-in-Err-free_inode.ensures
+    refused-goes _ _ _ _ _ _ _ c.refused-in-Err-free_inode.result _ c.refused-in-Err-free_inode.ensures
     (no-inode-goes _ _ _ c.args.to _ _
     (g.met.D.Disk.is_disk c.find_entry_slot.new.disk) c.find_entry_slot.ensures.stays c.requires.safe c.requires.going
     c.requires.goes_in c.requires.rows _ _ c.free_inode.ensures c.in-Err-free_inode.is)
@@ -36,8 +35,7 @@ take_blocks-requires-clause-needed g c = let e = c.blocks-2.ensures in let f = f
 
 pub returns-in-Err-take_blocks : goal.returns-in-Err-take_blocks
 returns-in-Err-take_blocks g c =
-    refused-goes _ _ c.args.core.now.books c.args.to.directory c.args.to.generation c.args.name c.args.to.kind
-    c.refused-in-Err-take_blocks.result c.in-Err-take_blocks.why c.refused-in-Err-take_blocks.ensures
+    refused-goes _ _ _ _ _ _ _ c.refused-in-Err-take_blocks.result _ c.refused-in-Err-take_blocks.ensures
     (no-blocks-goes _ _ _ c.args.to _ _
     (g.met.D.Disk.is_disk c.find_entry_slot.new.disk) c.find_entry_slot.ensures.stays c.requires.safe c.requires.going
     c.requires.goes_in c.requires.rows c.find_entry_slot.new.names c.in-Ok.slot c.in-Ok.ensures c.in-Ok-free_inode.inode

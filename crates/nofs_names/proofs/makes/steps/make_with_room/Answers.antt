@@ -30,30 +30,20 @@ returns-in-Err g c =
     (Err c.in-Err.why) c.in-Err.why opens refl) c.in-Err.ensures.refused)
 
 pub returns-in-Err-find_unused : goal.returns-in-Err-find_unused
-returns-in-Err-find_unused g c = refused-goes (g.D.Disk.state c.args.core.now.disk)
-    (g.D.Disk.state c.find_unused.new.disk) c.args.core.now.books c.args.at.directory c.args.at.generation
-    c.args.at.name.now c.args.kind
-    c.refused-in-Err-find_unused.result c.in-Err-find_unused.why c.refused-in-Err-find_unused.ensures
-    (make-exists (g.D.Disk.state c.args.core.now.disk) c.args.core.now.books c.args.at.directory c.args.at.generation
-    c.args.at.name.now c.args.kind
-    (g.met.D.Disk.is_disk c.args.core.now.disk) c.requires.safe c.in-Ok.ensures.going c.in-Ok.ensures.name_is
-    (g.D.Disk.state c.open_named.new.disk) c.open_named.new.last c.in-Ok.it c.in-Ok.ensures.opened
-    (g.D.Disk.state c.find_unused.new.disk) c.find_unused.new.names c.find_unused.new.records c.find_unused.result
-    c.in-Err-find_unused.why
+returns-in-Err-find_unused g c =
+    refused-goes _ _ _ _ _ _ _ c.refused-in-Err-find_unused.result _ c.refused-in-Err-find_unused.ensures
+    (make-exists _ _ _ _ _ c.args.kind (g.met.D.Disk.is_disk c.args.core.now.disk) c.requires.safe c.in-Ok.ensures.going
+    c.in-Ok.ensures.name_is _ _ c.in-Ok.it c.in-Ok.ensures.opened _ _ _ c.find_unused.result _
     c.find_unused.ensures c.in-Err-find_unused.is)
 
 pub returns-in-Err-entry_place : goal.returns-in-Err-entry_place
-returns-in-Err-entry_place g c = refused-goes (g.D.Disk.state c.args.core.now.disk)
-    (g.D.Disk.state c.find_unused.new.disk) c.args.core.now.books c.args.at.directory c.args.at.generation
-    c.args.at.name.now c.args.kind
-    c.refused-in-Err-entry_place.result c.in-Err-entry_place.why c.refused-in-Err-entry_place.ensures
-    (make-no-place (g.D.Disk.state c.args.core.now.disk) c.args.core.now.books c.args.at.directory c.args.at.generation
-    c.args.at.name.now c.args.kind
-    (g.met.D.Disk.is_disk c.args.core.now.disk) c.requires.safe c.in-Ok.ensures.going c.in-Ok.ensures.name_is
-    (g.D.Disk.state c.open_named.new.disk) c.open_named.new.last c.in-Ok.it c.in-Ok.ensures.opened
-    (g.D.Disk.state c.find_unused.new.disk) c.find_unused.new.names c.find_unused.new.records c.in-Ok-find_unused.seen
+returns-in-Err-entry_place g c =
+    refused-goes _ _ _ _ _ _ _ c.refused-in-Err-entry_place.result _ c.refused-in-Err-entry_place.ensures
+    (make-no-place _ _ _ _ _ c.args.kind
+    (g.met.D.Disk.is_disk c.args.core.now.disk) c.requires.safe c.in-Ok.ensures.going
+    c.in-Ok.ensures.name_is _ _ c.in-Ok.it c.in-Ok.ensures.opened _ _ _ c.in-Ok-find_unused.seen
     c.in-Ok-find_unused.ensures
-    c.entry_place.result c.in-Err-entry_place.why c.entry_place.ensures.place c.in-Err-entry_place.is
+    c.entry_place.result _ c.entry_place.ensures.place c.in-Err-entry_place.is
     c.in-Err-entry_place.ensures.refused)
 
 pub make_entry-requires-clause-goes_in : goal.make_entry-requires-clause-goes_in
@@ -72,34 +62,24 @@ make_entry-requires-clause-goes_in g c = record {
   place =
       subst (λ (n : List ℕ). PlaceIs (g.D.Disk.state c.find_unused.new.disk) c.args.core.now.books c.args.at.directory n
       c.in-Ok-entry_place.entry) (sym c.requires.owned)
-      (make-place (g.D.Disk.state c.args.core.now.disk) c.args.core.now.books c.args.at.directory c.args.at.generation
-      c.args.at.name.now c.args.kind
-      (g.met.D.Disk.is_disk c.args.core.now.disk) c.requires.safe c.in-Ok.ensures.going c.in-Ok.ensures.name_is
-      (g.D.Disk.state c.open_named.new.disk) c.open_named.new.last c.in-Ok.it c.in-Ok.ensures.opened
-      (g.D.Disk.state c.find_unused.new.disk) c.find_unused.new.names c.find_unused.new.records c.in-Ok-find_unused.seen
+      (make-place _ _ _ _ _ c.args.kind
+      (g.met.D.Disk.is_disk c.args.core.now.disk) c.requires.safe c.in-Ok.ensures.going
+      c.in-Ok.ensures.name_is _ _ c.in-Ok.it c.in-Ok.ensures.opened _ _ _ c.in-Ok-find_unused.seen
       c.in-Ok-find_unused.ensures
-      c.entry_place.result c.in-Ok-entry_place.entry c.entry_place.ensures.place c.in-Ok-entry_place.is);
+      c.entry_place.result _ c.entry_place.ensures.place c.in-Ok-entry_place.is);
 }
 
 pub make_entry-requires-clause-rows : goal.make_entry-requires-clause-rows
 make_entry-requires-clause-rows g c =
     subst (λ (n : List ℕ). RowsLeft (g.D.Disk.state c.find_unused.new.disk) c.args.core.now.books c.args.at.directory
     c.args.at.generation n c.args.kind) (sym c.requires.owned)
-    (make-room (g.D.Disk.state c.args.core.now.disk) c.args.core.now.books c.args.at.directory c.args.at.generation
-    c.args.at.name.now c.args.kind
-    (g.met.D.Disk.is_disk c.args.core.now.disk) c.requires.safe c.in-Ok.ensures.going c.in-Ok.ensures.name_is
-    (g.D.Disk.state c.open_named.new.disk) c.open_named.new.last c.in-Ok.it c.in-Ok.ensures.opened
-    (g.D.Disk.state c.find_unused.new.disk) c.find_unused.new.names c.find_unused.new.records c.in-Ok-find_unused.seen
+    (make-room _ _ _ _ _ c.args.kind (g.met.D.Disk.is_disk c.args.core.now.disk) c.requires.safe c.in-Ok.ensures.going
+    c.in-Ok.ensures.name_is _ _ c.in-Ok.it c.in-Ok.ensures.opened _ _ _ c.in-Ok-find_unused.seen
     c.in-Ok-find_unused.ensures
-    c.in-Ok-entry_place.entry
-    (make-place (g.D.Disk.state c.args.core.now.disk) c.args.core.now.books c.args.at.directory c.args.at.generation
-    c.args.at.name.now
-    c.args.kind (g.met.D.Disk.is_disk c.args.core.now.disk) c.requires.safe c.in-Ok.ensures.going
-    c.in-Ok.ensures.name_is
-    (g.D.Disk.state c.open_named.new.disk) c.open_named.new.last c.in-Ok.it c.in-Ok.ensures.opened
-    (g.D.Disk.state c.find_unused.new.disk) c.find_unused.new.names c.find_unused.new.records c.in-Ok-find_unused.seen
-    c.in-Ok-find_unused.ensures
-    c.entry_place.result c.in-Ok-entry_place.entry c.entry_place.ensures.place c.in-Ok-entry_place.is))
+    _
+    (make-place _ _ _ _ _ c.args.kind (g.met.D.Disk.is_disk c.args.core.now.disk) c.requires.safe c.in-Ok.ensures.going
+    c.in-Ok.ensures.name_is _ _ c.in-Ok.it c.in-Ok.ensures.opened _ _ _ c.in-Ok-find_unused.seen
+    c.in-Ok-find_unused.ensures c.entry_place.result _ c.entry_place.ensures.place c.in-Ok-entry_place.is))
 
 pub returns-in-Ok-entry_place : goal.returns-in-Ok-entry_place
 returns-in-Ok-entry_place g c = goes-after (g.D.Disk.state c.args.core.now.disk) (g.D.Disk.state c.find_unused.new.disk)
