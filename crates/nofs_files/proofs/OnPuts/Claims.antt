@@ -5,7 +5,7 @@ use Rattle.nofs_ptrs.specs.Paths.{slot_limit, Path, InRecord, Under, path_of, is
 use Rattle.nofs_disk.specs.declared.tag.Pointer.{Pointer}
 use Rattle.nofs_disk.specs.Pointer.{null}
 use Rattle.nofs_model.specs.Geometry.{Image}
-use Rattle.nofs_model.specs.Slots.{value, find, pointer, IsAbove}
+use Rattle.nofs_model.specs.Slots.{value, find}
 use Rattle.nofs_model.specs.Files.{files_in, agreed, Files, NodeState, Absent, Present, Damaged, node_in}
 use Rattle.nofs_model.specs.declared.image.path.PathAnswer.TheVariants as answer
 use Rattle.nofs_model.proofs.OnSlots.Find.{find-held}
@@ -24,16 +24,6 @@ use Rattle.nofs_crashlaw.proofs.OnUntouched.Agreement.{file-in}
 use Rattle.nofs_files.proofs.OnReads.Rows.{value-is}
 use Rattle.nofs_files.proofs.OnPuts.Ways.{IsNew, IsOld}
 use Rattle.nofs_state.proofs.OnBooks.Machine.{agreed-live}
-
--- above a slot that holds, each slot holds
-pub above-held : (X : Image) (i : ℕ) (a way : Path) (x : Pointer) → IsAbove a way → find X i way ≡ answer.Holds x
-    → find X i a ≡ answer.Holds (pointer X i a)
-above-held X i a (InRecord n) x e held = subst (λ (q : Path). find X i q ≡ answer.Holds (pointer X i q)) (sym e)
-    (held ∙ ap answer.Holds (sym (find-held X i (InRecord n) x held).same))
-above-held X i a (Under b n) x (inl e) held = subst (λ (q : Path). find X i q ≡ answer.Holds (pointer X i q)) (sym e)
-    (held ∙ ap answer.Holds (sym (find-held X i (Under b n) x held).same))
-above-held X i a (Under b n) x (inr r) held = let up = (find-held X i (Under b n) x held).above in
-    above-held X i a b up.0 r up.1
 
 -- a way of the record has one slot
 abbrev pub Fits : ℕ → Path → Type 0
@@ -103,6 +93,11 @@ pub record IsTaken (W : World) (stamp : ℕ) (x : Pointer) : Type 0 where
   pub stamp_is : x.stamp ≡ stamp
   pub named : is_claimed x ≡ true
 
+-- a block that is taken is one that its step claims
+taken : {W : World} {stamp : ℕ} {x : Pointer} {b : Bool} → IsTaken W stamp x → b ≡ true → IsBlockClaim W stamp x b
+taken {W} {stamp} {x} h e =
+    subst (λ (b : Bool). IsBlockClaim W stamp x b) (sym e) (Claimed h.free h.range h.stamp_is)
+
 module _ (W : World) (i g slot at : ℕ) (bytes : List ℕ) (x : Pointer) (hx : IsTaken W (next_stamp W + 0) x) where
   apart-one : (t : Bool) → Apart ((cond t (x ∷ []) [] ++ []) ++ [])
   apart-one true = ((λ y has. absurd (none y has)), tt)
@@ -114,8 +109,7 @@ module _ (W : World) (i g slot at : ℕ) (bytes : List ℕ) (x : Pointer) (hx : 
   pub claim-one : blocks_for W.files i slot ≡ 1 → IsClaim W (step.Put i g slot at bytes) (claims_are x null null)
   claim-one needs = record {
     inode = NoInode refl refl;
-    cell = subst (λ (n : ℕ). IsBlockClaim W (next_stamp W + 0) x (ltb 0 n)) (sym needs)
-        (Claimed hx.free hx.range hx.stamp_is);
+    cell = taken hx (ap (ltb 0) needs);
     leaf = subst (λ (n : ℕ). IsBlockClaim W (next_stamp W + 0 + 1) null (ltb 1 n)) (sym needs) (Unclaimed refl);
     top = subst (λ (n : ℕ). IsBlockClaim W (next_stamp W + 0 + 2) null (ltb 2 n)) (sym needs) (Unclaimed refl);
     apart = apart-one (is_claimed x);
@@ -145,11 +139,9 @@ module _ (W : World) (i g slot at : ℕ) (bytes : List ℕ) (x y : Pointer) (hx 
   pub claim-two : blocks_for W.files i slot ≡ 2 → IsClaim W (step.Put i g slot at bytes) (claims_are x y null)
   claim-two needs = record {
     inode = NoInode refl refl;
-    cell = subst (λ (n : ℕ). IsBlockClaim W (next_stamp W + 0) x (ltb 0 n)) (sym needs)
-        (Claimed hx.free hx.range hx.stamp_is);
-    leaf = subst (λ (n : ℕ). IsBlockClaim W (next_stamp W + 0 + 1) y (ltb 1 n)) (sym needs)
-        (Claimed hy.free hy.range hy.stamp_is);
     top = subst (λ (n : ℕ). IsBlockClaim W (next_stamp W + 0 + 2) null (ltb 2 n)) (sym needs) (Unclaimed refl);
+    cell = taken hx (ap (ltb 0) needs);
+    leaf = taken hy (ap (ltb 1) needs);
     apart = apart-two;
   }
 
@@ -170,11 +162,8 @@ module _ (W : World) (i g slot at : ℕ) (bytes : List ℕ) (x y : Pointer) (hx 
     pub claim-three : blocks_for W.files i slot ≡ 3 → IsClaim W (step.Put i g slot at bytes) (claims_are x y z)
     claim-three needs = record {
       inode = NoInode refl refl;
-      cell = subst (λ (n : ℕ). IsBlockClaim W (next_stamp W + 0) x (ltb 0 n)) (sym needs)
-          (Claimed hx.free hx.range hx.stamp_is);
-      leaf = subst (λ (n : ℕ). IsBlockClaim W (next_stamp W + 0 + 1) y (ltb 1 n)) (sym needs)
-          (Claimed hy.free hy.range hy.stamp_is);
-      top = subst (λ (n : ℕ). IsBlockClaim W (next_stamp W + 0 + 2) z (ltb 2 n)) (sym needs)
-          (Claimed hz.free hz.range hz.stamp_is);
+      cell = taken hx (ap (ltb 0) needs);
+      leaf = taken hy (ap (ltb 1) needs);
+      top = taken hz (ap (ltb 2) needs);
       apart = apart-three;
     }

@@ -1,9 +1,8 @@
 -- A Put in place, and one into a direct slot, are ways with no new slot and with one.
 use Rattle.std.proofs.Common.{◌≡◌, ◌≢◌, ℕ, ◌+◌, ◌*◌, ◌<◌, max, inl, inr, Bool, true, false, cond, eqb, ltb, List, []}
-use Rattle.std.proofs.Common.{◌∷◌, length, get_or, Some, IsTrue, Result, refl, sym, ap, ◌∙◌, subst, arith}
+use Rattle.std.proofs.Common.{◌∷◌, length, Some, IsTrue, Result, refl, sym, ap, ◌∙◌, subst, arith}
 use Rattle.std.proofs.lemmas.Bool.Decides.{nat_tests}
 use Rattle.std.proofs.lemmas.List.{get_or-set_same, get_or-set_other}
-use Rattle.std.specs.Prelude.{slice_set}
 use Rattle.nofs_ptrs.specs.Paths.{slot_limit, Path, InRecord, Under, path_of}
 use Rattle.nofs_disk.specs.Disk.{DiskState, IsDisk, StaysButFaults, cell_at}
 use Rattle.nofs_disk.specs.declared.tag.Cell.{Cell}
@@ -36,7 +35,7 @@ use Rattle.nofs_state.proofs.OnCores.Replies.{open-files}
 use Rattle.nofs_state.proofs.OnWrites.Tables.{table_block}
 use Rattle.nofs_files.proofs.OnPuts.Image.{Climbs, IsPutFile}
 use Rattle.nofs_files.proofs.OnReads.Rows.{current-agreed, value-is}
-use Rattle.nofs_files.proofs.OnPuts.Claims.{above-held}
+use Rattle.nofs_crashlaw.proofs.OnFiles.PutHeld.{above-held}
 use Rattle.nofs_files.proofs.OnPuts.ClaimParts.{Takes}
 use Rattle.nofs_files.proofs.OnPuts.Ways.{way_writes}
 use Rattle.nofs_agree.specs.declared.reads.LastRead.{LastRead}
@@ -58,13 +57,8 @@ pointed-here r n slot x h len = rw (low-not slot 8 h, low-not slot 9 (omega (ari
 
 pointed-other : (r : Record) (n slot : ℕ) (x : Pointer) (m : ℕ)
     → m ≢ slot → record_pointer (pointed r n slot x) m ≡ record_pointer r m
-pointed-other r n slot x m ne = go (eqb m 8) (eqb m 9)
-  where
-    go : (a b : Bool) → cond a r.leaf (cond b r.top (get_or (slice_set r.direct slot x) m null)) ≡ cond a r.leaf
-        (cond b r.top (get_or r.direct m null))
-    go true b = refl
-    go false true = refl
-    go false false = get_or-set_other r.direct slot m x null ne
+pointed-other r n slot x m ne = ap (λ (y : Pointer). cond (eqb m 8) r.leaf (cond (eqb m 9) r.top y))
+    (get_or-set_other r.direct slot m x null ne)
 
 no-claim : false ≡ true → ⊥
 no-claim e = cc

@@ -170,6 +170,19 @@ module _ {old : DiskState} {k : Books} {i g slot at : ℕ} {bytes : List ℕ} (f
   pub lead-direct : slot < 8 → RowsLead old k put
   lead-direct low tells H p o V = f.reach tells H p o V ∙ rw (path-direct slot low) refl
 
+-- how a Put ends where a block above was not read, or is lost
+module _ {old new : DiskState} {k : Books} {p : Put} {r : Record} {read : LastRead} {writes : ℕ} {e : Ended} where
+  pub unread-ends : e ≡ record { claims = no_claims; result = Err refusal.ReadFault } → IsDisk old
+      → MayPut old k p r read writes → RowsReachOf old k p → StaysButFaults old new → Rose old.faults new.faults
+      → Goes old k new k (step.Put p.inode p.generation p.slot p.at p.bytes.now) e.claims (put_answer e.result)
+  unread-ends is disk may rows stays rose = ended is (goes-unread-above (reached disk may rows) stays rose)
+
+  pub lost-ends : e ≡ record { claims = no_claims; result = Err (refusal.LostSlot p.slot) } → IsDisk old
+      → MayPut old k p r read writes → RowsReachOf old k p → StaysButFaults old new
+      → DamageIs old k p.inode (path_of p.slot) true
+      → Goes old k new k (step.Put p.inode p.generation p.slot p.at p.bytes.now) e.claims (put_answer e.result)
+  lost-ends is disk may rows stays lost = ended is (goes-lost-above (reached disk may rows) stays lost)
+
 -- the file of a Put is there
 pub record IsThere (d : DiskState) (k : Books) (i g : ℕ) : Type 0 where
   pub safe : IsSafe d k

@@ -24,7 +24,7 @@ use Rattle.nofs_disk.specs.Order.{IsApart}
 use Rattle.nofs_state.specs.Writes.Cells.{Stores}
 use Rattle.nofs_state.proofs.OnWrites.Tables.{table_block}
 use Rattle.nofs_files.proofs.OnPuts.Image.{Climbs}
-use Rattle.nofs_files.proofs.OnPuts.Claims.{above-held}
+use Rattle.nofs_crashlaw.proofs.OnFiles.PutHeld.{above-held}
 use Rattle.nofs_files.proofs.OnPuts.Ways.{IsNew, way_writes, no-loop}
 use Rattle.nofs_files.specs.Puts.{HasRoom, HeldAt, IsContent, IsRecordCell, IsUnder, put_answer, size_after, sized}
 use Rattle.nofs_files.specs.Puts.{step_of_put}

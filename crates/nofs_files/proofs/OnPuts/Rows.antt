@@ -90,7 +90,11 @@ module _ {old : DiskState} {k : Books} {i g slot at : ℕ} {bytes : List ℕ} (f
       goes-row old old k put f.disk f.safe (StaysButFaults-refl old) refusal.TooLarge refl tt f.going
       (λ tells H p o. rw (good, large-some p.world slot k.at o.says.version high) refl)
 
-  module _ (good : is_bad_range at (length bytes) ≡ false) (low : slot < slots_of k.at) where
+  module _ (good : is_bad_range at (length bytes) ≡ false) {slots : ℕ} (all : slots ≡ slots_of k.at)
+      (under : slot < slots) where
+    low : slot < slots_of k.at
+    low = subst (λ (n : ℕ). slot < n) all under
+
     front : (H : List Entry1) (p : Past) → IsOpen old k H p
         → (V : World) → first_of (rows p.world V put) ≡ first_of (tail p.world V)
     unfolding tail
@@ -253,6 +257,8 @@ module _ {old : DiskState} {k : Books} {i g slot at : ℕ} {bytes : List ℕ} (f
             reach-after (inl (ap (λ (q : PathAnswer). is_lost (value_in old.now q)) e)) tells H p o V
             ∙ rw (d, few, left) refl
 
-        pub after : {end : DiskState} {l : Books} {c : Claims} {reply : Reply} → Goes new k end l put c reply
-            → Goes old k end l put c reply
-        after {end} {l} {c} {reply} goes = goes-after old new keep end k l put c reply goes
+-- a step after two rows of reads
+pub after : {old mid new end : DiskState} {k l : Books} {s : Step} {c : Claims} {r : Reply} → StaysButFaults old mid
+    → StaysButFaults mid new → Goes new k end l s c r → Goes old k end l s c r
+after {old} {mid} {new} {end} {k} {l} {s} {c} {r} opened found goes =
+    goes-after old new (reads-keep old new (StaysButFaults-trans old mid new opened found)) end k l s c r goes

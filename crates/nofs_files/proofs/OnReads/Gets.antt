@@ -16,7 +16,7 @@ use Rattle.nofs_inode.specs.declared.inode.FileKind.TheVariants.{File, Directory
 use Rattle.nofs_model.specs.declared.image.path.PathAnswer.{PathAnswer}
 use Rattle.nofs_model.specs.declared.image.path.PathAnswer.TheVariants as answer
 use Rattle.nofs_history.specs.Search.{first_of}
-use Rattle.nofs_history.specs.Machine.{gives, generation_of, is_folder_at, is_refused}
+use Rattle.nofs_history.specs.Machine.{generation_of, is_folder_at, is_refused}
 use Rattle.nofs_history.specs.Claims.{no_claims}
 use Rattle.nofs_history.specs.Refusals.{rows, stale, is_directory}
 use Rattle.nofs_history.specs.Answers.{got_reply}
@@ -32,36 +32,15 @@ use Rattle.nofs_agree.proofs.OnChain.{told-on, record-of}
 use Rattle.nofs_state.specs.Books.Maps.{IsSafe}
 use Rattle.nofs_state.specs.Cores.Invariant.{IsOpen, Past}
 use Rattle.nofs_history.specs.Writes.{makes_calls}
-use Rattle.nofs_state.specs.Cores.Steps.{Goes, IsReading}
+use Rattle.nofs_state.specs.Cores.Steps.{Goes}
 use Rattle.nofs_state.specs.declared.books.maps.Books.{Books}
+use Rattle.nofs_state.proofs.OnCores.Readings.{get-reads}
 use Rattle.nofs_state.proofs.OnCores.Replies.{goes-row, goes-read, goes-answer, open-files}
 use Rattle.nofs_state.proofs.OnCores.Refusals.{IsLate, first-late, late-row}
 use Rattle.nofs_state.proofs.OnBooks.Machine.{are-agreed, stale-none}
-use Rattle.nofs_state.proofs.OnCores.Unchanged.{goes-memory, reads-keep}
 use Rattle.nofs_files.specs.Reads.{OpensFile, slots_of}
 use Rattle.nofs_files.proofs.OnReads.Rows.{current-agreed, folder-is, goes-unfiled, large-none, large-some}
 use Rattle.nofs_files.proofs.OnReads.Rows.{slots-most, value-is}
-
-reads : (i g k : ℕ) → IsReading (step.Get i g k)
-unfolding gives
-reads i g k = record {
-  no_inode = refl;
-  no_block = λ F. refl;
-  gives = λ F. refl;
-  no_slot = λ F. refl;
-  sees_no_inode = λ j. refl;
-  sees_no_block = λ p. refl;
-}
-
--- it may be one that found no memory, wherever it ends
-module _ (old : DiskState) (k : Books) (i g slot : ℕ) (safe : IsSafe old k) where
-  pub get-memory : (new : DiskState) → StaysButFaults old new
-      → Goes old k new k (step.Get i g slot) no_claims (reply.Refused refusal.OutOfMemory)
-  get-memory new stays = goes-memory old new (reads-keep old new stays) k (step.Get i g slot) no_claims safe
-
-  pub get-memory-found : (mid new : DiskState) → StaysButFaults old mid → StaysButFaults mid new
-      → Goes old k new k (step.Get i g slot) no_claims (reply.Refused refusal.OutOfMemory)
-  get-memory-found mid new opened found = get-memory new (StaysButFaults-trans old mid new opened found)
 
 module _ {old : DiskState} {k : Books} (i g slot : ℕ) (is : IsDisk old) (safe : IsSafe old k)
     (going : k.stopped ≡ false) where
@@ -89,22 +68,23 @@ module _ {old : DiskState} {k : Books} (i g slot : ℕ) (is : IsDisk old) (safe 
       goes-unfiled old new k (step.Get i g slot) i g last res why is safe going opens e
       (λ H p o q. rows-are low H p o ∙ q) (get-late low)
 
-  module _ {mid new : DiskState} {last next : LastRead} {r : Record} (low : slot < slots_of k.at)
-      (opens : OpensFile old mid k i g last (Ok r)) where
+  module _ {mid new : DiskState} {last next : LastRead} {r : Record} {slots : ℕ} (all : slots ≡ slots_of k.at)
+      (under : slot < slots) (opens : OpensFile old mid k i g last (Ok r)) where
     pub get-unread : {e : Failed} → FindsSlot mid new k.at (λ X. find X i (path_of slot)) next (Err e)
         → Goes old k new k (step.Get i g slot) no_claims (reply.Refused refusal.ReadFault)
     get-unread {e} finds =
         goes-read old new k (step.Get i g slot) is safe (StaysButFaults-trans old mid new opens.stays finds.stays) going
         (Rose-within old.faults mid.faults new.faults new.faults opens.stays.disk.faults finds.cause
-        (le_refl new.faults)) (λ tells H p o. get-late low H p o)
+        (le_refl new.faults)) (λ tells H p o. get-late (subst (λ (n : ℕ). slot < n) all under) H p o)
 
     pub get-found : {a : PathAnswer} (reply : Reply) → is_refused reply ≡ false → makes_calls reply ≡ false
         → FindsSlot mid new k.at (λ X. find X i (path_of slot)) next (Ok a)
         → (IsTrue old.tells → reply ≡ got_reply (value_in old.now a))
         → Goes old k new k (step.Get i g slot) no_claims reply
     get-found {a} reply accepted plain finds gives-it = goes-answer old new k (step.Get i g slot) is safe
-        (StaysButFaults-trans old mid new opens.stays finds.stays) reply accepted plain (reads i g slot) going
+        (StaysButFaults-trans old mid new opens.stays finds.stays) reply accepted plain (get-reads i g slot) going
         (λ tells H p o.
+        let low : slot < slots_of k.at = subst (λ (n : ℕ). slot < n) all under in
         let match = open-files old k H p o in
         let current = opens.current tells (are-agreed old k H p safe o) in
         let a-agreed = current-agreed old.now i g current in
@@ -120,6 +100,13 @@ module _ {old : DiskState} {k : Books} (i g slot : ℕ) (is : IsDisk old) (safe 
           gives-it tells ∙ ap (λ (q : PathAnswer). got_reply (value_in old.now q)) found
               ∙ sym (ap got_reply (value-is p.world.files old.now i slot match a-agreed (slots-most k.at slot low))),
         ))
+
+    -- where there are no bytes
+    pub get-bare : {a w : PathAnswer} (reply : Reply) → is_refused reply ≡ false → makes_calls reply ≡ false
+        → FindsSlot mid new k.at (λ X. find X i (path_of slot)) next (Ok a) → a ≡ w
+        → reply ≡ got_reply (value_in old.now w) → Goes old k new k (step.Get i g slot) no_claims reply
+    get-bare {a} {w} reply accepted plain finds is same = get-found reply accepted plain finds
+        (λ tells. same ∙ ap (λ (q : PathAnswer). got_reply (value_in old.now q)) (sym is))
 
 pub get-bytes : {old mid new : DiskState} {at : SuperBlock}
     (i slot : ℕ) {a : PathAnswer} {x : Pointer} {next : LastRead} → StaysButFaults old mid

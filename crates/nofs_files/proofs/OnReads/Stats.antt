@@ -29,13 +29,14 @@ use Rattle.nofs_agree.specs.declared.reads.LastRead.{LastRead}
 use Rattle.nofs_agree.proofs.OnChain.{told-on, record-of}
 use Rattle.nofs_agree.proofs.OnPair.{four-links}
 use Rattle.nofs_crashlaw.proofs.OnUntouched.Agreement.{same-of}
-use Rattle.nofs_history.specs.Machine.{gives, generation_of}
+use Rattle.nofs_history.specs.Machine.{generation_of}
 use Rattle.nofs_history.specs.Claims.{no_claims}
 use Rattle.nofs_state.specs.Books.Maps.{IsSafe}
-use Rattle.nofs_state.specs.Cores.Steps.{Goes, IsReading}
+use Rattle.nofs_state.specs.Cores.Steps.{Goes}
 use Rattle.nofs_state.specs.Inodes.Opened.{Opens}
 use Rattle.nofs_state.specs.declared.books.maps.Books.{Books}
 use Rattle.nofs_state.specs.declared.inodes.opened.Opened.{Opened}
+use Rattle.nofs_state.proofs.OnCores.Readings.{stat-reads}
 use Rattle.nofs_state.proofs.OnCores.Replies.{goes-read, goes-answer, open-files}
 use Rattle.nofs_state.proofs.OnCores.Refusals.{IsLate, first-late, late-row}
 use Rattle.nofs_state.proofs.OnBooks.Machine.{machine-pair, are-agreed, stale-none}
@@ -78,6 +79,10 @@ pub counted-begins : (old : DiskState) (known : List (Option Bool)) (i : ℕ) (r
 counted-begins old known i r last kept =
     record { stays = StaysButFaults-refl old; kept = kept; small = omega arith; count = λ t a. refl }
 
+four-known : {old : DiskState} {at : SuperBlock} {i : ℕ} {r : Record} → KnowsInode old at i r → IsTrue old.tells
+    → length r.links ≡ 4
+four-known {old} {at} {i} {r} is t = subst (λ (q : Record). length q.links ≡ 4) (is.same t) (four-links old.now i)
+
 pub counted-goes : (old now new : DiskState) (at : SuperBlock) (known : List (Option Bool)) (i : ℕ) (r : Record)
     (last next : LastRead) (place links : ℕ)
     (res : Result Bool Failed) (pair : Bool) → KnowsInode old at i r
@@ -95,8 +100,7 @@ counted-goes old now new at known i r last next place links res pair is c low re
       kept = q.kept;
       small = (let s = c.small in let b = one-small pair in omega (arith, s, b));
       count = λ t a.
-          let four : length r.links ≡ 4 =
-          subst (λ (q : Record). length q.links ≡ 4) (is.same t) (four-links old.now i) in
+          let four = four-known is t in
           let found : pair ≡ is_agreed_link (files_in old.now) i (get_or r.links place no_link) =
           subst (λ (X : Image). pair ≡ is_agreed_link (files_in X) i (get_or r.links place no_link)) c.stays.cells.now
           (q.found (told-on old now c.stays t) (subst (λ (X : Image). AreTrue X known) (sym c.stays.cells.now) a)) in
@@ -115,7 +119,7 @@ pub counted-ends : (old now : DiskState) (at : SuperBlock) (known : List (Option
 counted-ends old now at known i r last place links is c all = record {
   stays = c.stays;
   count = λ t a.
-      let four : length r.links ≡ 4 = subst (λ (q : Record). length q.links ≡ 4) (is.same t) (four-links old.now i) in
+      let four = four-known is t in
       c.count t a ∙ ap (λ (xs : List BackLink). count_by (is_agreed_link (files_in old.now) i) xs)
       (take-whole r.links place (omega (arith, four, all)));
   cause = tt;
@@ -128,17 +132,6 @@ counted-ends old now at known i r last place links is c all = record {
     take-whole (x ∷ xs) (suc n) low = ap (λ (ys : List BackLink). x ∷ ys) (take-whole xs n (omega (arith, low)))
 
 -- What Stat answers
-
-pub reads : (i g : ℕ) → IsReading (step.Stat i g)
-unfolding gives
-reads i g = record {
-  no_inode = refl;
-  no_block = λ F. refl;
-  gives = λ F. refl;
-  no_slot = λ F. refl;
-  sees_no_inode = λ j. refl;
-  sees_no_block = λ p. refl;
-}
 
 pub stat-late : (W : World) (i g : ℕ) → IsLate (first_of (rows W W (step.Stat i g)))
 stat-late W i g = first-late (rows W W (step.Stat i g))
@@ -181,7 +174,7 @@ module _ (old mid new : DiskState) (k : Books) (i g : ℕ) (last : LastRead) (it
       (reply.Stat (record { kind = it.kind; size = it.found.size; links = links }))
   goes-counted links counts =
       goes-answer old new k (step.Stat i g) is safe (StaysButFaults-trans old mid new opens.stays counts.stays)
-      (reply.Stat (record { kind = it.kind; size = it.found.size; links = links })) refl refl (reads i g) going
+      (reply.Stat (record { kind = it.kind; size = it.found.size; links = links })) refl refl (stat-reads i g) going
       (λ tells H p o.
       let match = open-files old k H p o in
       let known = are-agreed old k H p safe o in

@@ -3,9 +3,9 @@ ghost use Rattle.std.specs.Prelude.{◌≡◌, ℕ, ◌+◌, ◌*◌, ◌-◌, �
 ghost use Rattle.nofs_disk.specs.Disk.{cell_at};
 ghost use Rattle.nofs_disk.specs.Number.{zeros};
 ghost use Rattle.nofs_disk.specs.Tag.{HasTagSpelling, tag_of};
+ghost use Rattle.nofs_ptrs.specs.Paths as paths;
 ghost use Rattle.nofs_ptrs.specs.Paths.{slot_limit};
 ghost use Rattle.nofs_inode.specs.InodeRecords.{HasRecordSpelling};
-ghost use Rattle.nofs_ptrs.specs.Paths as paths;
 ghost use Rattle.nofs_model.specs.Places.{IsPlace, place_path};
 ghost use Rattle.nofs_agree.specs.Reads.{IsLast};
 ghost use Rattle.nofs_crashlaw.specs.Numbers.Cells.{table_tag};

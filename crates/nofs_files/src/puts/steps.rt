@@ -103,11 +103,11 @@ fn put_with_room<D: Disk + Drop>(core: &mut Core<D>, put: &Put<'_>) -> Ended
     }
     let found = match find_content(
         &mut core.disk,
+        &mut last,
         &core.books.at,
         put.inode,
         &it,
         put.slot,
-        &mut last,
     ) {
         Ok(found) => found,
         Err(_) => return refused(Refusal::ReadFault),

@@ -76,11 +76,11 @@ pub(crate) fn note_file(it: &Record)
 /// What stands in a slot of content. Where it holds, its block is the one that was read last.
 pub(crate) fn find_content<D: Disk>(
     disk: &mut D,
+    last: &mut LastRead,
     at: &SuperBlock,
     inode: u32,
     it: &Record,
     slot: u64,
-    last: &mut LastRead,
 ) -> Result<PathAnswer, Failed>
     requires known { KnowsInode (D.state disk.old) at.now inode it.now }
     requires slot { slot < slot_limit }

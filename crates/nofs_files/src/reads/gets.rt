@@ -53,7 +53,7 @@ pub fn get<D: Disk + Drop>(
         Ok(it) => it,
         Err(why) => return Err(why),
     };
-    let found = match find_content(&mut core.disk, &core.books.at, inode, &it, slot, &mut last) {
+    let found = match find_content(&mut core.disk, &mut last, &core.books.at, inode, &it, slot) {
         Ok(found) => found,
         Err(_) => return Err(Refusal::ReadFault),
     };

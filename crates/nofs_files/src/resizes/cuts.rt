@@ -71,8 +71,8 @@ pub(crate) fn mark_cut<D: Disk>(
     at: &SuperBlock,
     inode: u32,
     it: &Record,
-    kept: u64,
     last: &mut LastRead,
+    kept: u64,
 ) -> Result<FreedBlocks, Refusal>
     requires known { KnowsInode (D.state disk.old) at.now inode it.now }
     requires kept { kept ≤ slot_limit }
@@ -109,10 +109,10 @@ fn cut_block<D: Disk>(
     at: &SuperBlock,
     inode: u32,
     it: &Record,
+    last: &mut LastRead,
     place: Place,
     from: u64,
     slot: u64,
-    last: &mut LastRead,
 ) -> Result<Option<NewCell>, Refusal>
     requires known { KnowsInode (D.state disk.old) at.now inode it.now }
     requires place { IsPlace place }
@@ -145,8 +145,8 @@ fn far_edge<D: Disk>(
     at: &SuperBlock,
     inode: u32,
     it: &Record,
-    kept: u64,
     last: &mut LastRead,
+    kept: u64,
 ) -> Result<Edge, Refusal>
     requires known { KnowsInode (D.state disk.old) at.now inode it.now }
     requires kept { (72 < kept) × (kept ≤ slot_limit) }
@@ -155,7 +155,7 @@ fn far_edge<D: Disk>(
 {
     let child = (kept - 73) / 64;
     let first = 72 + 64 * child;
-    let above = match cut_block(disk, at, inode, it, Place::InRecord(9), child + 1, 72, last) {
+    let above = match cut_block(disk, at, inode, it, last, Place::InRecord(9), child + 1, 72) {
         Ok(above) => above,
         Err(why) => return Err(why),
     };
@@ -163,7 +163,7 @@ fn far_edge<D: Disk>(
         at: 9,
         place: child,
     };
-    match cut_block(disk, at, inode, it, place, kept - first, first, last) {
+    match cut_block(disk, at, inode, it, last, place, kept - first, first) {
         Ok(below) => Ok(Edge { below, above }),
         Err(why) => Err(why),
     }
@@ -179,8 +179,8 @@ pub(crate) fn find_edge<D: Disk>(
     at: &SuperBlock,
     inode: u32,
     it: &Record,
-    kept: u64,
     last: &mut LastRead,
+    kept: u64,
 ) -> Result<Edge, Refusal>
     requires known { KnowsInode (D.state disk.old) at.now inode it.now }
     requires kept { kept ≤ slot_limit }
@@ -194,14 +194,14 @@ pub(crate) fn find_edge<D: Disk>(
         });
     }
     let from = kept.min(72) - 8;
-    let below = match cut_block(disk, at, inode, it, Place::InRecord(8), from, 8, last) {
+    let below = match cut_block(disk, at, inode, it, last, Place::InRecord(8), from, 8) {
         Ok(below) => below,
         Err(why) => return Err(why),
     };
     if kept <= 72 {
         return Ok(Edge { below, above: None });
     }
-    far_edge(disk, at, inode, it, kept, last)
+    far_edge(disk, at, inode, it, last, kept)
 }
 
 /// The block in which an old end lies that a file does not shrink below, with zeros behind that end.
@@ -214,8 +214,8 @@ pub(crate) fn find_tail<D: Disk>(
     at: &SuperBlock,
     inode: u32,
     it: &Record,
-    size: u64,
     last: &mut LastRead,
+    size: u64,
 ) -> Result<Option<NewCell>, Failed>
     requires known { KnowsInode (D.state disk.old) at.now inode it.now }
     requires old { it.now.size ≤ largest_size }
@@ -226,7 +226,7 @@ pub(crate) fn find_tail<D: Disk>(
     if size < it.size || end == 0 {
         return Ok(None);
     }
-    let found = match find_content(disk, at, inode, it, it.size / 1024, last) {
+    let found = match find_content(disk, last, at, inode, it, it.size / 1024) {
         Ok(found) => found,
         Err(failed) => return Err(failed),
     };

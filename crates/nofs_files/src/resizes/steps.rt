@@ -162,15 +162,15 @@ fn resize_file<D: Disk + Drop>(
 {
     note_file(it);
     let kept = kept_slots(it.size, size);
-    let edge = match find_edge(&mut core.disk, &core.books.at, inode, it, kept, last) {
+    let edge = match find_edge(&mut core.disk, &core.books.at, inode, it, last, kept) {
         Ok(edge) => edge,
         Err(why) => return Err(why),
     };
-    let freed = match mark_cut(alloc, &mut core.disk, &core.books.at, inode, it, kept, last) {
+    let freed = match mark_cut(alloc, &mut core.disk, &core.books.at, inode, it, last, kept) {
         Ok(freed) => freed,
         Err(why) => return Err(why),
     };
-    match find_tail(&mut core.disk, &core.books.at, inode, it, size, last) {
+    match find_tail(&mut core.disk, &core.books.at, inode, it, last, size) {
         Ok(tail) => resize_cut(core, inode, it, size, &tail, &edge, &freed, last),
         Err(_) => Err(Refusal::ReadFault),
     }
@@ -230,13 +230,15 @@ pub fn resize<D: Disk + Drop>(
     ensures { ResizeGoes (D.state core.old.disk) core.old.books
         (D.state core.new.disk) core.new.books inode generation size result }
 {
-    let ask = NewSize {
-        inode,
-        generation,
-        size,
-    };
     match core.disk.ready(4) {
-        Ok(()) => resize_with_room(core, alloc, ask),
+        Ok(()) => {
+            let ask = NewSize {
+                inode,
+                generation,
+                size,
+            };
+            resize_with_room(core, alloc, ask)
+        }
         Err(_) => Err(Refusal::OutOfMemory),
     }
 }

@@ -8,7 +8,7 @@ returns-in-None-clause-none c e = let z = none-free c.args.books.now.free_blocks
     omega (arith, z)
 
 pub returns-in-None-next_set-clause-none : goal.returns-in-None-next_set-clause-none
-returns-in-None-next_set-clause-none c e =
-    let f = c.in-Some.ensures.found in
-    let z = one-free c.args.books.now.free_blocks c.in-Some.first f.1 f.2 (c.in-Some.ensures.least)
-    (c.in-None-next_set.ensures.none refl) in omega (arith, z)
+returns-in-None-next_set-clause-none c e = let z = one-free c.args.books.now.free_blocks c.in-Some.first
+    c.in-Some.ensures.found.1 c.in-Some.ensures.found.2 c.in-Some.ensures.least
+    (c.in-None-next_set.ensures.none refl) in
+    omega (arith, z)

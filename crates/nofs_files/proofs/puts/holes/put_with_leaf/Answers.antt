@@ -10,17 +10,14 @@ use Rattle.nofs_files.proofs.OnPuts.Missing.{leaf-asked}
 use Rattle.nofs_files.proofs.puts.holes.put_with_leaf.Goals as goal
 
 pub returns-in-Err : goal.returns-in-Err
-returns-in-Err g c = ended c.refused.ensures (goes-no-room
-    (leaf-asked (g.met.D.Disk.is_disk c.args.core.now.disk) c.requires.may c.requires.empty c.requires.rows
-    c.requires.path c.requires.hole)
-    c.in-Err.ensures.refused)
+returns-in-Err g c = ended c.refused.ensures (goes-no-room (leaf-asked (g.met.D.Disk.is_disk c.args.core.now.disk)
+    c.requires.may c.requires.empty c.requires.rows c.requires.path c.requires.hole) c.in-Err.ensures.refused)
 
 pub returns-in-Err-read_table : goal.returns-in-Err-read_table
 returns-in-Err-read_table g c = ended c.refused-in-Err-read_table.ensures (goes-untabled
     (leaf-asked (g.met.D.Disk.is_disk c.args.core.now.disk) c.requires.may c.requires.empty c.requires.rows
-    c.requires.path c.requires.hole)
-    c.in-Ok.ensures.room (StaysButFaults-refl (g.D.Disk.state c.args.core.now.disk)) c.read_table.ensures.stays
-    c.in-Err-read_table.ensures.refused)
+    c.requires.path c.requires.hole) c.in-Ok.ensures.room (StaysButFaults-refl (g.D.Disk.state c.args.core.now.disk))
+    c.read_table.ensures.stays c.in-Err-read_table.ensures.refused)
 
 pub returns : goal.returns
 returns g c = leaf-ends (g.met.D.Disk.is_disk c.read_table.new.disk)

@@ -9,13 +9,6 @@ use Rattle.nofs_files.proofs.OnPuts.PointerBlocks.{top-ends}
 use Rattle.nofs_files.proofs.OnPuts.Missing.{top-asked}
 use Rattle.nofs_files.proofs.puts.holes.put_with_top.Goals as goal
 
-pub returns-in-Err-read_table : goal.returns-in-Err-read_table
-returns-in-Err-read_table g c = ended c.refused-in-Err-read_table.ensures (goes-untabled
-    (top-asked (g.met.D.Disk.is_disk c.args.core.now.disk) c.requires.may c.requires.empty c.requires.rows
-    c.requires.path c.requires.hole)
-    c.in-Ok.ensures.room (StaysButFaults-refl (g.D.Disk.state c.args.core.now.disk)) c.read_table.ensures.stays
-    c.in-Err-read_table.ensures.refused)
-
 pub returns : goal.returns
 returns g c = top-ends (g.met.D.Disk.is_disk c.read_table.new.disk)
     (g.met.D.Disk.is_disk c.write_four.new.core.disk) c.read_table.ensures.stays
@@ -31,8 +24,12 @@ returns g c = top-ends (g.met.D.Disk.is_disk c.read_table.new.disk)
     c.size_after.ensures)
     c.record_cell-table.ensures) c.write_four.ensures
 
-pub returns-in-Err : goal.returns-in-Err
-returns-in-Err g c = ended c.refused.ensures (goes-no-room
+pub returns-in-Err-read_table : goal.returns-in-Err-read_table
+returns-in-Err-read_table g c = ended c.refused-in-Err-read_table.ensures (goes-untabled
     (top-asked (g.met.D.Disk.is_disk c.args.core.now.disk) c.requires.may c.requires.empty c.requires.rows
-    c.requires.path c.requires.hole)
-    c.in-Err.ensures.refused)
+    c.requires.path c.requires.hole) c.in-Ok.ensures.room (StaysButFaults-refl (g.D.Disk.state c.args.core.now.disk))
+    c.read_table.ensures.stays c.in-Err-read_table.ensures.refused)
+
+pub returns-in-Err : goal.returns-in-Err
+returns-in-Err g c = ended c.refused.ensures (goes-no-room (top-asked (g.met.D.Disk.is_disk c.args.core.now.disk)
+    c.requires.may c.requires.empty c.requires.rows c.requires.path c.requires.hole) c.in-Err.ensures.refused)

@@ -1,20 +1,19 @@
 use Rattle.std.proofs.Common.{ap}
 use Rattle.nofs_model.specs.Files.{node_in}
 use Rattle.nofs_model.specs.declared.image.path.PathAnswer.{PathAnswer}
-use Rattle.nofs_files.proofs.OnPuts.LostBlocks.{after-reads, child-ruin, ended, goes-lost-above, goes-unread-above}
+use Rattle.nofs_files.proofs.OnPuts.LostBlocks.{after-reads, child-ruin, lost-ends, unread-ends}
 use Rattle.nofs_files.proofs.OnPuts.LostBlocks.{is_ruined, lead-above, reached}
 use Rattle.nofs_files.proofs.puts.steps.put_under_child.Goals as goal
 
 pub returns-in-Err : goal.returns-in-Err
-returns-in-Err g c = ended c.refused.ensures (goes-unread-above
-    (reached (g.met.D.Disk.is_disk c.args.core.now.disk) c.requires.may c.requires.rows)
-    c.find_slot.ensures.stays c.in-Err.ensures.cause)
+returns-in-Err g c = unread-ends c.refused.ensures (g.met.D.Disk.is_disk c.args.core.now.disk) c.requires.may
+    c.requires.rows c.find_slot.ensures.stays c.in-Err.ensures.cause
 
 pub returns-in-Lost : goal.returns-in-Lost
-returns-in-Lost g c = ended c.refused-in-Lost.ensures (goes-lost-above
-    (reached (g.met.D.Disk.is_disk c.args.core.now.disk) c.requires.may c.requires.rows)
-    c.find_slot.ensures.stays (child-ruin c.requires.may c.requires.empty c.requires.path c.requires.top
-    (ap (λ (q : PathAnswer). is_ruined (node_in q)) c.in-Lost.is) c.in-Ok.ensures.found))
+returns-in-Lost g c = lost-ends c.refused-in-Lost.ensures (g.met.D.Disk.is_disk c.args.core.now.disk)
+    c.requires.may c.requires.rows c.find_slot.ensures.stays
+    (child-ruin c.requires.may c.requires.empty c.requires.path c.requires.top
+    (ap (λ (q : PathAnswer). is_ruined (node_in q)) c.in-Lost.is) c.in-Ok.ensures.found)
 
 pub put_with_child-requires-clause-rows : goal.put_with_child-requires-clause-rows
 put_with_child-requires-clause-rows g c =

@@ -1,20 +1,18 @@
 use Rattle.std.proofs.Common.{◌∙◌, sym}
-use Rattle.nofs_files.proofs.OnPuts.LostBlocks.{after-reads, ended, far-path, goes-lost-above, goes-unread-above}
+use Rattle.nofs_files.proofs.OnPuts.LostBlocks.{after-reads, far-path, lost-ends, unread-ends}
 use Rattle.nofs_files.proofs.OnPuts.LostBlocks.{lead-above, reach-above, reached, there}
 use Rattle.nofs_files.proofs.OnPuts.LostBlocks.{top-ruins, top-spares}
 use Rattle.nofs_files.proofs.puts.steps.put_under_top.Goals as goal
 
 pub returns-in-Err : goal.returns-in-Err
-returns-in-Err g c = ended c.refused.ensures (goes-unread-above
-    (reached (g.met.D.Disk.is_disk c.args.core.now.disk) c.requires.may c.requires.rows)
-    c.find_slot.ensures.stays c.in-Err.ensures.cause)
+returns-in-Err g c = unread-ends c.refused.ensures (g.met.D.Disk.is_disk c.args.core.now.disk) c.requires.may
+    c.requires.rows c.find_slot.ensures.stays c.in-Err.ensures.cause
 
 pub returns-in-Lost : goal.returns-in-Lost
-returns-in-Lost g c = ended c.refused-in-Lost.ensures (goes-lost-above
-    (reached (g.met.D.Disk.is_disk c.args.core.now.disk) c.requires.may c.requires.rows)
-    c.find_slot.ensures.stays
-    (top-ruins (there c.requires.may) c.args.put.now.slot (far-path c.requires.from c.requires.empty.slot).path
-    (λ t. sym c.in-Lost.is ∙ c.in-Ok.ensures.found t)))
+returns-in-Lost g c = lost-ends c.refused-in-Lost.ensures (g.met.D.Disk.is_disk c.args.core.now.disk)
+    c.requires.may c.requires.rows c.find_slot.ensures.stays (top-ruins (there c.requires.may) c.args.put.now.slot
+    (far-path c.requires.from c.requires.empty.slot).path
+    (λ t. sym c.in-Lost.is ∙ c.in-Ok.ensures.found t))
 
 pub put_with_top-requires-clause-rows : goal.put_with_top-requires-clause-rows
 put_with_top-requires-clause-rows g c =

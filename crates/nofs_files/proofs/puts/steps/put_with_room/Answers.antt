@@ -32,74 +32,53 @@ pub returns-in-Err : goal.returns-in-Err
 returns-in-Err g c = ended c.refused-in-Err.ensures
     (goes-unopened-put
     (begun c.args.put.now (g.met.D.Disk.is_disk c.args.core.now.disk) c.requires.safe c.if-core.false)
-    (sym c.is_bad_range.ensures ∙ c.if-is_bad_range.false)
-    (let e = c.slots_of.ensures in let h = c.if-put-slots_of.false in omega (arith, e, h))
+    (sym c.is_bad_range.ensures ∙ c.if-is_bad_range.false) c.slots_of.ensures c.if-put-slots_of.false
     c.open_file.ensures c.in-Err.is)
 
 pub returns-then-is_past_end : goal.returns-then-is_past_end
 returns-then-is_past_end g c = ended c.refused-then-is_past_end.ensures
     (goes-past-end (begun c.args.put.now (g.met.D.Disk.is_disk c.args.core.now.disk) c.requires.safe c.if-core.false)
-    (sym c.is_bad_range.ensures ∙ c.if-is_bad_range.false)
-    (let e = c.slots_of.ensures in let h = c.if-put-slots_of.false in omega (arith, e, h))
+    (sym c.is_bad_range.ensures ∙ c.if-is_bad_range.false) c.slots_of.ensures c.if-put-slots_of.false
     c.in-Ok.ensures (sym c.is_past_end.ensures ∙ c.if-is_past_end.true))
 
 pub returns-in-Err-find_content : goal.returns-in-Err-find_content
 returns-in-Err-find_content g c = ended c.refused-in-Err-find_content.ensures
     (goes-unread (begun c.args.put.now (g.met.D.Disk.is_disk c.args.core.now.disk) c.requires.safe c.if-core.false)
-    (sym c.is_bad_range.ensures ∙ c.if-is_bad_range.false)
-    (let e = c.slots_of.ensures in let h = c.if-put-slots_of.false in omega (arith, e, h))
+    (sym c.is_bad_range.ensures ∙ c.if-is_bad_range.false) c.slots_of.ensures c.if-put-slots_of.false
     c.in-Ok.ensures c.in-Err-find_content.ensures)
 
 pub put_in_place-requires-clause-rows : goal.put_in_place-requires-clause-rows
 put_in_place-requires-clause-rows g c =
     pass-after (begun c.args.put.now (g.met.D.Disk.is_disk c.args.core.now.disk) c.requires.safe c.if-core.false)
-    (sym c.is_bad_range.ensures ∙ c.if-is_bad_range.false)
-    (let e = c.slots_of.ensures in let h = c.if-put-slots_of.false in omega (arith, e, h))
+    (sym c.is_bad_range.ensures ∙ c.if-is_bad_range.false) c.slots_of.ensures c.if-put-slots_of.false
     c.in-Ok.ensures c.in-Ok-find_content.ensures (sym c.is_past_end.ensures ∙ c.if-is_past_end.false) c.in-Holds.is
-
-pub put_new_block-requires-clause-rows : goal.put_new_block-requires-clause-rows
-put_new_block-requires-clause-rows g c =
-    reach-hole (begun c.args.put.now (g.met.D.Disk.is_disk c.args.core.now.disk) c.requires.safe c.if-core.false)
-    (sym c.is_bad_range.ensures ∙ c.if-is_bad_range.false)
-    (let e = c.slots_of.ensures in let h = c.if-put-slots_of.false in omega (arith, e, h))
-    c.in-Ok.ensures c.in-Ok-find_content.ensures (sym c.is_past_end.ensures ∙ c.if-is_past_end.false) c.in-Hole.is
 
 pub returns-then-is_lost_under : goal.returns-then-is_lost_under
 returns-then-is_lost_under g c = ended c.refused-then-is_lost_under.ensures
     (goes-lost (begun c.args.put.now (g.met.D.Disk.is_disk c.args.core.now.disk) c.requires.safe c.if-core.false)
-    (sym c.is_bad_range.ensures ∙ c.if-is_bad_range.false)
-    (let e = c.slots_of.ensures in let h = c.if-put-slots_of.false in omega (arith, e, h))
+    (sym c.is_bad_range.ensures ∙ c.if-is_bad_range.false) c.slots_of.ensures c.if-put-slots_of.false
     c.in-Ok.ensures c.in-Ok-find_content.ensures (sym c.is_past_end.ensures ∙ c.if-is_past_end.false) c.in-Lost.is
     (sym c.is_lost_under.ensures ∙ c.if-is_lost_under.true))
 
 pub put_new_block-requires-in-Lost-clause-rows : goal.put_new_block-requires-in-Lost-clause-rows
 put_new_block-requires-in-Lost-clause-rows g c =
     reach-after (begun c.args.put.now (g.met.D.Disk.is_disk c.args.core.now.disk) c.requires.safe c.if-core.false)
-    (sym c.is_bad_range.ensures ∙ c.if-is_bad_range.false)
-    (let e = c.slots_of.ensures in let h = c.if-put-slots_of.false in omega (arith, e, h))
+    (sym c.is_bad_range.ensures ∙ c.if-is_bad_range.false) c.slots_of.ensures c.if-put-slots_of.false
     c.in-Ok.ensures c.in-Ok-find_content.ensures (sym c.is_past_end.ensures ∙ c.if-is_past_end.false)
     (inr (sym c.is_lost_under.ensures ∙ c.if-is_lost_under.false))
 
 pub returns-in-Holds : goal.returns-in-Holds
-returns-in-Holds g c =
-    after (begun c.args.put.now (g.met.D.Disk.is_disk c.args.core.now.disk) c.requires.safe c.if-core.false)
-    (sym c.is_bad_range.ensures ∙ c.if-is_bad_range.false)
-    (let e = c.slots_of.ensures in let h = c.if-put-slots_of.false in omega (arith, e, h))
-    c.in-Ok.ensures c.in-Ok-find_content.ensures (sym c.is_past_end.ensures ∙ c.if-is_past_end.false)
-    c.put_in_place.ensures
+returns-in-Holds g c = after c.open_file.ensures.stays c.find_content.ensures.stays c.put_in_place.ensures
 
 pub returns-in-Hole : goal.returns-in-Hole
-returns-in-Hole g c =
-    after (begun c.args.put.now (g.met.D.Disk.is_disk c.args.core.now.disk) c.requires.safe c.if-core.false)
-    (sym c.is_bad_range.ensures ∙ c.if-is_bad_range.false)
-    (let e = c.slots_of.ensures in let h = c.if-put-slots_of.false in omega (arith, e, h))
-    c.in-Ok.ensures c.in-Ok-find_content.ensures (sym c.is_past_end.ensures ∙ c.if-is_past_end.false)
-    c.put_new_block.ensures
+returns-in-Hole g c = after c.open_file.ensures.stays c.find_content.ensures.stays c.put_new_block.ensures
 
 pub returns-else-is_lost_under : goal.returns-else-is_lost_under
 returns-else-is_lost_under g c =
-    after (begun c.args.put.now (g.met.D.Disk.is_disk c.args.core.now.disk) c.requires.safe c.if-core.false)
-    (sym c.is_bad_range.ensures ∙ c.if-is_bad_range.false)
-    (let e = c.slots_of.ensures in let h = c.if-put-slots_of.false in omega (arith, e, h))
-    c.in-Ok.ensures c.in-Ok-find_content.ensures (sym c.is_past_end.ensures ∙ c.if-is_past_end.false)
-    c.put_new_block-in-Lost.ensures
+    after c.open_file.ensures.stays c.find_content.ensures.stays c.put_new_block-in-Lost.ensures
+
+pub put_new_block-requires-clause-rows : goal.put_new_block-requires-clause-rows
+put_new_block-requires-clause-rows g c =
+    reach-hole (begun c.args.put.now (g.met.D.Disk.is_disk c.args.core.now.disk) c.requires.safe c.if-core.false)
+    (sym c.is_bad_range.ensures ∙ c.if-is_bad_range.false) c.slots_of.ensures c.if-put-slots_of.false
+    c.in-Ok.ensures c.in-Ok-find_content.ensures (sym c.is_past_end.ensures ∙ c.if-is_past_end.false) c.in-Hole.is

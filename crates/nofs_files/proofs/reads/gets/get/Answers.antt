@@ -1,13 +1,10 @@
-use Rattle.std.proofs.Common.{arith, refl, sym, ap}
+use Rattle.std.proofs.Common.{arith, refl}
 use Rattle.nofs_disk.specs.Chains.{StaysButFaults-refl}
-use Rattle.nofs_model.specs.declared.image.path.PathAnswer.{PathAnswer}
-use Rattle.nofs_model.specs.Slots.{value_in}
-use Rattle.nofs_history.specs.Answers.{got_reply}
 use Rattle.nofs_history.specs.declared.machine.steps.Step.TheVariants as step
 use Rattle.nofs_history.specs.declared.machine.replies.Reply.TheVariants as reply
+use Rattle.nofs_state.proofs.OnCores.Readings.{read-memory, read-memory-found}
 use Rattle.nofs_state.proofs.OnCores.Replies.{goes-stopped}
-use Rattle.nofs_files.proofs.OnReads.Gets.{get-large, get-unfiled, get-unread, get-found, get-bytes, get-memory}
-use Rattle.nofs_files.proofs.OnReads.Gets.{get-memory-found}
+use Rattle.nofs_files.proofs.OnReads.Gets.{get-bare, get-large, get-unfiled, get-unread, get-found, get-bytes}
 use Rattle.nofs_files.proofs.OnReads.Memory.{file-memory}
 use Rattle.nofs_files.proofs.reads.gets.get.Goals as goal
 
@@ -30,69 +27,51 @@ returns-in-Err-clause-goes g c = get-unfiled c.args.inode c.args.generation c.ar
 
 pub returns-in-Err-find_content-clause-goes : goal.returns-in-Err-find_content-clause-goes
 returns-in-Err-find_content-clause-goes g c = get-unread c.args.inode c.args.generation c.args.slot
-    (g.met.D.Disk.is_disk c.args.core.now.disk) c.requires c.if-core.false
-    (let e = c.slots_of.ensures in let h = c.if-slot-slots_of.false in
-    omega (arith, e, h)) c.in-Ok.ensures c.in-Err-find_content.ensures
+    (g.met.D.Disk.is_disk c.args.core.now.disk) c.requires c.if-core.false c.slots_of.ensures c.if-slot-slots_of.false
+    c.in-Ok.ensures c.in-Err-find_content.ensures
 
 pub returns-in-Hole-clause-goes : goal.returns-in-Hole-clause-goes
-returns-in-Hole-clause-goes g c = get-found c.args.inode c.args.generation c.args.slot
-    (g.met.D.Disk.is_disk c.args.core.now.disk) c.requires c.if-core.false
-    (let e = c.slots_of.ensures in let h = c.if-slot-slots_of.false in
-    omega (arith, e, h)) c.in-Ok.ensures reply.Hole refl refl c.in-Ok-find_content.ensures
-    (λ tells. ap (λ (q : PathAnswer). got_reply (value_in (g.D.Disk.state c.args.core.now.disk).now q))
-    (sym c.in-Hole.is))
+returns-in-Hole-clause-goes g c = get-bare c.args.inode c.args.generation c.args.slot
+    (g.met.D.Disk.is_disk c.args.core.now.disk) c.requires c.if-core.false c.slots_of.ensures c.if-slot-slots_of.false
+    c.in-Ok.ensures reply.Hole refl refl c.in-Ok-find_content.ensures c.in-Hole.is refl
 
 pub returns-in-Holds-clause-goes : goal.returns-in-Holds-clause-goes
 returns-in-Holds-clause-goes g c = get-found c.args.inode c.args.generation c.args.slot
-    (g.met.D.Disk.is_disk c.args.core.now.disk) c.requires c.if-core.false
-    (let e = c.slots_of.ensures in let h = c.if-slot-slots_of.false in omega (arith, e, h)) c.in-Ok.ensures
-    (reply.Bytes c.find_content.new.last.cell.payload) refl refl c.in-Ok-find_content.ensures
+    (g.met.D.Disk.is_disk c.args.core.now.disk) c.requires c.if-core.false c.slots_of.ensures c.if-slot-slots_of.false
+    c.in-Ok.ensures (reply.Bytes c.find_content.new.last.cell.payload) refl refl c.in-Ok-find_content.ensures
     (get-bytes c.args.inode c.args.slot c.in-Ok.ensures.stays c.in-Ok-find_content.ensures c.in-Holds.is)
 
 pub returns-in-Lost-clause-goes : goal.returns-in-Lost-clause-goes
-returns-in-Lost-clause-goes g c = get-found c.args.inode c.args.generation c.args.slot
-    (g.met.D.Disk.is_disk c.args.core.now.disk) c.requires c.if-core.false
-    (let e = c.slots_of.ensures in let h = c.if-slot-slots_of.false in
-    omega (arith, e, h)) c.in-Ok.ensures reply.Lost refl refl c.in-Ok-find_content.ensures
-    (λ tells. ap (λ (q : PathAnswer). got_reply (value_in (g.D.Disk.state c.args.core.now.disk).now q))
-    (sym c.in-Lost.is))
+returns-in-Lost-clause-goes g c = get-bare c.args.inode c.args.generation c.args.slot
+    (g.met.D.Disk.is_disk c.args.core.now.disk) c.requires c.if-core.false c.slots_of.ensures c.if-slot-slots_of.false
+    c.in-Ok.ensures reply.Lost refl refl c.in-Ok-find_content.ensures c.in-Lost.is refl
 
 -- it has only read
 pub returns-then-core-clause-memory : goal.returns-then-core-clause-memory
-returns-then-core-clause-memory g c = get-memory (g.D.Disk.state c.args.core.now.disk) c.args.core.now.books
-    c.args.inode c.args.generation c.args.slot c.requires (g.D.Disk.state c.args.core.now.disk) (StaysButFaults-refl
-    (g.D.Disk.state c.args.core.now.disk))
+returns-then-core-clause-memory g c = read-memory c.requires
+    (StaysButFaults-refl (g.D.Disk.state c.args.core.now.disk))
 
 pub returns-then-slot-slots_of-clause-memory : goal.returns-then-slot-slots_of-clause-memory
-returns-then-slot-slots_of-clause-memory g c = get-memory (g.D.Disk.state c.args.core.now.disk) c.args.core.now.books
-    c.args.inode c.args.generation c.args.slot c.requires (g.D.Disk.state c.args.core.now.disk) (StaysButFaults-refl
-    (g.D.Disk.state c.args.core.now.disk))
+returns-then-slot-slots_of-clause-memory g c =
+    read-memory c.requires
+    (StaysButFaults-refl (g.D.Disk.state c.args.core.now.disk))
 
 pub returns-in-Err-clause-memory : goal.returns-in-Err-clause-memory
-returns-in-Err-clause-memory g c = get-memory (g.D.Disk.state c.args.core.now.disk) c.args.core.now.books
-    c.args.inode c.args.generation c.args.slot c.requires (g.D.Disk.state c.open_file.new.disk)
-    c.open_file.ensures.stays
+returns-in-Err-clause-memory g c =
+    read-memory c.requires c.open_file.ensures.stays
 
 pub returns-in-Err-find_content-clause-memory : goal.returns-in-Err-find_content-clause-memory
-returns-in-Err-find_content-clause-memory g c = get-memory-found
-    (g.D.Disk.state c.args.core.now.disk) c.args.core.now.books
-    c.args.inode c.args.generation c.args.slot c.requires (g.D.Disk.state c.open_file.new.disk)
-    (g.D.Disk.state c.find_content.new.disk) c.open_file.ensures.stays c.find_content.ensures.stays
+returns-in-Err-find_content-clause-memory g c =
+    read-memory-found c.requires c.open_file.ensures.stays c.find_content.ensures.stays
 
 pub returns-in-Hole-clause-memory : goal.returns-in-Hole-clause-memory
-returns-in-Hole-clause-memory g c = get-memory-found (g.D.Disk.state c.args.core.now.disk) c.args.core.now.books
-    c.args.inode c.args.generation c.args.slot c.requires (g.D.Disk.state c.open_file.new.disk)
-    (g.D.Disk.state c.find_content.new.disk) c.open_file.ensures.stays c.find_content.ensures.stays
+returns-in-Hole-clause-memory g c = read-memory-found c.requires c.open_file.ensures.stays c.find_content.ensures.stays
 
 pub returns-in-Holds-clause-memory : goal.returns-in-Holds-clause-memory
-returns-in-Holds-clause-memory g c = get-memory-found (g.D.Disk.state c.args.core.now.disk) c.args.core.now.books
-    c.args.inode c.args.generation c.args.slot c.requires (g.D.Disk.state c.open_file.new.disk)
-    (g.D.Disk.state c.find_content.new.disk) c.open_file.ensures.stays c.find_content.ensures.stays
+returns-in-Holds-clause-memory g c = read-memory-found c.requires c.open_file.ensures.stays c.find_content.ensures.stays
 
 pub returns-in-Lost-clause-memory : goal.returns-in-Lost-clause-memory
-returns-in-Lost-clause-memory g c = get-memory-found (g.D.Disk.state c.args.core.now.disk) c.args.core.now.books
-    c.args.inode c.args.generation c.args.slot c.requires (g.D.Disk.state c.open_file.new.disk)
-    (g.D.Disk.state c.find_content.new.disk) c.open_file.ensures.stays c.find_content.ensures.stays
+returns-in-Lost-clause-memory g c = read-memory-found c.requires c.open_file.ensures.stays c.find_content.ensures.stays
 
 -- .. and took no memory
 pub returns-in-Err-clause-no_memory : goal.returns-in-Err-clause-no_memory
