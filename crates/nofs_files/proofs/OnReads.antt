@@ -4,3 +4,4 @@ pub mod Rows
 pub mod Gets
 pub mod Flushes
 pub mod Memory
+pub mod Standing

@@ -31,7 +31,9 @@ use Rattle.nofs_state.proofs.OnCores.Unchanged.{Keeping, goes-after, open-back, 
 use Rattle.nofs_state.proofs.OnBooks.Machine.{are-agreed}
 use Rattle.nofs_state.proofs.OnWrites.Tables.{table_block}
 use Rattle.nofs_state.proofs.OnWrites.TwoWrites.{safe-writes, writes-cells}
-use Rattle.nofs_files.proofs.OnPuts.Image.{Climbs, climb-once}
+use Rattle.nofs_files.proofs.OnPuts.Image.{Climb, Climbs, climb-once, image-shown}
+use Rattle.nofs_files.proofs.OnPuts.Slots.{slots-shown}
+use Rattle.nofs_files.proofs.OnPuts.Proper.{ProperShown, proper-shown}
 use Rattle.nofs_files.proofs.OnPuts.Mount.{climb-done, climb-proper, climb-numbered}
 use Rattle.nofs_files.proofs.OnReads.Rows.{current-agreed}
 use Rattle.nofs_files.proofs.OnPuts.ClaimParts.{Takes}
@@ -49,12 +51,45 @@ pub record IsClimb (d : DiskState) (p : Past) (i g slot at : ℕ) (bytes : List 
   pub needs : blocks_for p.world.files i slot ≡ m
   pub claim : IsClaim p.world (step.Put i g slot at bytes) c
 
+-- such a Put on its way, and what is shown of it
+abbrev climbing : (new : DiskState) {d : DiskState} {k l : Books} {H : List Entry1} {p : Past} {i g slot at : ℕ}
+    {bytes : List ℕ} {r r' : Record} {m : ℕ} {way : Path} {places : Path → Pointer} {cells : Path → Cell}
+    {c : Claims} {c2 : Cell}
+    → IsDisk d → IsTrue d.tells → IsSafe d k → IsOpen d k H p
+    → IsClimb d p i g slot at bytes r r' m way places cells c c2 → Takes k l c m → Climb
+climbing new {d} {k} {l} {H} {p} {i} {g} {slot} {at} {bytes} {r} {r'} {m} {way} {places} {cells} {c} {c2}
+    is_d tells safe o f takes = record {
+      standing = record { old = d; k = k; H = H; p = p; is_old = is_d; tells = tells; o = o };
+      bytes = bytes;
+      new = new;
+      i = i;
+      g = g;
+      slot = slot;
+      h = f.climbs;
+      at = at;
+      places = places;
+      r = r;
+      r' = r';
+      m = m;
+      needs = f.needs;
+      way = way;
+      cells = cells;
+      c = c;
+      c2 = c2;
+      l = l;
+      claim = f.claim;
+      safe = safe;
+      takes = takes;
+    }
+
+abbrev shown-of : Climb → ProperShown
+shown-of climb = proper-shown (slots-shown (image-shown climb))
+
 pub climb-goes : (d new : DiskState) (k l' l : Books) (i g slot at : ℕ) (bytes : List ℕ) (r r' : Record) (m : ℕ)
     (way : Path) (places : Path → Pointer)
     (cells : Path → Cell) (c : Claims) (c2 : Cell) (result : Result (Unit {0}) Refusal) → IsDisk d → IsDisk new
     → IsSafe d k → IsSafe d l' → k.stopped ≡ false → IsApart (way_writes places cells (table_block i, c2) m way) 0
-    → Takes k l' c m
-    → path_of slot ≡ way → length (claimed_blocks c) ≡ m
+    → Takes k l' c m → path_of slot ≡ way → length (claimed_blocks c) ≡ m
     → (IsTrue d.tells → (H : List Entry1) (p : Past) → IsOpen d k H p
     → IsClimb d p i g slot at bytes r r' m way places cells c c2)
     → RowsPass d k (step.Put i g slot at bytes)
@@ -78,9 +113,8 @@ climb-goes d new k l' l i g slot at bytes r r' m way places cells c c2 result is
 
     owes : IsTrue d.tells → (H : List Entry1) (p : Past) → IsOpen d k H p
         → IsRow p.world.files (step.Put i g slot at bytes) c (way_writes places cells (table_block i, c2) m way)
-    owes tells H p o = let f = facts tells H p o in record {
-      once = climb-once d new k l' H p i g slot at bytes r r' m way places cells c c2 is_d tells safe o f.climbs
-          f.needs f.claim takes;
+    owes tells H p o = record {
+      once = climb-once (climbing new is_d tells safe o (facts tells H p o) takes);
       exact = count;
     }
 
@@ -96,9 +130,8 @@ climb-goes d new k l' l i g slot at bytes r r' m way places cells c c2 result is
         (Ok tt) l'.stopped writes apart claimed) refl writes.adds.disk
         writes.adds.past writes.later
         (WritesAlone refl (writes-cells k (step.Put i g slot at bytes) c writes count owes)) safe
-        (λ tells H p o. let f = facts tells H p o in
-        climb-done d new k l' H p i g slot at bytes r r' m way places cells c c2 is_d tells safe o f.climbs f.needs
-        f.claim takes writes (pass tells H p o)))
+        (λ tells H p o. climb-done (shown-of (climbing new is_d tells safe o (facts tells H p o) takes)) writes
+        (pass tells H p o)))
     go (NotStored x writes same e) = subst₂
         (λ (b : Books) (q : Result (Unit {0}) Refusal). Goes d k new b (step.Put i g slot at bytes) c (put_answer q))
         (sym same) (sym e)
@@ -106,16 +139,14 @@ climb-goes d new k l' l i g slot at bytes r r' m way places cells c c2 result is
         (step.Put i g slot at bytes) c is_d going l-at l-history refl writes.adds.disk writes.adds.past writes.cause
         writes.later (WritesAlone refl (writes-cells k (step.Put i g slot at bytes) c writes count owes)) safe
         (safe-writes d new l' (way_writes places cells (table_block i, c2) m way) (Err x) true writes apart claimed)
-        (λ tells H p o. let f = facts tells H p o in
-        climb-numbered d new k l' H p i g slot at bytes r r' m way places cells c c2 is_d tells safe o f.climbs
-        f.needs f.claim takes writes.adds)
-        (λ tells caller H p o. let f = facts tells H p o in (
-          climb-proper d new k l' H p i g slot at bytes r r' m way places cells c c2 is_d tells safe o f.climbs
-              f.needs f.claim takes
+        (λ tells H p o. climb-numbered (shown-of (climbing new is_d tells safe o (facts tells H p o) takes))
+        writes.adds)
+        (λ tells caller H p o. (
+          climb-proper (shown-of (climbing new is_d tells safe o (facts tells H p o) takes))
               (entry caller d new (step.Put i g slot at bytes) c (reply.Refused refusal.WriteFault)) refl writes.adds,
           pass tells H p o (stopped_world p.world),
           refl,
-          f.claim,
+          (facts tells H p o).claim,
         )))
 
 -- the exit of each Put that writes, from the state before its last reads

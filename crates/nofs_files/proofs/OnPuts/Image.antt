@@ -1,9 +1,9 @@
 -- A Put at any depth, in place or with claims: the image after the blocks of its way and the record were written.
 use Rattle.std.proofs.Common.{◌≡◌, ◌≢◌, ℕ, ◌+◌, ◌*◌, ◌/◌, ◌<◌, ◌≤◌, ◌⊎◌, max, inl, inr, true, false, eqb}
-use Rattle.std.proofs.Common.{eq-eqb, leb, ltb, leb-true, ltb-true, not, List, length, Some, IsTrue}
+use Rattle.std.proofs.Common.{eq-eqb, leb, ltb, leb-true, ltb-true, not, List, length, Some}
 use Rattle.std.proofs.Common.{refl, sym, ap, ◌∙◌, subst, arith}
 use Rattle.nofs_ptrs.specs.Paths.{slot_limit, Path, InRecord, Under, path_of, IsSlot}
-use Rattle.nofs_disk.specs.Disk.{DiskState, IsDisk, cell_at}
+use Rattle.nofs_disk.specs.Disk.{DiskState, cell_at}
 use Rattle.nofs_super.specs.Geometry.{IsGeometry}
 use Rattle.nofs_inode.specs.declared.inode.FileKind.TheVariants.{File}
 use Rattle.nofs_disk.specs.declared.tag.Cell.{Cell}
@@ -18,36 +18,33 @@ use Rattle.nofs_model.specs.Geometry.{Image, super_at, is_data_block, inode}
 use Rattle.nofs_model.specs.Files.{file_from, files_in, agreed, is_folder}
 use Rattle.nofs_model.specs.Slots.{value, tag_for, find, record_pointer, IsAbove}
 use Rattle.nofs_model.specs.Owners.{IsFree}
-use Rattle.nofs_model.specs.Sound.{IsBelow}
 use Rattle.nofs_model.specs.declared.image.path.PathAnswer.TheVariants as answer
 use Rattle.nofs_model.proofs.OnSlots.Find.{and-both, find-held}
 use Rattle.nofs_ptrs.specs.PathLaws.{path_of-slot, path_of-slot_of}
 use Rattle.nofs_model.proofs.OnSlots.Paths.{above-slot}
-use Rattle.nofs_model.proofs.OnSound.Writes.{mountable-law}
+use Rattle.nofs_history.specs.Marks.{Mark, mark_at}
 use Rattle.nofs_history.specs.Machine.{put_content}
 use Rattle.nofs_history.specs.World.{World, blocks_for, uses_inode, uses_block}
 use Rattle.nofs_history.specs.Claims.{is_claimed, next_stamp, slot_above, IsClaim}
 use Rattle.nofs_history.specs.History.{FilesMatch, SameFile}
 use Rattle.nofs_history.specs.declared.machine.history.Claims.{Claims}
-use Rattle.nofs_history.specs.declared.machine.history.Entry1.{Entry1}
 use Rattle.nofs_history.specs.declared.machine.steps.Step.TheVariants as step
 use Rattle.nofs_crashlaw.specs.Untouched.Frames.{SameNames, OldPointers, Touches}
 use Rattle.nofs_crashlaw.proofs.OnUntouched.Matches.{Matched, matched-agreed}
 use Rattle.nofs_crashlaw.proofs.OnUntouched.Inodes.{one-owner}
 use Rattle.nofs_crashlaw.specs.Maps.Homes.{ClaimsFree}
 use Rattle.nofs_crashlaw.specs.Maps.Moves.{IsClaimed}
-use Rattle.nofs_crashlaw.proofs.OnMaps.Fresh.{law-old}
 use Rattle.nofs_crashlaw.proofs.OnMaps.Good.{law-claims}
 use Rattle.nofs_crashlaw.proofs.OnMaps.Homes.{law-good}
 use Rattle.nofs_crashlaw.proofs.OnUntouched.Agreement.{file-in}
 use Rattle.nofs_crashlaw.specs.Numbers.Cells.{OldNumbers, table_tag}
 use Rattle.nofs_crashlaw.proofs.OnNumbers.Files.{listed, tag-same}
 use Rattle.nofs_state.specs.Books.Maps.{IsSafe}
-use Rattle.nofs_state.specs.Cores.Invariant.{IsOpen, Past}
 use Rattle.nofs_state.specs.declared.books.maps.Books.{Books}
 use Rattle.nofs_disk.specs.Order.{WritesOnce, image_after}
 use Rattle.nofs_history.specs.Good.{MatchesSuper}
 use Rattle.nofs_state.proofs.OnCores.Replies.{open-files}
+use Rattle.nofs_files.proofs.OnReads.Standing.{Standing, geometry-of, numbers-before, pointers-before}
 use Rattle.nofs_state.proofs.OnBooks.Machine.{agreed-live, world-numbers}
 use Rattle.nofs_state.proofs.OnWrites.Tables.{HasRecord, table_block, record-here, record-other}
 use Rattle.nofs_files.proofs.OnPuts.ClaimParts.{Takes, stamp-new}
@@ -101,27 +98,95 @@ pub record Climbs (X : Image) (i g slot at : ℕ) (bytes : List ℕ) (r r' : Rec
   pub top : is_claimed c.top ≡ true → IsAbove (slot_above (slot_above way)) way
       × (places (slot_above (slot_above way)) ≡ c.top)
 
-module _ (old new : DiskState) (k l : Books) (H : List Entry1) (p : Past) (i g slot at : ℕ) (bytes : List ℕ)
-    (r r' : Record) (m : ℕ) (way : Path)
-    (places : Path → Pointer) (cells : Path → Cell) (c : Claims) (c2 : Cell)
-    (is_old : IsDisk old) (tells : IsTrue old.tells) (safe : IsSafe old k) (o : IsOpen old k H p)
-    (h : Climbs old.now i g slot at bytes r r' m way places cells c c2)
-    (needs : blocks_for p.world.files i slot ≡ m) (claim : IsClaim p.world (step.Put i g slot at bytes) c)
-    (takes : Takes k l c m) where
-  abbrev pub W : World
+-- a Put on its way: what it was asked, what it claims and writes, the disk and the books after it, and the mount that
+-- it was asked of
+pub record Climb : Type 1 where
+  pub standing : Standing
+  pub open standing use *
+  pub bytes : List ℕ
+  pub new : DiskState
+  pub i : ℕ
+  pub g : ℕ
+  pub slot : ℕ
+  pub at : ℕ
+  pub places : Path → Pointer
+  pub r : Record
+  pub r' : Record
+  pub m : ℕ
+  pub way : Path
+  pub cells : Path → Cell
+  pub c : Claims
+  pub c2 : Cell
+  pub l : Books
+  pub safe : IsSafe old k
+  pub h : Climbs old.now i g slot at bytes r r' m way places cells c c2
+  pub needs : blocks_for p.world.files i slot ≡ m
+  pub claim : IsClaim p.world (step.Put i g slot at bytes) c
+  pub takes : Takes k l c m
+
+-- its writes, and the image after them
+abbrev pub writes_of : Climb → List (ℕ × Cell)
+writes_of q = way_writes q.places q.cells (table_block q.i, q.c2) q.m q.way
+
+abbrev pub after : Climb → Image
+after q = image_after (writes_of q) q.old.now
+
+-- the mark before it: a crash leaves what was written since
+abbrev pub mark_of : Climb → Mark
+mark_of q = mark_at q.p.base q.H (q.old.moment + 1) q.p.mark q.p.stamps
+
+-- what is shown of the image before it, of its claims and of the image after it
+pub record ImageShown : Type 1 where
+  pub climb : Climb
+  pub open climb use *
+  pub match : FilesMatch p.world.files old.now
+  pub own : Matched p.world.files old.now i
+  pub file : is_folder own.file.kind ≡ false
+  pub file_kind : own.file.kind ≡ File
+  pub generation : own.file.generation ≡ g
+  pub slot_of_way : (a : Path) → IsAbove a way → IsSlot a
+  pub claims_free : ClaimsFree p.world c old.now
+  pub size : own.file.size ≡ r.size
+  pub free : (a : Path) → IsNew m way a → IsFree old.now (places a).block
+  pub stamp : (a : Path) → IsNew m way a → next_stamp p.world ≤ (places a).stamp
+  pub changed_above : (a : Path) → IsChanged m way a → IsAbove a way
+  pub area : (a : Path) → IsAbove a way → is_data_block old.now (places a).block ≡ true
+  pub value_here : own.file.values slot ≡ value old.now i slot
+  pub same_place : (a b : Path) → IsAbove a way → IsAbove b way → (places a).block ≡ (places b).block → a ≡ b
+  pub stays : (b : ℕ) → b ≢ table_block i → ((a : Path) → IsChanged m way a → b ≢ (places a).block)
+      → cell_at (after climb) b ≡ cell_at old.now b
+  pub data_stays : (b : ℕ) → is_data_block old.now b ≡ true → ((a : Path) → IsChanged m way a → b ≢ (places a).block)
+      → cell_at (after climb) b ≡ cell_at old.now b
+  pub table_low : table_block i ≤ (super_at old.now).inodes / 4
+  pub old_numbers : OldNumbers p.world old.now
+  pub cell_here : (a : Path) → IsChanged m way a → cell_at (after climb) (places a).block ≡ cells a
+  pub super_stays : cell_at (after climb) 0 ≡ cell_at old.now 0
+  pub here : inode (after climb) i ≡ r'
+  pub names : SameNames old.now (after climb) i
+  pub old_pointers : (j : ℕ) → is_live (inode old.now j) ≡ true → OldPointers (next_stamp p.world) old.now j
+  pub touches : Touches (next_stamp p.world) (λ j. eqb j i) old.now (after climb)
+  pub tag_new : (a : Path) → IsNew m way a
+      → tag_of (cell_at (after climb) (places a).block).tag ≡ Some (tag_for (after climb) i a (places a).stamp)
+  pub tag_old : (a : Path) → IsOld m way a
+      → tag_of (cell_at (after climb) (places a).block).tag ≡ tag_of (cell_at old.now (places a).block).tag
+
+module _ (climb : Climb) where
+  open climb use {old, k, H, p, o, i, g, slot, at, bytes, r', m, way, places, cells, c, c2, h, claim}
+
+  abbrev W : World
   W = p.world
 
-  abbrev pub X : Image
+  abbrev X : Image
   X = old.now
 
-  abbrev ws : List (ℕ × Cell)
-  ws = way_writes places cells (table_block i, c2) m way
+  abbrev Y : Image
+  Y = after climb
 
-  abbrev pub Y : Image
-  Y = image_after (way_writes places cells (table_block i, c2) m way) old.now
+  abbrev ws : List (ℕ × Cell)
+  ws = writes_of climb
 
   geometry : IsGeometry (length X) (super_at X).blocks (super_at X).inodes
-  geometry = let q = (mountable-law X).1 o.mountable in q.fits
+  geometry = geometry-of climb.standing
 
   whole : (super_at X).blocks ≤ length X
   whole = geometry.fits
@@ -132,24 +197,12 @@ module _ (old new : DiskState) (k l : Books) (H : List Entry1) (p : Past) (i g s
   pub own : Matched W.files X i
   own = matched-agreed W.files X i match (agreed-live X i h.file.agrees) h.file.agrees
 
-  same : ((inode X i).kind ≡ Some own.file.kind) × SameFile (Some own.file) (file_from X i (Some own.file.kind))
+  pub same : ((inode X i).kind ≡ Some own.file.kind) × SameFile (Some own.file) (file_from X i (Some own.file.kind))
   same = file-in W.files X i own.file match own.is
 
   pub file-kind : own.file.kind ≡ File
   file-kind = let e : Some own.file.kind ≡ Some File = sym same.0 ∙ ap (λ (q : Record). q.kind) h.file.rec
       ∙ h.file.kind in cc e
-
-  pub file : is_folder own.file.kind ≡ false
-  file = ap is_folder file-kind
-
-  pub generation : own.file.generation ≡ g
-  generation = own.generation ∙ ap (λ (q : Record). q.generation) h.file.rec ∙ h.file.generation
-
-  pub size : own.file.size ≡ r.size
-  size = let s = same.1 in s.size ∙ ap (λ (q : Record). q.size) h.file.rec
-
-  pub value-here : own.file.values slot ≡ value X i slot
-  value-here = own.values slot h.file.range
 
   pub slot-of-way : (a : Path) → IsAbove a way → IsSlot a
   slot-of-way a u = above-slot a way u (subst (λ (q : Path). IsSlot q) h.file.path (path_of-slot slot h.file.range))
@@ -251,16 +304,6 @@ module _ (old new : DiskState) (k l : Books) (H : List Entry1) (p : Past) (i g s
   record-old : (j : ℕ) → j ≢ i → inode Y j ≡ inode X j
   record-old j ne = record-other X Y i r' c2 h.file.has geometry.multiple super-stays table-here low-stays j ne
 
-  all-below : IsBelow (next_stamp W) X
-  all-below n lt = o.stage.ready.fresh n (cell_at X n) lt
-      (is_old.has_now n tells (let w = is_old.whole tells in let q = whole in omega (arith, lt, w, q)))
-
-  pub old-numbers : OldNumbers W X
-  old-numbers = record { positive = o.stage.ready.positive; mountable = o.mountable; below = all-below }
-
-  pub old-pointers : (j : ℕ) → is_live (inode X j) ≡ true → OldPointers (next_stamp W) X j
-  old-pointers j live = law-old (next_stamp W) X j o.stage.ready.positive o.mountable all-below live
-
   pub names : SameNames X Y i
   names = record {
     kind = ap (λ (q : Record). q.kind) here ∙ h.grew.kind ∙ sym (ap (λ (q : Record). q.kind) h.file.rec);
@@ -316,3 +359,34 @@ module _ (old new : DiskState) (k l : Books) (H : List Entry1) (p : Past) (i g s
           (i, a, places a, eq-eqb i i refl, h.old a d, sym e),
         )
       ]
+
+  abbrev pub image-shown : ImageShown
+  image-shown = record {
+    climb = climb;
+    match = match;
+    own = own;
+    file = ap is_folder file-kind;
+    file_kind = file-kind;
+    generation = own.generation ∙ ap (λ (q : Record). q.generation) h.file.rec ∙ h.file.generation;
+    slot_of_way = slot-of-way;
+    claims_free = claims-free;
+    size = let s = same.1 in s.size ∙ ap (λ (q : Record). q.size) h.file.rec;
+    free = free;
+    stamp = stamp;
+    changed_above = changed-above;
+    area = area;
+    value_here = own.values slot h.file.range;
+    same_place = same-place;
+    stays = stays;
+    data_stays = data-stays;
+    table_low = table-low;
+    old_numbers = numbers-before climb.standing;
+    cell_here = cell-here;
+    super_stays = super-stays;
+    here = here;
+    names = names;
+    old_pointers = pointers-before climb.standing;
+    touches = touches;
+    tag_new = tag-new;
+    tag_old = tag-old;
+  }

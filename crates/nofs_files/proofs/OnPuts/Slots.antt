@@ -1,165 +1,69 @@
 -- A Put at any depth: the slots of its way and those beside it, and the numbers that it writes.
-use Rattle.std.proofs.Common.{◌≡◌, ◌≢◌, ℕ, ◌+◌, ◌*◌, ◌/◌, ◌<◌, ◌⊎◌, max, inl, inr, true, false, eqb}
-use Rattle.std.proofs.Common.{leb, ltb, ◌&&◌, not, List, length, Some, IsTrue, refl, sym, ap, ◌∙◌, subst, subst₂}
+use Rattle.std.proofs.Common.{◌≡◌, ◌≢◌, ℕ, ◌+◌, ◌*◌, ◌/◌, ◌<◌, ◌⊎◌, max, inl, inr, true}
+use Rattle.std.proofs.Common.{leb, ltb, ◌&&◌, length, Some, refl, sym, ap, ◌∙◌, subst, subst₂}
 use Rattle.nofs_ptrs.specs.Paths.{slot_limit, Path, InRecord, Under, path_of, is_pointer_slot, IsSlot}
-use Rattle.nofs_disk.specs.Disk.{DiskState, IsDisk, cell_at}
+use Rattle.nofs_disk.specs.Disk.{cell_at}
 use Rattle.nofs_disk.specs.declared.tag.Cell.{Cell}
-use Rattle.nofs_disk.specs.declared.tag.Pointer.{Pointer}
 use Rattle.nofs_inode.specs.declared.inode.Record.{Record}
 use Rattle.nofs_super.specs.declared.superblock.SuperBlock.{SuperBlock}
 use Rattle.nofs_disk.specs.Pointer.{is_null}
 use Rattle.nofs_ptrs.specs.Cells.{pointer_at}
-use Rattle.nofs_disk.specs.Tag.{tag_of}
-use Rattle.nofs_inode.specs.InodeRecords.{is_live}
-use Rattle.nofs_model.specs.Geometry.{Image, is_data_block, inode}
-use Rattle.nofs_model.specs.Slots.{value, tag_for, find, pointer, record_pointer, IsAbove}
-use Rattle.nofs_model.specs.Files.{is_folder}
-use Rattle.nofs_model.specs.Owners.{IsFree}
+use Rattle.nofs_model.specs.Geometry.{Image, inode}
+use Rattle.nofs_model.specs.Slots.{find, pointer, record_pointer, IsAbove}
 use Rattle.nofs_model.specs.declared.image.path.PathAnswer.TheVariants as answer
 use Rattle.nofs_model.proofs.OnSlots.Find.{find-held}
 use Rattle.nofs_ptrs.specs.PathLaws.{path_of-slot_of}
 use Rattle.nofs_model.proofs.OnSlots.Paths.{path_of-content}
 use Rattle.nofs_model.proofs.OnSound.Writes.{supers}
 use Rattle.nofs_history.specs.Machine.{put_given, put_content, files_after}
-use Rattle.nofs_history.specs.World.{World, blocks_for}
-use Rattle.nofs_history.specs.Claims.{next_stamp, slot_above, IsClaim}
+use Rattle.nofs_history.specs.Claims.{next_stamp, slot_above}
 use Rattle.nofs_history.specs.History.{FilesMatch}
-use Rattle.nofs_history.specs.declared.machine.history.Claims.{Claims}
-use Rattle.nofs_history.specs.declared.machine.history.Entry1.{Entry1}
-use Rattle.nofs_history.specs.declared.machine.steps.Step.TheVariants as step
-use Rattle.nofs_crashlaw.specs.Untouched.Frames.{SameNames, OldPointers, Touches}
 use Rattle.nofs_crashlaw.specs.Files.Growth.{Grows, IsPlaced}
 use Rattle.nofs_crashlaw.proofs.OnFiles.Claims.{not-null}
-use Rattle.nofs_crashlaw.proofs.OnUntouched.Matches.{Matched, matched-file}
+use Rattle.nofs_crashlaw.proofs.OnUntouched.Matches.{matched-file}
 use Rattle.nofs_crashlaw.proofs.OnUntouched.Inodes.{one-owner}
 use Rattle.nofs_crashlaw.specs.Maps.Fresh.{Numbered, CellNumbers}
 use Rattle.nofs_crashlaw.specs.Files.Puts.{PutLies, ClaimsPlaced}
 use Rattle.nofs_crashlaw.proofs.OnFiles.Puts.{law-put-files}
-use Rattle.nofs_crashlaw.specs.Numbers.Cells.{OldNumbers, RecordWritten, AsBefore}
+use Rattle.nofs_crashlaw.specs.Numbers.Cells.{RecordWritten, AsBefore}
 use Rattle.nofs_crashlaw.proofs.OnNumbers.Files.{law-put-cells, law-put-record, tag-same}
 use Rattle.nofs_crashlaw.proofs.OnNumbers.Tables.{law-table-numbers}
-use Rattle.nofs_state.specs.Books.Maps.{IsSafe}
-use Rattle.nofs_state.specs.Cores.Invariant.{IsOpen, Past}
-use Rattle.nofs_state.specs.declared.books.maps.Books.{Books}
 use Rattle.nofs_disk.specs.Order.{OneOf}
 use Rattle.nofs_state.proofs.OnWrites.Tables.{table_block, table-records}
-use Rattle.nofs_files.proofs.OnPuts.ClaimParts.{Takes}
 use Rattle.nofs_files.proofs.OnPuts.Ways.{IsNew, IsOld, IsChanged, way_writes, new-or-old, new-above, old-above}
 use Rattle.nofs_files.proofs.OnPuts.Ways.{old-up, old-ends, changed-is, way-changed, up-changed, step-down, one-is}
-use Rattle.nofs_files.proofs.OnPuts.Image.{Climbs}
-use Rattle.nofs_files.proofs.OnPuts.Image as image
+use Rattle.nofs_files.proofs.OnPuts.Image.{ImageShown, after}
 
-module _ (old new : DiskState) (k l : Books) (H : List Entry1) (p : Past) (i g slot at : ℕ) (bytes : List ℕ)
-    (r r' : Record) (m : ℕ) (way : Path)
-    (places : Path → Pointer) (cells : Path → Cell) (c : Claims) (c2 : Cell)
-    (is_old : IsDisk old) (tells : IsTrue old.tells) (safe : IsSafe old k) (o : IsOpen old k H p)
-    (h : Climbs old.now i g slot at bytes r r' m way places cells c c2)
-    (needs : blocks_for p.world.files i slot ≡ m) (claim : IsClaim p.world (step.Put i g slot at bytes) c)
-    (takes : Takes k l c m) where
-  -- what was shown of them before
-  abbrev W : World
-  W = image.W old new k l H p i g slot at bytes r r' m way places cells c c2 is_old tells safe o h needs claim takes
+-- what is shown of the slots on its way and beside it, and of the numbers that it writes
+pub record SlotsShown : Type 1 where
+  pub image : ImageShown
+  pub open image use *
+  pub grows : Grows (next_stamp p.world) old.now (after climb) i way places
+  pub lies : PutLies p.world.files old.now (after climb) i g slot at bytes own.file (next_stamp p.world) places
+  pub not_both : (a : Path) → IsNew m way a → IsOld m way a → ⊥
+  pub placed : ClaimsPlaced c old.now i slot places
+  pub files : FilesMatch (files_after p.world.files (put_given p.world.files i g slot at bytes)) (after climb)
+  pub numbers : (n : ℕ) (cell : Cell) → OneOf (way_writes places cells (table_block i, c2) m way) n cell
+      → CellNumbers (Numbered p.world c) old.now n cell
+
+module _ (shown : ImageShown) where
+  open shown use {climb, old, p, i, g, slot, at, bytes, r', m, way, places, cells, c, c2, h, match, own, file}
+  open shown use {generation, size, value_here, slot_of_way, free, area, changed_above, same_place, stays, data_stays}
+  open shown use {cell_here, super_stays, here, old_numbers, old_pointers, names, tag_new, tag_old, touches}
 
   abbrev X : Image
-  X = image.X old new k l H p i g slot at bytes r r' m way places cells c c2 is_old tells safe o h needs claim takes
+  X = old.now
 
   abbrev Y : Image
-  Y = image.Y old new k l H p i g slot at bytes r r' m way places cells c c2 is_old tells safe o h needs claim takes
-
-  abbrev match : FilesMatch W.files X
-  match = image.match old new k l H p i g slot at bytes r r' m way places cells c c2 is_old tells safe o h needs claim
-      takes
-
-  abbrev own : Matched W.files X i
-  own = image.own old new k l H p i g slot at bytes r r' m way places cells c c2 is_old tells safe o h needs claim
-      takes
-
-  abbrev file : is_folder own.file.kind ≡ false
-  file = image.file old new k l H p i g slot at bytes r r' m way places cells c c2 is_old tells safe o h needs claim
-      takes
-
-  abbrev generation : own.file.generation ≡ g
-  generation = image.generation old new k l H p i g slot at bytes r r' m way places cells c c2 is_old tells safe o h
-      needs claim takes
-
-  abbrev size : own.file.size ≡ r.size
-  size = image.size old new k l H p i g slot at bytes r r' m way places cells c c2 is_old tells safe o h needs claim
-      takes
-
-  abbrev value-here : own.file.values slot ≡ value X i slot
-  value-here = image.value-here old new k l H p i g slot at bytes r r' m way places cells c c2 is_old tells safe o h
-      needs claim takes
-
-  abbrev slot-of-way : (a : Path) → IsAbove a way → IsSlot a
-  slot-of-way = image.slot-of-way old new k l H p i g slot at bytes r r' m way places cells c c2 is_old tells safe o h
-      needs claim takes
-
-  abbrev free : (a : Path) → IsNew m way a → IsFree X (places a).block
-  free = image.free old new k l H p i g slot at bytes r r' m way places cells c c2 is_old tells safe o h needs claim
-      takes
-
-  abbrev area : (a : Path) → IsAbove a way → is_data_block X (places a).block ≡ true
-  area = image.area old new k l H p i g slot at bytes r r' m way places cells c c2 is_old tells safe o h needs claim
-      takes
-
-  abbrev changed-above : (a : Path) → IsChanged m way a → IsAbove a way
-  changed-above = image.changed-above old new k l H p i g slot at bytes r r' m way places cells c c2 is_old tells safe
-      o h needs claim takes
-
-  abbrev same-place : (a b : Path) → IsAbove a way → IsAbove b way → (places a).block ≡ (places b).block → a ≡ b
-  same-place = image.same-place old new k l H p i g slot at bytes r r' m way places cells c c2 is_old tells safe o h
-      needs claim takes
-
-  abbrev data-stays : (b : ℕ) → is_data_block X b ≡ true → ((a : Path) → IsChanged m way a → b ≢ (places a).block)
-      → cell_at Y b ≡ cell_at X b
-  data-stays = image.data-stays old new k l H p i g slot at bytes r r' m way places cells c c2 is_old tells safe o h
-      needs claim takes
-
-  abbrev cell-here : (a : Path) → IsChanged m way a → cell_at Y (places a).block ≡ cells a
-  cell-here = image.cell-here old new k l H p i g slot at bytes r r' m way places cells c c2 is_old tells safe o h
-      needs claim takes
-
-  abbrev super-stays : cell_at Y 0 ≡ cell_at X 0
-  super-stays = image.super-stays old new k l H p i g slot at bytes r r' m way places cells c c2 is_old tells safe o h
-      needs claim takes
-
-  abbrev here : inode Y i ≡ r'
-  here = image.here old new k l H p i g slot at bytes r r' m way places cells c c2 is_old tells safe o h needs claim
-      takes
-
-  abbrev old-numbers : OldNumbers W X
-  old-numbers = image.old-numbers old new k l H p i g slot at bytes r r' m way places cells c c2 is_old tells safe o h
-      needs claim takes
-
-  abbrev old-pointers : (j : ℕ) → is_live (inode X j) ≡ true → OldPointers (next_stamp W) X j
-  old-pointers = image.old-pointers old new k l H p i g slot at bytes r r' m way places cells c c2 is_old tells safe o
-      h needs claim takes
-
-  abbrev names : SameNames X Y i
-  names = image.names old new k l H p i g slot at bytes r r' m way places cells c c2 is_old tells safe o h needs claim
-      takes
-
-  abbrev tag-new : (a : Path) → IsNew m way a
-      → tag_of (cell_at Y (places a).block).tag ≡ Some (tag_for Y i a (places a).stamp)
-  tag-new = image.tag-new old new k l H p i g slot at bytes r r' m way places cells c c2 is_old tells safe o h needs
-      claim takes
-
-  abbrev tag-old : (a : Path) → IsOld m way a
-      → tag_of (cell_at Y (places a).block).tag ≡ tag_of (cell_at X (places a).block).tag
-  tag-old = image.tag-old old new k l H p i g slot at bytes r r' m way places cells c c2 is_old tells safe o h needs
-      claim takes
-
-  abbrev touches : Touches (next_stamp W) (λ j. eqb j i) X Y
-  touches = image.touches old new k l H p i g slot at bytes r r' m way places cells c c2 is_old tells safe o h needs
-      claim takes
+  Y = after climb
 
   pub not-both : (a : Path) → IsNew m way a → IsOld m way a → ⊥
   not-both a n d = h.empty a n (places a) (h.old a d)
 
   -- below a slot that stays, the block that leads to it stays
   leads : (a : Path) (n : ℕ) → IsOld m way (Under a n) → cell_at Y (places a).block ≡ cell_at X (places a).block
-  leads a n d = data-stays (places a).block (area a (old-above m way a (old-up m way a n d))) (λ b q e.
-      let s : a ≡ b = same-place a b (old-above m way a (old-up m way a n d)) (changed-above b q) e in
+  leads a n d = data_stays (places a).block (area a (old-above m way a (old-up m way a n d))) (λ b q e.
+      let s : a ≡ b = same_place a b (old-above m way a (old-up m way a n d)) (changed_above b q) e in
       old-ends m way a n (subst (λ (w : Path). IsChanged m way w) (sym s) q) d)
 
   placed-at : (a : Path) → IsAbove a way → IsNew m way a ⊎ IsOld m way a → IsPlaced Y i places a
@@ -169,7 +73,7 @@ module _ (old new : DiskState) (k l : Books) (H : List Entry1) (p : Past) (i g s
       ∙ ap (λ (q : Record). record_pointer q n) (sym h.file.rec)
       ∙ (find-held X i (InRecord n) (places (InRecord n)) (h.old (InRecord n) d)).same
   placed-at (Under b n) u (inl w) =
-      ap (λ (q : Cell). pointer_at q.payload n) (cell-here b (up-changed m way b n w)) ∙ h.next b n w
+      ap (λ (q : Cell). pointer_at q.payload n) (cell_here b (up-changed m way b n w)) ∙ h.next b n w
   placed-at (Under b n) u (inr d) =
       let up = h.old b (old-up m way b n d) in
       let e : pointer X i (Under b n) ≡ pointer_at (cell_at X (places b).block).payload n = rw (up, pointer) refl in
@@ -201,43 +105,43 @@ module _ (old new : DiskState) (k l : Books) (H : List Entry1) (p : Past) (i g s
           ⊎ ((find X i b ≡ answer.Hole) × (is_null (pointer_at (cell_at Y (places b).block).payload n) ≡ true))
       go q ne (inl w) (inl z) = inr (
         h.hole b q w z,
-        ap (λ (t : Cell). is_null (pointer_at t.payload n)) (cell-here b (up-changed m way b q w))
+        ap (λ (t : Cell). is_null (pointer_at t.payload n)) (cell_here b (up-changed m way b q w))
             ∙ h.beside_new b q n w z ne s.1,
       )
       go q ne (inl w) (inr d) = inl (
         h.old b d,
-        ap (λ (t : Cell). pointer_at t.payload n) (cell-here b (up-changed m way b q w))
+        ap (λ (t : Cell). pointer_at t.payload n) (cell_here b (up-changed m way b q w))
             ∙ h.beside_old b q n w d ne s.1,
       )
       go q ne (inr d) z = inl (h.old b (old-up m way b q d), ap (λ (t : Cell). pointer_at t.payload n) (leads b q d))
 
-  pub grows : Grows (next_stamp W) X Y i way places
+  pub grows : Grows (next_stamp p.world) X Y i way places
   grows = record {
     placed = λ a u. placed-at a u (new-or-old m way a u);
     not_null = λ a u. not-null X (places a) (area a u);
     area = λ a u. subst (λ (q : SuperBlock). (leb (1 + q.inodes / 4) (places a).block && ltb (places a).block q.blocks)
-        ≡ true) (sym (supers X Y super-stays))
+        ≡ true) (sym (supers X Y super_stays))
         (area a u);
     tag = λ a u. elim (new-or-old m way a u) [
-      | inl n ↦ tag-new a n
-      | inr d ↦ tag-old a d ∙ (find-held X i a (places a) (h.old a d)).agrees.tag
+      | inl n ↦ tag_new a n
+      | inr d ↦ tag_old a d ∙ (find-held X i a (places a) (h.old a d)).agrees.tag
           ∙ ap Some (sym (tag-same X Y i a (places a).stamp names.kind names.generation))
     ];
     record_stays = λ n off. ap (λ (q : Record). record_pointer q n) here
         ∙ h.pointers_old n (λ w. off (new-above m way (InRecord n) w))
         ∙ ap (λ (q : Record). record_pointer q n) (sym h.file.rec);
     beside = beside;
-    apart = λ b y s off held. data-stays y.block
+    apart = λ b y s off held. data_stays y.block
         (find-held X i b y held).agrees.area (λ a q e. elim (changed-is m way a q) [
           | inl n ↦ free a n i b y s h.file.agrees held e
           | inr d ↦ (let w = one-owner X i i b a y (places a) held (h.old a d) e in
               let t : b ≡ a = sym (path_of-slot_of b s) ∙ ap path_of w.1
-              ∙ path_of-slot_of a (slot-of-way a (old-above m way a d)) in
+              ∙ path_of-slot_of a (slot_of_way a (old-above m way a d)) in
               off (subst (λ (v : Path). IsAbove v way) (sym t) (old-above m way a d)))
         ]);
   }
 
-  pub lies : PutLies W.files X Y i g slot at bytes own.file (next_stamp W) places
+  pub lies : PutLies p.world.files X Y i g slot at bytes own.file (next_stamp p.world) places
   lies = record {
     files = match;
     is = own.is;
@@ -248,11 +152,11 @@ module _ (old new : DiskState) (k l : Books) (H : List Entry1) (p : Past) (i g s
     names = names;
     size = ap (λ (q : Record). q.size) here
         ∙ h.grew.size ∙ ap (λ (n : ℕ). max n (1024 * slot + at + length bytes)) (sym size);
-    grows = subst (λ (q : Path). Grows (next_stamp W) X Y i q places) (sym h.file.path) grows;
+    grows = subst (λ (q : Path). Grows (next_stamp p.world) X Y i q places) (sym h.file.path) grows;
     content = ap (λ (q : Path). (cell_at Y (places q).block).payload) h.file.path
-        ∙ ap (λ (q : Cell). q.payload) (cell-here way (way-changed m way)) ∙ h.content
-        ∙ (λ j. put_content (sym value-here j) (sym size j) slot at bytes);
-    old = λ j some. old-pointers j (matched-file W.files X j match some).live;
+        ∙ ap (λ (q : Cell). q.payload) (cell_here way (way-changed m way)) ∙ h.content
+        ∙ (λ j. put_content (sym value_here j) (sym size j) slot at bytes);
+    old = λ j some. old_pointers j (matched-file p.world.files X j match some).live;
   }
 
   pub placed : ClaimsPlaced c X i slot places
@@ -266,38 +170,46 @@ module _ (old new : DiskState) (k l : Books) (H : List Entry1) (p : Past) (i g s
         [ inl n ↦ inr (h.claimed a n, λ y held. h.empty a n y held) | inr d ↦ inl (h.old a d) ];
   }
 
-  pub files : FilesMatch (files_after W.files (put_given W.files i g slot at bytes)) Y
-  files = law-put-files W.files X Y i g slot at bytes own.file (next_stamp W) places lies
-
-  -- a slot of the way is the last, or has the next below it
-  pub below : (a : Path) → IsAbove a way → (a ≡ way) ⊎ ((n : ℕ) × IsAbove (Under a n) way)
-  below a u = step-down a way u
-
   to-slot : (a : Path) → IsAbove a way → IsAbove a (path_of slot)
   to-slot a u = subst (λ (q : Path). IsAbove a q) (sym h.file.path) u
 
-  numbers-at : (a : Path) → IsAbove a way → CellNumbers (Numbered W c) X (places a).block (cell_at Y (places a).block)
-  numbers-at a u = elim (below a u) [
-    | inl e ↦ subst (λ (q : Path). CellNumbers (Numbered W c) X (places q).block (cell_at Y (places q).block))
+  numbers-at : (a : Path) → IsAbove a way
+      → CellNumbers (Numbered p.world c) X (places a).block (cell_at Y (places a).block)
+  numbers-at a u = elim (step-down a way u) [
+    | inl e ↦ subst (λ (q : Path). CellNumbers (Numbered p.world c) X (places q).block (cell_at Y (places q).block))
         (h.file.path ∙ sym e)
-        (law-put-cells W X Y i g slot at bytes own.file (next_stamp W) places c old-numbers lies placed).0
-    | inr (n, v) ↦ (law-put-cells W X Y i g slot at bytes own.file (next_stamp W) places c old-numbers lies placed).1 a
+        (law-put-cells p.world X Y i g slot at bytes own.file (next_stamp p.world) places c old_numbers lies placed).0
+    | inr (n, v) ↦
+        (law-put-cells p.world X Y i g slot at bytes own.file (next_stamp p.world) places c old_numbers lies placed).1 a
         (to-slot a u)
-        (let s = slot-of-way (Under a n) v in s.0)
+        (let s = slot_of_way (Under a n) v in s.0)
   ]
 
-  table-numbers : CellNumbers (Numbered W c) X (table_block i) c2
-  table-numbers = law-table-numbers W c X (table_block i) c2 old-numbers h.file.tag_table
+  table-numbers : CellNumbers (Numbered p.world c) X (table_block i) c2
+  table-numbers = law-table-numbers p.world c X (table_block i) c2 old_numbers h.file.tag_table
       (λ j e s. elim (table-records X i r' c2 h.file.has j e s) [
-        | inl new ↦ subst (λ (q : Record). RecordWritten W c X j q) (sym (new.1 ∙ sym here ∙ ap (inode Y) (sym new.0)))
-            ((law-put-record W X Y i g slot at bytes own.file (next_stamp W) places c old-numbers lies placed).1 j)
+        | inl new ↦ subst (λ (q : Record). RecordWritten p.world c X j q)
+            (sym (new.1 ∙ sym here ∙ ap (inode Y) (sym new.0)))
+            ((law-put-record p.world X Y i g slot at bytes own.file
+            (next_stamp p.world) places c old_numbers lies placed).1 j)
         | inr was ↦ AsBefore was
       ])
 
   pub numbers : (n : ℕ) (cell : Cell) → OneOf (way_writes places cells (table_block i, c2) m way) n cell
-      → CellNumbers (Numbered W c) X n cell
+      → CellNumbers (Numbered p.world c) X n cell
   numbers n cell one = elim (one-is places cells (table_block i, c2) m way n cell one) [
-    | inl e ↦ subst₂ (λ (q : ℕ) (d : Cell). CellNumbers (Numbered W c) X q d) (sym e.0) (sym e.1) table-numbers
-    | inr (a, q, eb, ec) ↦ subst₂ (λ (b : ℕ) (d : Cell). CellNumbers (Numbered W c) X b d) (sym eb)
-        (cell-here a q ∙ sym ec) (numbers-at a (changed-above a q))
+    | inl e ↦ subst₂ (λ (q : ℕ) (d : Cell). CellNumbers (Numbered p.world c) X q d) (sym e.0) (sym e.1) table-numbers
+    | inr (a, q, eb, ec) ↦ subst₂ (λ (b : ℕ) (d : Cell). CellNumbers (Numbered p.world c) X b d) (sym eb)
+        (cell_here a q ∙ sym ec) (numbers-at a (changed_above a q))
   ]
+
+  abbrev pub slots-shown : SlotsShown
+  slots-shown = record {
+    image = shown;
+    grows = grows;
+    lies = lies;
+    files = law-put-files p.world.files X Y i g slot at bytes own.file (next_stamp p.world) places lies;
+    not_both = not-both;
+    placed = placed;
+    numbers = numbers;
+  }

@@ -44,7 +44,7 @@ use Rattle.nofs_files.specs.Resizes.{kept_slots, maybe, resize_answer}
 use Rattle.nofs_files.specs.declared.resizes.cuts.NewCell.{NewCell}
 use Rattle.nofs_files.specs.declared.resizes.cuts.Edge.{Edge}
 use Rattle.nofs_files.proofs.OnResizes.Writes.{Cuts}
-use Rattle.nofs_files.proofs.OnResizes.Image.{cut-once}
+use Rattle.nofs_files.proofs.OnResizes.Image.{Resizing, cut-once}
 use Rattle.nofs_files.proofs.OnResizes.Counts.{cut-exact}
 use Rattle.nofs_files.proofs.OnResizes.Maps.{safe-freed}
 use Rattle.nofs_files.proofs.OnResizes.Proper.{claim}
@@ -97,11 +97,24 @@ module _ (d new : DiskState) (k : Books) (i g size : ℕ) (r : Record) (tail : O
       agrees : agreed (files_in d.now) i ≡ true
       agrees = current-agreed d.now i g (ready.current tells (are-agreed d k H p ready.safe o))
 
+  abbrev resizing : (H : List Entry1) (p : Past) → IsTrue d.tells → IsOpen d k H p → Resizing
+  resizing H p tells o = record {
+    standing = record { old = d; k = k; H = H; p = p; is_old = is_d; tells = tells; o = o };
+    i = i;
+    g = g;
+    size = size;
+    r = r;
+    tail = tail;
+    edge = edge;
+    c2 = c2;
+    h = cuts H p tells o;
+  }
+
   owes : IsTrue d.tells → (H : List Entry1) (p : Past) → IsOpen d k H p
       → IsRow p.world.files (step.Resize i g size) no_claims (cut_writes tail edge (table_block i) c2)
-  owes tells H p o = let c = cuts H p tells o in record {
-    once = cut-once d k H p i g size r tail edge c2 is_d tells o c;
-    exact = cut-exact d k H p i g size r tail edge c2 is_d tells o c;
+  owes tells H p o = record {
+    once = cut-once (resizing H p tells o);
+    exact = cut-exact (resizing H p tells o);
   }
 
   pub resized-goes : (l m : Books) (result : Result (Unit {0}) Refusal)
@@ -122,8 +135,7 @@ module _ (d new : DiskState) (k : Books) (i g size : ℕ) (r : Record) (tail : O
       ready.map.in_area) refl writes.adds.disk writes.adds.past writes.later
       (WritesAlone refl (writes-cells k (step.Resize i g size) no_claims writes
       (cut-count tail edge (table_block i) c2) owes)) ready.safe
-      (λ tells H p o. resize-done d k H p i g size r tail edge c2 is_d tells o
-      (cuts H p tells o) new l freed ready.map a writes (ready.rows tells H p o)))
+      (λ tells H p o. resize-done (resizing H p tells o) new l freed ready.map a writes (ready.rows tells H p o)))
   resized-goes l m result (NotStored f writes same e) ok err = subst₂
       (λ (z : Books) (w : Result (Unit {0}) Refusal). Goes d k new z (step.Resize i g size) no_claims (resize_answer w))
       (sym (err refusal.WriteFault e ∙ same)) (sym e)
@@ -132,13 +144,13 @@ module _ (d new : DiskState) (k : Books) (i g size : ℕ) (r : Record) (tail : O
       writes.later (WritesAlone refl (writes-cells k (step.Resize i g size) no_claims writes
       (cut-count tail edge (table_block i) c2) owes)) ready.safe
       (safe-writes d new k (cut_writes tail edge (table_block i) c2) (Err f) true writes apart ready.safe)
-      (λ tells H p o. resize-numbered d k H p i g size r tail edge c2 is_d tells o (cuts H p tells o) new writes.adds)
+      (λ tells H p o. resize-numbered (resizing H p tells o) new writes.adds)
       (λ tells caller H p o. (
-        resize-proper d k H p i g size r tail edge c2 is_d tells o (cuts H p tells o) new
+        resize-proper (resizing H p tells o) new
             (entry caller d new (step.Resize i g size) no_claims (reply.Refused refusal.WriteFault)) refl writes.adds,
         ready.rows tells H p o (stopped_world p.world),
         refl,
-        claim d k H p i g size r tail edge c2 is_d tells o (cuts H p tells o),
+        claim (resizing H p tells o),
       )))
 
 -- a map of what is cut stays over reads

@@ -1,13 +1,11 @@
 -- How many cells a Resize writes: as many as the machine's files say.
-use Rattle.std.proofs.Common.{◌≡◌, ◌≢◌, ℕ, ◌+◌, ◌-◌, ◌*◌, ◌/◌, ◌%◌, ◌<◌, ◌≤◌, min, inl, inr, true, false, cond, eqb}
+use Rattle.std.proofs.Common.{◌≡◌, ◌≢◌, ℕ, ◌+◌, ◌-◌, ◌*◌, ◌/◌, ◌%◌, inl, inr, true, cond, eqb}
 use Rattle.std.proofs.Common.{leb}
-use Rattle.std.proofs.Common.{eq-eqb, ne_eqb, ◌&&◌, not, List, [], ◌∷◌, length, Option, Some, None, IsTrue, refl, sym}
-use Rattle.std.proofs.Common.{ap, ◌∙◌, subst, arith}
+use Rattle.std.proofs.Common.{eq-eqb, ne_eqb, ◌&&◌, not, List, [], ◌∷◌, length, Option, Some, None, refl, sym}
+use Rattle.std.proofs.Common.{ap, ◌∙◌, arith}
 use Rattle.std.proofs.lemmas.Bool.{cases_eq, cases_lt, le-leb}
-use Rattle.nofs_ptrs.specs.Paths.{slot_limit, Path, InRecord, Under, path_of, IsSlot, is_pointer_slot}
-use Rattle.nofs_disk.specs.Disk.{DiskState, IsDisk}
+use Rattle.nofs_ptrs.specs.Paths.{Path, InRecord, Under, path_of, IsSlot, is_pointer_slot}
 use Rattle.nofs_disk.specs.declared.tag.Cell.{Cell}
-use Rattle.nofs_inode.specs.declared.inode.Record.{Record}
 use Rattle.nofs_model.specs.Geometry.{Image}
 use Rattle.nofs_model.specs.Slots.{find, value, value_in}
 use Rattle.nofs_model.specs.Files.{node_in, Files}
@@ -15,21 +13,18 @@ use Rattle.nofs_model.specs.declared.image.path.PathAnswer.{PathAnswer}
 use Rattle.nofs_model.specs.declared.image.path.PathAnswer.TheVariants as answer
 use Rattle.nofs_model.specs.declared.image.value.Value.{Value}
 use Rattle.nofs_history.specs.Meta.{is_bytes}
-use Rattle.nofs_history.specs.Machine.{node_of, size_of, slots_in, value_of}
+use Rattle.nofs_history.specs.Machine.{node_of, size_of, value_of}
 use Rattle.nofs_history.specs.Claims.{is_present, no_claims}
-use Rattle.nofs_history.specs.Writes.{cells_written, edge_cells, tail_cells}
-use Rattle.nofs_history.specs.declared.machine.history.Entry1.{Entry1}
+use Rattle.nofs_history.specs.Writes.{cells_written}
 use Rattle.nofs_history.specs.declared.machine.steps.Step.TheVariants as step
 use Rattle.nofs_crashlaw.proofs.OnFiles.Given.{size-of, value-of}
-use Rattle.nofs_state.specs.Cores.Invariant.{IsOpen, Past}
-use Rattle.nofs_state.specs.declared.books.maps.Books.{Books}
 use Rattle.nofs_state.proofs.OnWrites.Tables.{table_block}
 use Rattle.nofs_files.specs.Resizes.{IsCutBlock, IsTailOf, cut_writes, kept_slots, last_child, maybe}
 use Rattle.nofs_files.specs.declared.resizes.cuts.NewCell.{NewCell}
 use Rattle.nofs_files.specs.declared.resizes.cuts.Edge.{Edge}
 use Rattle.nofs_files.proofs.OnResizes.Slots.{child-low, lt-leb}
-use Rattle.nofs_files.proofs.OnResizes.Writes.{Cuts, most, tail-low}
-use Rattle.nofs_files.proofs.OnResizes.Image.{old-size, own, same}
+use Rattle.nofs_files.proofs.OnResizes.Writes.{most, tail-low}
+use Rattle.nofs_files.proofs.OnResizes.Image.{Resizing, old-size, own, same}
 
 -- a cell that may come counts 1 where it does
 abbrev cells_of : Option NewCell → ℕ
@@ -69,10 +64,9 @@ tail_by old size v = cond (leb old size && (not (eqb (old % 1024) 0) && is_bytes
 abbrev edge_by : ℕ → ℕ → ℕ → ℕ → ℕ
 edge_by m near below above = cond (leb m 8) 0 (cond (leb m 72) near (below + above))
 
-module _ (old : DiskState) (k : Books) (H : List Entry1) (p : Past) (i g size : ℕ) (r : Record) (tail : Option NewCell)
-    (edge : Edge) (c2 : Cell)
-    (is_old : IsDisk old) (tells : IsTrue old.tells) (o : IsOpen old k H p)
-    (h : Cuts old.now i g size r tail edge c2) where
+module _ (resizing : Resizing) where
+  open resizing use {old, p, i, g, size, r, tail, edge, c2, h}
+
   abbrev F : Files
   F = p.world.files
 
@@ -83,17 +77,17 @@ module _ (old : DiskState) (k : Books) (H : List Entry1) (p : Past) (i g size : 
   m = kept_slots r.size size
 
   file-size : size_of F i ≡ r.size
-  file-size = let w = own old k H p i g size r tail edge c2 is_old tells o h in
-      size-of F i w.file w.is ∙ old-size old k H p i g size r tail edge c2 is_old tells o h
+  file-size = let w = own resizing in
+      size-of F i w.file w.is ∙ old-size resizing
 
   node-is : (a : Path) → IsSlot a → is_pointer_slot a ≡ true → node_of F i a ≡ node_in (find X i a)
   node-is a slot points =
-      let w = own old k H p i g size r tail edge c2 is_old tells o h in let e = w.is in
-      rw (e, node_of) ((same old k H p i g size r tail edge c2 is_old tells o h).1.nodes a slot points)
+      let w = own resizing in let e = w.is in
+      rw (e, node_of) ((same resizing).1.nodes a slot points)
 
   value-is : r.size % 1024 ≢ 0 → value_of F i (r.size / 1024) ≡ value X i (r.size / 1024)
   value-is uneven =
-      let w = own old k H p i g size r tail edge c2 is_old tells o h in
+      let w = own resizing in
       value-of F i w.file w.is (r.size / 1024)
       ∙ w.values (r.size / 1024) (tail-low X i g size r tail edge c2 h uneven)
 

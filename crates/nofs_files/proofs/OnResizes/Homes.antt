@@ -1,16 +1,13 @@
 -- The homes after a Resize: the blocks of what is cut have none, and all others keep theirs.
 use Rattle.std.proofs.Common.{◌≡◌, ◌≢◌, ℕ, ◌+◌, ◌-◌, ◌/◌, ◌^◌, ◌<◌, ◌≤◌, ◌⊎◌, inl, inr, Bool, true, false, cond, leb}
 use Rattle.std.proofs.Common.{ltb, leb-true, ltb-true, lt-ltb, ◌&&◌}
-use Rattle.std.proofs.Common.{◌||◌, not, List, Option, Some, None, is_some, IsTrue, refl, sym, ap, ◌∙◌, subst, arith}
+use Rattle.std.proofs.Common.{◌||◌, not, List, Option, Some, None, is_some, refl, sym, ap, ◌∙◌, subst, arith}
 use Rattle.std.proofs.lemmas.Bool.{cases_eq, cases_lt, le-leb, and_parts}
 use Rattle.std.proofs.lemmas.Bool.Decides.{nat_tests}
 use Rattle.std.proofs.lemmas.List.{get_or_past}
 use Rattle.nofs_ptrs.specs.Paths.{slot_limit, Path, path_of, is_pointer_slot, is_slot, IsSlot}
 use Rattle.nofs_bits.specs.Bits.{is_set}
-use Rattle.nofs_disk.specs.Disk.{DiskState, IsDisk}
-use Rattle.nofs_disk.specs.declared.tag.Cell.{Cell}
 use Rattle.nofs_disk.specs.declared.tag.Pointer.{Pointer}
-use Rattle.nofs_inode.specs.declared.inode.Record.{Record}
 use Rattle.nofs_model.specs.Geometry.{Image}
 use Rattle.nofs_model.specs.Slots.{find, value_in}
 use Rattle.nofs_model.specs.Files.{node_in, FileState, Files, Absent}
@@ -25,22 +22,16 @@ use Rattle.nofs_history.specs.Machine.{resize_given, files_after}
 use Rattle.nofs_history.specs.World.{is_fixed}
 use Rattle.nofs_history.specs.Claims.{no_claims, next_stamp, has_block, homes_after, is_present}
 use Rattle.nofs_history.specs.History.{FilesMatch}
-use Rattle.nofs_history.specs.declared.machine.history.Entry1.{Entry1}
 use Rattle.nofs_history.specs.declared.machine.steps.Step.TheVariants as step
 use Rattle.nofs_crashlaw.specs.Files.Resizes.{is_cut}
-use Rattle.nofs_state.specs.Cores.Invariant.{IsOpen, Past}
-use Rattle.nofs_state.specs.declared.books.maps.Books.{Books}
 use Rattle.nofs_crashlaw.proofs.OnFiles.Resizes.{cut-slot, found, resize-made, resize-new, resize-gives}
 use Rattle.nofs_crashlaw.proofs.OnFiles.Resizes.{law-resize-files}
 use Rattle.nofs_crashlaw.proofs.OnUntouched.Agreement.{file-in}
 use Rattle.nofs_state.proofs.OnCores.Replies.{home-has}
 use Rattle.nofs_files.specs.Resizes.{IsCutMap, first_cut, kept_slots}
-use Rattle.nofs_files.specs.declared.resizes.cuts.NewCell.{NewCell}
-use Rattle.nofs_files.specs.declared.resizes.cuts.Edge.{Edge}
 use Rattle.nofs_files.proofs.OnPuts.Unchanged.{file-stays}
 use Rattle.nofs_files.proofs.OnResizes.Slots.{cut-from, from-cut, lt-leb}
-use Rattle.nofs_files.proofs.OnResizes.Writes.{Cuts}
-use Rattle.nofs_files.proofs.OnResizes.Image.{Y, match, own, file, generation, same-cut}
+use Rattle.nofs_files.proofs.OnResizes.Image.{Resizing, Y, match, own, file, generation, same-cut}
 use Rattle.nofs_files.proofs.OnResizes.Pointers.{lies}
 
 -- whether a slot has its block, by the file
@@ -84,11 +75,10 @@ first-high m = go (leb m 8) (leb m 72)
     go false true = omega arith
     go false false = omega arith
 
-module _ (old : DiskState) (k : Books) (H : List Entry1) (p : Past) (i g size : ℕ) (r : Record) (tail : Option NewCell)
-    (edge : Edge) (c2 : Cell)
-    (is_old : IsDisk old) (tells : IsTrue old.tells) (o : IsOpen old k H p) (h : Cuts old.now i g size r tail edge c2)
-    (freed : List Bool)
-    (map : IsCutMap old k.at i (kept_slots r.size size) freed) where
+module _ (resizing : Resizing) (freed : List Bool)
+    (map : IsCutMap resizing.old resizing.k.at resizing.i (kept_slots resizing.r.size resizing.size) freed) where
+  open resizing use {old, k, p, i, g, size, r, tells, o, h}
+
   abbrev F : Files
   F = p.world.files
 
@@ -96,34 +86,34 @@ module _ (old : DiskState) (k : Books) (H : List Entry1) (p : Past) (i g size : 
   G = files_after p.world.files (resize_given p.world.files i g size)
 
   abbrev Z : Image
-  Z = Y old k H p i g size r tail edge c2 is_old tells o h
+  Z = Y resizing
 
   f : FileState
-  f = (own old k H p i g size r tail edge c2 is_old tells o h).file
+  f = (own resizing).file
 
-  pub files : FilesMatch G (Y old k H p i g size r tail edge c2 is_old tells o h)
+  pub files : FilesMatch G (Y resizing)
   files = law-resize-files F old.now Z i g size
-      (own old k H p i g size r tail edge c2 is_old tells o h).file (next_stamp p.world)
-      (lies old k H p i g size r tail edge c2 is_old tells o h)
+      (own resizing).file (next_stamp p.world)
+      (lies resizing)
 
-  pub new : G i ≡ Some (resize-made F i g size (own old k H p i g size r tail edge c2 is_old tells o h).file
-      (own old k H p i g size r tail edge c2 is_old tells o h).is
-      (generation old k H p i g size r tail edge c2 is_old tells o h)
-      (file old k H p i g size r tail edge c2 is_old tells o h))
-  new = resize-new F i g size (own old k H p i g size r tail edge c2 is_old tells o h).file
-      (own old k H p i g size r tail edge c2 is_old tells o h).is
-      (generation old k H p i g size r tail edge c2 is_old tells o h)
-      (file old k H p i g size r tail edge c2 is_old tells o h)
+  pub new : G i ≡ Some (resize-made F i g size (own resizing).file
+      (own resizing).is
+      (generation resizing)
+      (file resizing))
+  new = resize-new F i g size (own resizing).file
+      (own resizing).is
+      (generation resizing)
+      (file resizing)
 
   -- what stands in a slot of the file after the step
   found-now : (a : Path) → IsSlot a → (is_cut (kept_slots r.size size) a ≡ true → find Z i a ≡ answer.Hole) ×
       (is_cut (kept_slots r.size size) a ≡ false → find Z i a ≡ find old.now i a)
   found-now a s = let b = found F old.now Z i g size
-      (own old k H p i g size r tail edge c2 is_old tells o h).file (next_stamp p.world)
-      (lies old k H p i g size r tail edge c2 is_old tells o h) a s in (
-        λ t. b.0 (same-cut old k H p i g size r tail edge c2 is_old tells o h a ∙ t),
+      (own resizing).file (next_stamp p.world)
+      (lies resizing) a s in (
+        λ t. b.0 (same-cut resizing a ∙ t),
         λ t. b.1
-            (same-cut old k H p i g size r tail edge c2 is_old tells o h a ∙ t),
+            (same-cut resizing a ∙ t),
       )
 
   -- a slot of the file has its block exactly where it isn't cut
@@ -138,10 +128,10 @@ module _ (old : DiskState) (k : Books) (H : List Entry1) (p : Past) (i g size : 
       slot = (path_of-number q s).0
 
       made : FileState
-      made = resize-made F i g size (own old k H p i g size r tail edge c2 is_old tells o h).file
-          (own old k H p i g size r tail edge c2 is_old tells o h).is
-          (generation old k H p i g size r tail edge c2 is_old tells o h)
-          (file old k H p i g size r tail edge c2 is_old tells o h)
+      made = resize-made F i g size (own resizing).file
+          (own resizing).is
+          (generation resizing)
+          (file resizing)
 
       by-cut : (P : PathAnswer → Bool) → P answer.Hole ≡ false → P (answer.Holds x) ≡ true → (t : Bool)
           → is_cut (kept_slots r.size size) (path_of q) ≡ t
@@ -182,10 +172,10 @@ module _ (old : DiskState) (k : Books) (H : List Entry1) (p : Past) (i g size : 
   has-other : (home : Home) → home.inode ≢ i → has_block G home ≡ has_block F home
   has-other home ne =
       ap (λ (w : Option FileState). block_in w home.slot) (file-stays F (resize_given F i g size) home.inode
-      ((resize-gives F i g size (own old k H p i g size r tail edge c2 is_old tells o h).file
-      (own old k H p i g size r tail edge c2 is_old tells o h).is
-      (generation old k H p i g size r tail edge c2 is_old tells o h)
-      (file old k H p i g size r tail edge c2 is_old tells o h)).elsewhere home.inode ne))
+      ((resize-gives F i g size (own resizing).file
+      (own resizing).is
+      (generation resizing)
+      (file resizing)).elsewhere home.inode ne))
 
   -- a block that is freed is that of a slot that is cut
   freed-slot : (q : ℕ) → is_set freed q ≡ true → (n : ℕ) × (x : Pointer) × (is_slot n ≡ true)
@@ -282,7 +272,7 @@ module _ (old : DiskState) (k : Books) (H : List Entry1) (p : Past) (i g size : 
     where
       at : (home : Home) → p.world.homes q ≡ Some home → (home.inode ≡ i) ⊎ (home.inode ≢ i) → has_block G home ≡ true
       at home e (inr other) = has-other home other
-          ∙ home-has p.world old.now (match old k H p i g size r tail edge c2 is_old tells o h) o.homes o.homes_past
+          ∙ home-has p.world old.now (match resizing) o.homes o.homes_past
           q home e
       at home e (inl here) =
           let w = owner-holds old.now q home.inode home.slot (home-owner q home e) in

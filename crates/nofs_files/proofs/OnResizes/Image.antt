@@ -2,10 +2,10 @@
 use Rattle.std.proofs.Common.{◌≡◌, ◌≢◌, ℕ, ◌+◌, ◌-◌, ◌/◌, ◌%◌, ◌<◌, ◌≤◌, ◌⊎◌, min, inl, inr, Bool, true, false, cond}
 use Rattle.std.proofs.Common.{eqb, eq-eqb, ne_eqb, leb, ltb}
 use Rattle.std.proofs.Common.{leb-true, ltb-true, ◌&&◌, not, List, ◌++◌, [], ◌∷◌, length, take, Option, Some, None}
-use Rattle.std.proofs.Common.{IsTrue, refl, sym, ap, ◌∙◌, subst, arith}
+use Rattle.std.proofs.Common.{refl, sym, ap, ◌∙◌, subst, arith}
 use Rattle.std.proofs.lemmas.Bool.{cases_eq, cases_lt, le-leb}
 use Rattle.nofs_ptrs.specs.Paths.{slot_limit, Path, IsSlot, InRecord, path_of}
-use Rattle.nofs_disk.specs.Disk.{DiskState, IsDisk, cell_at}
+use Rattle.nofs_disk.specs.Disk.{cell_at}
 use Rattle.nofs_super.specs.Geometry.{IsGeometry}
 use Rattle.nofs_inode.specs.declared.inode.FileKind.TheVariants.{File}
 use Rattle.nofs_disk.specs.declared.tag.Cell.{Cell}
@@ -16,28 +16,23 @@ use Rattle.nofs_inode.specs.InodeRecords.{is_live}
 use Rattle.nofs_model.specs.Geometry.{Image, super_at, is_data_block, inode}
 use Rattle.nofs_model.specs.Files.{file_from, Files, is_folder}
 use Rattle.nofs_model.specs.Slots.{find}
-use Rattle.nofs_model.specs.Sound.{IsBelow}
 use Rattle.nofs_model.specs.declared.image.path.PathAnswer.TheVariants as answer
 use Rattle.nofs_model.specs.declared.image.value.Value.{Value}
 use Rattle.nofs_model.specs.declared.image.value.Value.TheVariants.{Hole, Bytes}
 use Rattle.nofs_model.proofs.OnSlots.Find.{and-both, find-held}
-use Rattle.nofs_model.proofs.OnSound.Writes.{mountable-law}
 use Rattle.nofs_history.specs.Meta.{is_bytes}
 use Rattle.nofs_history.specs.Machine.{bytes_in, resize_slot, size_of, slots_in, trimmed, value_of, zero_bytes}
 use Rattle.nofs_history.specs.World.{World}
 use Rattle.nofs_history.specs.Claims.{next_stamp}
 use Rattle.nofs_history.specs.History.{FilesMatch, SameFile}
-use Rattle.nofs_history.specs.declared.machine.history.Entry1.{Entry1}
 use Rattle.nofs_crashlaw.specs.Untouched.Frames.{SameNames, OldPointers, Touches}
 use Rattle.nofs_crashlaw.proofs.OnUntouched.Matches.{Matched, matched-agreed}
-use Rattle.nofs_crashlaw.proofs.OnMaps.Fresh.{law-old}
 use Rattle.nofs_crashlaw.specs.Files.Resizes.{is_cut, cut_at}
 use Rattle.nofs_crashlaw.specs.Numbers.Cells.{OldNumbers}
-use Rattle.nofs_state.specs.Cores.Invariant.{IsOpen, Past}
-use Rattle.nofs_state.specs.declared.books.maps.Books.{Books}
 use Rattle.nofs_disk.specs.Order.{IsApart, WritesOnce, image_after}
 use Rattle.nofs_crashlaw.proofs.OnUntouched.Agreement.{file-in}
 use Rattle.nofs_state.proofs.OnCores.Replies.{open-files}
+use Rattle.nofs_files.proofs.OnReads.Standing.{Standing, geometry-of, numbers-before, pointers-before}
 use Rattle.nofs_state.proofs.OnBooks.Machine.{agreed-live}
 use Rattle.nofs_state.proofs.OnWrites.Tables.{table_block, record-here, record-other}
 use Rattle.nofs_files.specs.Resizes.{kept_slots, cut_record, cut_writes, maybe}
@@ -109,10 +104,22 @@ slot-none old size k content before why =
           rw e (last (leb old size) (not (eqb (old % 1024) 0)))
     ]
 
-module _ (old : DiskState) (k : Books) (H : List Entry1) (p : Past) (i g size : ℕ) (r : Record) (tail : Option NewCell)
-    (edge : Edge) (c2 : Cell)
-    (is_old : IsDisk old) (tells : IsTrue old.tells) (o : IsOpen old k H p)
-    (h : Cuts old.now i g size r tail edge c2) where
+-- a Resize on its way: what it was asked, what it writes, and the mount that it was asked of
+pub record Resizing : Type 1 where
+  pub standing : Standing
+  pub open standing use *
+  pub i : ℕ
+  pub g : ℕ
+  pub size : ℕ
+  pub r : Record
+  pub tail : Option NewCell
+  pub edge : Edge
+  pub c2 : Cell
+  pub h : Cuts old.now i g size r tail edge c2
+
+module _ (resizing : Resizing) where
+  open resizing use {old, k, H, p, i, g, size, r, tail, edge, c2, o, h}
+
   abbrev pub W : World
   W = p.world
 
@@ -135,7 +142,7 @@ module _ (old : DiskState) (k : Books) (H : List Entry1) (p : Past) (i g size : 
   At = IsAt r.size (kept_slots r.size size) tail edge
 
   pub geometry : IsGeometry (length X) (super_at X).blocks (super_at X).inodes
-  geometry = let q = (mountable-law X).1 o.mountable in q.fits
+  geometry = geometry-of resizing.standing
 
   pub whole : (super_at X).blocks ≤ length X
   whole = geometry.fits
@@ -260,15 +267,11 @@ module _ (old : DiskState) (k : Books) (H : List Entry1) (p : Past) (i g size : 
   record-old : (j : ℕ) → j ≢ i → inode Y j ≡ inode X j
   record-old j ne = record-other X Y i r' c2 h.has geometry.multiple super-stays table-here low-stays j ne
 
-  all-below : IsBelow (next_stamp W) X
-  all-below n lt = o.stage.ready.fresh n (cell_at X n) lt
-      (is_old.has_now n tells (let w = is_old.whole tells in let q = whole in omega (arith, lt, w, q)))
-
   pub old-numbers : OldNumbers W X
-  old-numbers = record { positive = o.stage.ready.positive; mountable = o.mountable; below = all-below }
+  old-numbers = numbers-before resizing.standing
 
   pub old-pointers : (j : ℕ) → is_live (inode X j) ≡ true → OldPointers (next_stamp W) X j
-  old-pointers j live = law-old (next_stamp W) X j o.stage.ready.positive o.mountable all-below live
+  old-pointers = pointers-before resizing.standing
 
   pub names : SameNames X Y i
   names = record {

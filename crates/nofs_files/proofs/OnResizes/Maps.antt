@@ -110,7 +110,7 @@ module _ (k l : Books) (W V : World) (s : Step) (freed : List Bool) (says : Says
   known-kept : (q : ℕ) → is_set freed q ≡ false → knows_block l q ≡ knows_block k q
   known-kept q t = l-block q ∙ (λ z. knows_block k q || t z) ∙ or-false (knows_block k q)
 
-  pub cut-learns : Learns W s true V
+  cut-learns : Learns W s true V
   cut-learns = record {
     inodes_stay = λ j kn. knows_inodes j ∙ l-inode j ∙ sym (says.known_inodes j) ∙ kn;
     blocks_stay = λ q kn. knows_blocks q
@@ -127,7 +127,7 @@ module _ (k l : Books) (W V : World) (s : Step) (freed : List Bool) (says : Says
         (λ t. inl (says.known_blocks q ∙ sym (knows_blocks q ∙ known-kept q t) ∙ kn));
   }
 
-  pub cut-says : Says l V
+  cut-says : Says l V
   cut-says = record {
     version = numbers.0 ∙ says.version ∙ sym (ap (λ (q : SuperBlock). q.version) l-at);
     blocks = numbers.1 ∙ says.blocks ∙ sym (ap (λ (q : SuperBlock). q.blocks) l-at);
@@ -151,3 +151,6 @@ module _ (k l : Books) (W V : World) (s : Step) (freed : List Bool) (says : Says
     agreement = λ j v t. used j
         ∙ says.agreement j v (ap (λ (b : Books). known_agreement b.agreement j) (sym a.same) ∙ t);
   }
+
+  pub cut-known : Learns W s true V × Says l V
+  cut-known = (cut-learns, cut-says)

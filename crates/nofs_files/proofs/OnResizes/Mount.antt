@@ -1,11 +1,10 @@
 -- A Resize that is done, or that failed at a write: the mount stands.
 use Rattle.std.proofs.Common.{◌≡◌, ℕ, ◌+◌, Bool, true, false, eqb, eqb-true, eq-eqb, List, [], ◌∷◌, ◌++◌}
-use Rattle.std.proofs.Common.{Option, Some, None, is_some, IsTrue, Ok, refl, sym, ap, ◌∙◌, subst, arith}
-use Rattle.nofs_disk.specs.Disk.{DiskState, IsDisk, cell_at}
+use Rattle.std.proofs.Common.{Some, None, is_some, Ok, refl, sym, ap, ◌∙◌, subst, arith}
+use Rattle.nofs_disk.specs.Disk.{DiskState, cell_at}
 use Rattle.nofs_disk.specs.Adds.{Adds}
 use Rattle.nofs_disk.specs.declared.tag.Cell.{Cell}
-use Rattle.nofs_inode.specs.declared.inode.Record.{Record}
-use Rattle.nofs_model.specs.Geometry.{Image, inode}
+use Rattle.nofs_model.specs.Geometry.{Image}
 use Rattle.nofs_model.specs.Files.{FileState, Files}
 use Rattle.nofs_model.specs.declared.image.path.PathAnswer.TheVariants as answer
 use Rattle.nofs_crashlaw.specs.Images.Proper.{Proper}
@@ -29,7 +28,6 @@ use Rattle.nofs_crashlaw.specs.Maps.Fresh.{Numbered, CellNumbers}
 use Rattle.nofs_crashlaw.proofs.OnMaps.Homes.{uses-inode}
 use Rattle.nofs_crashlaw.specs.Histories.Stage.{AddsProper}
 use Rattle.nofs_state.specs.Books.Maps.{Says}
-use Rattle.nofs_state.specs.Cores.Invariant.{IsOpen, Past}
 use Rattle.nofs_state.specs.Inodes.Blocks.{BlocksFreed}
 use Rattle.nofs_state.specs.declared.books.maps.Books.{Books}
 use Rattle.nofs_disk.specs.Order.{OneOf}
@@ -41,72 +39,62 @@ use Rattle.nofs_crashlaw.proofs.OnHistories.Resting.{law-rest}
 use Rattle.nofs_state.proofs.OnWrites.Numbered.{AddsNumbered}
 use Rattle.nofs_state.proofs.OnWrites.Tables.{table_block}
 use Rattle.nofs_files.specs.Resizes.{IsCutMap, kept_slots, cut_writes}
-use Rattle.nofs_files.specs.declared.resizes.cuts.NewCell.{NewCell}
-use Rattle.nofs_files.specs.declared.resizes.cuts.Edge.{Edge}
 use Rattle.nofs_files.proofs.OnPuts.Unchanged.{file-stays}
-use Rattle.nofs_files.proofs.OnResizes.Writes.{Cuts}
 use Rattle.nofs_files.proofs.OnResizes.Image as image
 use Rattle.nofs_files.proofs.OnResizes.Pointers as pointers
 use Rattle.nofs_files.proofs.OnResizes.Homes as homes
-use Rattle.nofs_files.proofs.OnResizes.Maps.{cut-learns, cut-says}
+use Rattle.nofs_files.proofs.OnResizes.Maps.{cut-known}
+use Rattle.nofs_files.proofs.OnResizes.Image.{Resizing}
 use Rattle.nofs_files.proofs.OnResizes.Proper as proper_part
 
-module _ (old : DiskState) (k : Books) (H : List Entry1) (p : Past) (i g size : ℕ) (r : Record) (tail : Option NewCell)
-    (edge : Edge) (c2 : Cell)
-    (is_old : IsDisk old) (tells : IsTrue old.tells) (o : IsOpen old k H p)
-    (h : Cuts old.now i g size r tail edge c2) where
-  -- what was shown of them before
-  abbrev W : World
-  W = proper_part.W old k H p i g size r tail edge c2 is_old tells o h
-
-  abbrev X : Image
-  X = proper_part.X old k H p i g size r tail edge c2 is_old tells o h
+module _ (resizing : Resizing) where
+  open resizing use {old, k, H, p, i, g, size, r, tail, edge, c2, o}
 
   abbrev Y : Image
-  Y = proper_part.Y old k H p i g size r tail edge c2 is_old tells o h
+  Y = proper_part.Y resizing
 
   abbrev f : FileState
-  f = proper_part.f old k H p i g size r tail edge c2 is_old tells o h
+  f = proper_part.f resizing
 
-  abbrev is : p.world.files i ≡ Some (image.own old k H p i g size r tail edge c2 is_old tells o h).file
-  is = proper_part.is old k H p i g size r tail edge c2 is_old tells o h
+  abbrev is : p.world.files i ≡ Some (image.own resizing).file
+  is = proper_part.is resizing
 
-  abbrev gen : (image.own old k H p i g size r tail edge c2 is_old tells o h).file.generation ≡ g
-  gen = proper_part.gen old k H p i g size r tail edge c2 is_old tells o h
+  abbrev gen : (image.own resizing).file.generation ≡ g
+  gen = proper_part.gen resizing
 
   abbrev claim : IsClaim p.world (step.Resize i g size) no_claims
-  claim = proper_part.claim old k H p i g size r tail edge c2 is_old tells o h
+  claim = proper_part.claim resizing
 
   abbrev files : FilesMatch (files_after p.world.files (resize_given p.world.files i g size)) Y
-  files = proper_part.files old k H p i g size r tail edge c2 is_old tells o h
+  files = proper_part.files resizing
 
   abbrev numbers : (n : ℕ) (cell : Cell) → OneOf (cut_writes tail edge (table_block i) c2) n cell
       → CellNumbers (Numbered p.world no_claims) old.now n cell
-  numbers = proper_part.numbers old k H p i g size r tail edge c2 is_old tells o h
+  numbers = proper_part.numbers resizing
 
   abbrev given : Given
-  given = proper_part.given old k H p i g size r tail edge c2 is_old tells o h
+  given = proper_part.given resizing
 
   abbrev M : Mark
-  M = proper_part.M old k H p i g size r tail edge c2 is_old tells o h
+  M = proper_part.M resizing
 
   abbrev same-given : resize_given p.world.files i g size ≡ resize_given (files_along (agreed_files p.base) H) i g size
-  same-given = proper_part.same-given old k H p i g size r tail edge c2 is_old tells o h
+  same-given = proper_part.same-given resizing
 
   abbrev proper : (n : ℕ) (cell : Cell) → OneOf (cut_writes tail edge (table_block i) c2) n cell
       → Proper (during (mark_at p.base H (old.moment + 1) p.mark p.stamps)
       (resize_given p.world.files i g size)) old.now n cell
-  proper = proper_part.proper old k H p i g size r tail edge c2 is_old tells o h
+  proper = proper_part.proper resizing
 
   -- The rest stays
 
   gives-to : GivesFile p.world.files (resize_given p.world.files i g size) i
-      (image.own old k H p i g size r tail edge c2 is_old tells o h).file
-      (resize-made p.world.files i g size (image.own old k H p i g size r tail edge c2 is_old tells o h).file
-      (image.own old k H p i g size r tail edge c2 is_old tells o h).is
-      (image.generation old k H p i g size r tail edge c2 is_old tells o h)
-      (image.file old k H p i g size r tail edge c2 is_old tells o h))
-  gives-to = resize-gives W.files i g size f is gen (image.file old k H p i g size r tail edge c2 is_old tells o h)
+      (image.own resizing).file
+      (resize-made p.world.files i g size (image.own resizing).file
+      (image.own resizing).is
+      (image.generation resizing)
+      (image.file resizing))
+  gives-to = resize-gives p.world.files i g size f is gen (image.file resizing)
 
   nothing : (j : ℕ) → eqb j i ≡ false → GivesNothing (resize_given p.world.files i g size) j
   nothing j t = gives-to.elsewhere j (λ e. let q = eq-eqb j i e in cc (q, t))
@@ -114,50 +102,40 @@ module _ (old : DiskState) (k : Books) (H : List Entry1) (p : Past) (i g size : 
   rest : (e : Entry1)
       → given_by (files_along (agreed_files p.base) H) e ≡ resize_given (files_along (agreed_files p.base) H) i g size
       → SteadyRest p.base (H ++ e ∷ []) Y
-  rest e gives-it = law-rest p.base H e (next_stamp W) (λ j. eqb j i) X Y (files_after W.files given) o.rest (record {
-    before = o.stage.ready.files;
-    after = files;
-    touches = image.touches old k H p i g size r tail edge c2 is_old tells o h;
-    old = image.old-pointers old k H p i g size r tail edge c2 is_old tells o h;
-    owned = λ j t live. subst (λ (q : ℕ). is_some (files_after W.files given q) ≡ true) (sym (eqb-true j i t))
-        (ap is_some gives-to.new);
-    stays = λ j t some. ap is_some (file-stays W.files given j (nothing j t))
-        ∙ ap (λ (G : Files). is_some (G j)) o.files ∙ some;
-    no_value = λ j q l t some. (λ z. (gives-it z).slots j q l) ∙ (λ z. (sym same-given z).slots j q l)
-        ∙ (nothing j t).slots q l;
-    no_meta = λ j q t some. (λ z. (gives-it z).metas j q) ∙ (λ z. (sym same-given z).metas j q) ∙ (nothing j t).metas q;
-  })
+  rest e gives-it = law-rest p.base H e (next_stamp p.world) (λ j. eqb j i) old.now Y
+      (files_after p.world.files given) o.rest (record {
+        before = o.stage.ready.files;
+        after = files;
+        touches = image.touches resizing;
+        old = image.old-pointers resizing;
+        owned = λ j t live. subst (λ (q : ℕ). is_some (files_after p.world.files given q) ≡ true) (sym (eqb-true j i t))
+            (ap is_some gives-to.new);
+        stays = λ j t some. ap is_some (file-stays p.world.files given j (nothing j t))
+            ∙ ap (λ (G : Files). is_some (G j)) o.files ∙ some;
+        no_value = λ j q l t some. (λ z. (gives-it z).slots j q l) ∙ (λ z. (sym same-given z).slots j q l)
+            ∙ (nothing j t).slots q l;
+        no_meta = λ j q t some. (λ z. (gives-it z).metas j q) ∙ (λ z. (sym same-given z).metas j q)
+            ∙ (nothing j t).metas q;
+      })
 
   -- The maps
 
   used : (j : ℕ)
       → is_some (files_after p.world.files (resize_given p.world.files i g size) j) ≡ is_some (p.world.files j)
-  used j = uses-inode (files_after W.files given) Y files j ∙ as-before W.files X Y i g size f (next_stamp W)
-      (pointers.lies old k H p i g size r tail edge c2 is_old tells o h) j ∙ sym
-      (uses-inode W.files X (image.match old k H p i g size r tail edge c2 is_old tells o h) j)
+  used j = uses-inode (files_after p.world.files given) Y files j
+      ∙ as-before p.world.files old.now Y i g size f (next_stamp p.world) (pointers.lies resizing) j
+      ∙ sym (uses-inode p.world.files old.now (image.match resizing) j)
 
   module _ (l : Books) (freed : List Bool) (map : IsCutMap old k.at i (kept_slots r.size size) freed)
       (a : BlocksFreed k l freed) where
     abbrev V : World
     V = after_world p.world (step.Resize i g size) no_claims l
 
-    learns : Learns p.world (step.Resize i g size) true (after_world p.world (step.Resize i g size) no_claims l)
+    known : Learns p.world (step.Resize i g size) true V × Says l V
     unfolding gives
-    learns = cut-learns k l W V (step.Resize i g size) freed o.says a map.size (λ j. refl) (λ q. refl)
-        (refl, refl, refl, refl, omega arith, refl) (λ j. refl)
-        (λ q. refl) used
-        (homes.gone old k H p i g size r tail edge c2 is_old tells o h freed map)
-        (homes.kept old k H p i g size r tail edge c2 is_old tells o h freed map)
-        (homes.moves old k H p i g size r tail edge c2 is_old tells o h freed map)
-
-    says : Says l (after_world p.world (step.Resize i g size) no_claims l)
-    unfolding gives
-    says = cut-says k l W V (step.Resize i g size) freed o.says a map.size (λ j. refl) (λ q. refl)
-        (refl, refl, refl, refl, omega arith, refl) (λ j. refl)
-        (λ q. refl) used
-        (homes.gone old k H p i g size r tail edge c2 is_old tells o h freed map)
-        (homes.kept old k H p i g size r tail edge c2 is_old tells o h freed map)
-        (homes.moves old k H p i g size r tail edge c2 is_old tells o h freed map)
+    known = cut-known k l p.world V (step.Resize i g size) freed o.says a map.size (λ j. refl) (λ q. refl)
+        (refl, refl, refl, refl, omega arith, refl) (λ j. refl) (λ q. refl) used
+        (homes.gone resizing freed map) (homes.kept resizing freed map) (homes.moves resizing freed map)
 
   pub resize-done : (new : DiskState) (l : Books) (freed : List Bool)
       → IsCutMap old k.at i (kept_slots r.size size) freed → BlocksFreed k l freed
@@ -168,24 +146,24 @@ module _ (old : DiskState) (k : Books) (H : List Entry1) (p : Past) (i g size : 
   resize-done new l freed map a writes none = record {
     adds = writes.adds;
     later = writes.later;
-    proper = λ e es ec ge n cell one. subst (λ (G : Given). Proper (during M G) X n cell) (same-given ∙ sym ge)
+    proper = λ e es ec ge n cell one. subst (λ (G : Given). Proper (during M G) old.now n cell) (same-given ∙ sym ge)
         (proper n cell one);
     numbers = numbers;
     super = ap (λ (Z : Image). cell_at Z 0) writes.now
-        ∙ image.super-stays old k H p i g size r tail edge c2 is_old tells o h;
+        ∙ image.super-stays resizing;
     size = writes.adds.disk.blocks;
-    none = none (after_world W (step.Resize i g size) no_claims l);
+    none = none (after_world p.world (step.Resize i g size) no_claims l);
     answer = refl;
     accepted = refl;
     no_flush = refl;
     claim = claim;
-    learns = learns l freed map a;
-    files = subst (λ (Z : Image). FilesMatch (files_after W.files given) Z) (sym writes.now) files;
-    move = subst (λ (Z : Image). HomesMove W.files (step.Resize i g size) no_claims X Z) (sym writes.now)
-        (law-resize-homes W X Y i g size f (next_stamp W) no_claims
-        (pointers.lies old k H p i g size r tail edge c2 is_old tells o h) claim);
+    learns = (known l freed map a).0;
+    files = subst (λ (Z : Image). FilesMatch (files_after p.world.files given) Z) (sym writes.now) files;
+    move = subst (λ (Z : Image). HomesMove p.world.files (step.Resize i g size) no_claims old.now Z) (sym writes.now)
+        (law-resize-homes p.world old.now Y i g size f (next_stamp p.world) no_claims
+        (pointers.lies resizing) claim);
     rest = λ e es ec ge. subst (λ (Z : Image). SteadyRest p.base (H ++ e ∷ []) Z) (sym writes.now) (rest e ge);
-    says = says l freed map a;
+    says = (known l freed map a).1;
     books_at = ap (λ (b : Books). b.at) a.same;
     history = ap (λ (b : Books). b.history) a.same;
     going = ap (λ (b : Books). b.stopped) a.same ∙ o.going;
@@ -195,7 +173,7 @@ module _ (old : DiskState) (k : Books) (H : List Entry1) (p : Past) (i g size : 
   pub resize-numbered : (new : DiskState) → Adds (OneOf (cut_writes tail edge (table_block i) c2)) old new
       → AddsNumbered p.world no_claims old new
   resize-numbered new = Adds-map (OneOf (cut_writes tail edge (table_block i) c2))
-      (λ n cell. CellNumbers (Numbered W no_claims) X n cell) old new numbers
+      (λ n cell. CellNumbers (Numbered p.world no_claims) old.now n cell) old new numbers
 
   pub resize-proper : (new : DiskState) (e : Entry1)
       → given_by (files_along (agreed_files p.base) H) e ≡ resize_given (files_along (agreed_files p.base) H) i
@@ -203,4 +181,5 @@ module _ (old : DiskState) (k : Books) (H : List Entry1) (p : Past) (i g size : 
       → AddsProper p.base H e p.mark p.stamps old new
   resize-proper new e ge adds = Adds-map (OneOf (cut_writes tail edge (table_block i) c2))
       (Proper (during M (given_by (files_along (agreed_files p.base) H) e)) old.now) old new
-      (λ n cell one. subst (λ (G : Given). Proper (during M G) X n cell) (same-given ∙ sym ge) (proper n cell one)) adds
+      (λ n cell one. subst (λ (G : Given). Proper (during M G) old.now n cell) (same-given ∙ sym ge)
+      (proper n cell one)) adds

@@ -1,10 +1,10 @@
 -- The image after the writes of a Resize: what is cut has no pointer, and the content ends at the new size.
 use Rattle.std.proofs.Common.{◌≡◌, ◌≢◌, ℕ, ◌+◌, ◌-◌, ◌*◌, ◌/◌, ◌%◌, ◌<◌, ◌≤◌, ◌⊎◌, min, inl, inr, true, false, eqb, leb}
-use Rattle.std.proofs.Common.{leb-true, not, List, length, Option, Some, unwrap_or, IsTrue, refl, sym, ap, ◌∙◌, subst}
+use Rattle.std.proofs.Common.{leb-true, length, Option, Some, unwrap_or, refl, sym, ap, ◌∙◌, subst}
 use Rattle.std.proofs.Common.{arith}
 use Rattle.std.proofs.lemmas.Bool.{cases_eq, cases_lt}
 use Rattle.nofs_ptrs.specs.Paths.{slot_limit, Path, InRecord, Under, path_of, slot_of, is_pointer_slot, IsSlot}
-use Rattle.nofs_disk.specs.Disk.{DiskState, IsDisk, cell_at}
+use Rattle.nofs_disk.specs.Disk.{cell_at}
 use Rattle.nofs_disk.specs.declared.tag.Cell.{Cell}
 use Rattle.nofs_disk.specs.declared.tag.Pointer.{Pointer}
 use Rattle.nofs_inode.specs.declared.inode.Record.{Record}
@@ -25,100 +25,94 @@ use Rattle.nofs_history.specs.Machine.{resize_slot, size_of, slots_in, trimmed, 
 use Rattle.nofs_history.specs.World.{World}
 use Rattle.nofs_history.specs.Claims.{next_stamp}
 use Rattle.nofs_history.specs.History.{FilesMatch}
-use Rattle.nofs_history.specs.declared.machine.history.Entry1.{Entry1}
 use Rattle.nofs_crashlaw.specs.Untouched.Frames.{SameNames, OldPointers, Touches}
 use Rattle.nofs_crashlaw.proofs.OnFiles.Given.{value-of, size-of}
 use Rattle.nofs_crashlaw.proofs.OnUntouched.Matches.{Matched, matched-file}
 use Rattle.nofs_crashlaw.specs.Files.Resizes.{is_cut, cut_at, ResizeLies}
-use Rattle.nofs_state.specs.Cores.Invariant.{IsOpen, Past}
-use Rattle.nofs_state.specs.declared.books.maps.Books.{Books}
 use Rattle.nofs_state.proofs.OnWrites.Tables.{table_block}
 use Rattle.nofs_files.specs.Resizes.{kept_slots, IsCutBlock, IsCutCell, last_child}
 use Rattle.nofs_files.specs.declared.resizes.cuts.NewCell.{NewCell}
-use Rattle.nofs_files.specs.declared.resizes.cuts.Edge.{Edge}
 use Rattle.nofs_files.proofs.OnResizes.Slots.{Inside, above-cases, below_path, near-path, far-path, leaf-inside}
 use Rattle.nofs_files.proofs.OnResizes.Slots.{top-inside, child-inside, only-child, leb-lt, or-one, or-parts}
 use Rattle.nofs_files.proofs.OnResizes.Records.{record-cut, record-stays}
-use Rattle.nofs_files.proofs.OnResizes.Writes.{Cuts, AtTail, AtBelow, AtAbove, Held, meets, tail-at, at-tail, below-at}
+use Rattle.nofs_files.proofs.OnResizes.Writes.{AtTail, AtBelow, AtAbove, Held, meets, tail-at, at-tail, below-at}
 use Rattle.nofs_files.proofs.OnResizes.Writes.{above-at, same-slot, content-apart, tail-low}
-use Rattle.nofs_files.proofs.OnResizes.Image.{slot_by, slot-by, slot-end, slot-none}
+use Rattle.nofs_files.proofs.OnResizes.Image.{Resizing, slot_by, slot-by, slot-end, slot-none}
 use Rattle.nofs_files.proofs.OnResizes.Image as image
 
-module _ (old : DiskState) (k : Books) (H : List Entry1) (p : Past) (i g size : ℕ) (r : Record) (tail : Option NewCell)
-    (edge : Edge) (c2 : Cell)
-    (is_old : IsDisk old) (tells : IsTrue old.tells) (o : IsOpen old k H p)
-    (h : Cuts old.now i g size r tail edge c2) where
-  -- what was shown of them before
+module _ (resizing : Resizing) where
+  open resizing use {old, i, g, size, r, tail, edge, c2, h}
+
   abbrev W : World
-  W = image.W old k H p i g size r tail edge c2 is_old tells o h
+  W = image.W resizing
 
   abbrev X : Image
-  X = image.X old k H p i g size r tail edge c2 is_old tells o h
+  X = image.X resizing
 
   abbrev m : ℕ
-  m = image.m old k H p i g size r tail edge c2 is_old tells o h
+  m = image.m resizing
 
   abbrev r' : Record
-  r' = image.r' old k H p i g size r tail edge c2 is_old tells o h
+  r' = image.r' resizing
 
   abbrev Y : Image
-  Y = image.Y old k H p i g size r tail edge c2 is_old tells o h
+  Y = image.Y resizing
 
   abbrev At : Path → NewCell → Type 0
-  At = image.At old k H p i g size r tail edge c2 is_old tells o h
+  At = image.At resizing
 
   abbrev whole : (super_at X).blocks ≤ length X
-  whole = image.whole old k H p i g size r tail edge c2 is_old tells o h
+  whole = image.whole resizing
 
   abbrev match : FilesMatch W.files X
-  match = image.match old k H p i g size r tail edge c2 is_old tells o h
+  match = image.match resizing
 
   abbrev own : Matched W.files X i
-  own = image.own old k H p i g size r tail edge c2 is_old tells o h
+  own = image.own resizing
 
   abbrev file : is_folder own.file.kind ≡ false
-  file = image.file old k H p i g size r tail edge c2 is_old tells o h
+  file = image.file resizing
 
   abbrev generation : own.file.generation ≡ g
-  generation = image.generation old k H p i g size r tail edge c2 is_old tells o h
+  generation = image.generation resizing
 
   abbrev old-size : own.file.size ≡ r.size
-  old-size = image.old-size old k H p i g size r tail edge c2 is_old tells o h
+  old-size = image.old-size resizing
 
   abbrev same-cut : (a : Path) → is_cut (cut_at own.file size) a ≡ is_cut (kept_slots r.size size) a
-  same-cut = image.same-cut old k H p i g size r tail edge c2 is_old tells o h
+  same-cut = image.same-cut resizing
 
   abbrev inside : (1 ≤ i) × (i ≤ (super_at X).inodes)
-  inside = image.inside old k H p i g size r tail edge c2 is_old tells o h
+  inside = image.inside resizing
 
   abbrev off-table : (b : ℕ) → is_data_block X b ≡ true → b ≢ table_block i
-  off-table = image.off-table old k H p i g size r tail edge c2 is_old tells o h
+  off-table = image.off-table resizing
 
   abbrev held-of : (a : Path) (it : NewCell) → At a it → Held X i g size r tail edge c2 h a it
-  held-of = image.held-of old k H p i g size r tail edge c2 is_old tells o h
+  held-of = image.held-of resizing
 
   abbrev stays : (b : ℕ) → b ≢ table_block i → ((a : Path) (it : NewCell) → At a it → b ≢ it.block)
       → cell_at Y b ≡ cell_at X b
-  stays = image.stays old k H p i g size r tail edge c2 is_old tells o h
+  stays = image.stays resizing
 
   abbrev cell-here : (a : Path) (it : NewCell) → At a it → cell_at Y it.block ≡ it.cell
-  cell-here = image.cell-here old k H p i g size r tail edge c2 is_old tells o h
+  cell-here = image.cell-here resizing
 
   abbrev here : inode Y i ≡ r'
-  here = image.here old k H p i g size r tail edge c2 is_old tells o h
+  here = image.here resizing
 
   abbrev old-pointers : (j : ℕ) → is_live (inode X j) ≡ true → OldPointers (next_stamp W) X j
-  old-pointers = image.old-pointers old k H p i g size r tail edge c2 is_old tells o h
+  old-pointers = image.old-pointers resizing
 
   abbrev names : SameNames X Y i
-  names = image.names old k H p i g size r tail edge c2 is_old tells o h
+  names = image.names resizing
 
   abbrev slot-stays : (b : Path) (y : Pointer) → IsSlot b → find X i b ≡ answer.Holds y → ((it : NewCell) → At b it → ⊥)
       → cell_at Y y.block ≡ cell_at X y.block
-  slot-stays = image.slot-stays old k H p i g size r tail edge c2 is_old tells o h
+  slot-stays = image.slot-stays resizing
 
   abbrev touches : Touches (next_stamp W) (λ j. eqb j i) X Y
-  touches = image.touches old k H p i g size r tail edge c2 is_old tells o h
+  touches = image.touches resizing
 
   -- The pointers
 
