@@ -46,6 +46,9 @@ pub type Patch = (usize, usize, &'static str);
 /// The version in the superblock.
 pub const VERSION_2: Patch = (0, 8, "02000000");
 
+/// The last byte of the superblock.
+const LAST_BYTE: Patch = (0, 1023, "01");
+
 /// The cells of an image.
 pub fn image_cells(alloc: Global, image: TestImage) -> Result<Vec<Cell>, Fail> {
     match image {
@@ -163,9 +166,5 @@ pub const FAULTS: [(TestImage, Patch, &str); 11] = [
         "mounts spent, number 16777215",
     ),
     (TestImage::Empty, (0, 40, "01"), "byte 40 is not zero"),
-    (
-        TestImage::Version2,
-        (0, 1023, "01"),
-        "byte 1023 is not zero",
-    ),
+    (TestImage::Version2, LAST_BYTE, "byte 1023 is not zero"),
 ];
