@@ -33,12 +33,9 @@ pub fn tag_fields(it: Tag) -> (Kind, u32, u64, u64, u64) {
 /// `nofs_disk::Kind`
 pub fn kind_variant(it: &Kind) -> u8 {
     match it {
-        Kind::Nothing => 0,
-        Kind::Content => 1,
-        Kind::Directory => 2,
-        Kind::Leaf => 3,
-        Kind::Table => 4,
-        Kind::Super => 5,
+        Kind::Content | Kind::Directory => 0,
+        Kind::Leaf | Kind::Table => 1,
+        Kind::Nothing | Kind::Super => 2,
     }
 }
 
@@ -155,12 +152,11 @@ pub fn turn_close<V: Kept>(this: Turn<V>, pass: Pass<V>) -> Result<V, PassesOut<
     this.close(pass)
 }
 
+/// A turn, and a pass for each of its seats.
+type Seated<V> = (Turn<V>, Vec<Pass<V>>);
+
 /// `nofs_turn::Turn::new`
-pub fn turn_new<V: Kept>(
-    alloc: Global,
-    value: V,
-    seats: u32,
-) -> Result<(Turn<V>, Vec<Pass<V>>), TurnFault<V>>
+pub fn turn_new<V: Kept>(alloc: Global, value: V, seats: u32) -> Result<Seated<V>, TurnFault<V>>
     requires { (0 < seats) × (seats ≤ 64) }
 {
     Turn::new(alloc, value, seats)
@@ -176,12 +172,12 @@ pub fn sweep_order_new(count: u64, to_item: ToItem, to_place: ToPlace) -> SweepO
     requires item_may { (place : ℕ) → place < count → ToItem.pre to_item count place }
     requires item_below { (place item : ℕ) → place < count → ToItem.post to_item count place item
         → item < count }
+    requires each { EachHasPlace count (ToItem.post to_item count) }
     requires place_may { (item : ℕ) → item < count → ToPlace.pre to_place count item }
     requires place_below { (item place : ℕ) → item < count → ToPlace.post to_place count item place
         → place < count }
     requires inverse { (item place found : ℕ) → item < count → ToPlace.post to_place count item place
         → ToItem.post to_item count place found → found ≡ item }
-    requires each { EachHasPlace count (ToItem.post to_item count) }
 {
     SweepOrder::new(count, to_item, to_place)
 }

@@ -18,13 +18,12 @@ pub fn mem_disk_itself(it: MemDisk) -> MemDisk {
 }
 
 /// `nofs_memdisk::FaultAt`
-pub fn fault_at_fields(it: FaultAt) -> (CallKind, u64, bool) {
-    let FaultAt {
+pub fn fault_at_of(call: CallKind, number: u64, taken: bool) -> FaultAt {
+    FaultAt {
         call,
         number,
         taken,
-    } = it;
-    (call, number, taken)
+    }
 }
 
 /// `nofs_memdisk::CallKind`
@@ -43,13 +42,12 @@ pub fn pick_fields(it: Pick) -> (u64, u64) {
 }
 
 /// `nofs_memdisk::CallCounts`
-pub fn call_counts_fields(it: CallCounts) -> (u64, u64, u64) {
-    let CallCounts {
+pub fn call_counts_of(reads: u64, writes: u64, flushes: u64) -> CallCounts {
+    CallCounts {
         reads,
         writes,
         flushes,
-    } = it;
-    (reads, writes, flushes)
+    }
 }
 
 /// `nofs_memdisk::MemDisk::new`

@@ -76,13 +76,12 @@ pub fn file_kind_variant(it: &FileKind) -> u8 {
 }
 
 /// `nofs_inode::BackLink`
-pub fn back_link_fields(it: BackLink) -> (u32, u32, u64) {
-    let BackLink {
+pub fn back_link_of(directory: u32, entry: u32, generation: u64) -> BackLink {
+    BackLink {
         directory,
         entry,
         generation,
-    } = it;
-    (directory, entry, generation)
+    }
 }
 
 /// `nofs_inode::Record`
@@ -153,13 +152,12 @@ pub fn ptrs_write_pointer(payload: &mut [u8; 1024], at: u32, it: Pointer)
 }
 
 /// `nofs_dirent::Entry`
-pub fn entry_fields(it: Entry) -> (u32, u64, Name) {
-    let Entry {
+pub fn entry_of(inode: u32, generation: u64, name: Name) -> Entry {
+    Entry {
         inode,
         generation,
         name,
-    } = it;
-    (inode, generation, name)
+    }
 }
 
 /// `nofs_dirent::Name`

@@ -11,6 +11,11 @@ use nofs_inode::FileKind;
 use nofs_model::Value;
 use std::alloc::{AllocError, Global};
 
+/// The number of a variant whose fields are an inode, a generation, and this one or these.
+fn on<T>(_inode: &u32, _generation: &u64, _field: &T, variant: u8) -> u8 {
+    variant
+}
+
 /// `nofs_history::Step`
 pub fn step_variant(it: &Step) -> u8 {
     match it {
@@ -18,53 +23,53 @@ pub fn step_variant(it: &Step) -> u8 {
             directory,
             generation,
             name,
-        } => typed::<(&u32, &u64, &Name)>(&(directory, generation, name), 0),
+        } => on::<Name>(directory, generation, name, 0),
         Step::Make {
             directory,
             generation,
             name,
             kind,
-        } => typed::<(&u32, &u64, &Name, &FileKind)>(&(directory, generation, name, kind), 1),
+        } => on::<(&Name, &FileKind)>(directory, generation, &(name, kind), 1),
         Step::Link {
+            inode,
+            of,
             directory,
             generation,
             name,
-            inode,
-            of,
         } => typed::<(&u32, &u64, &Name, &u32, &u64)>(&(directory, generation, name, inode, of), 2),
         Step::Drop {
             directory,
             generation,
             name,
-        } => typed::<(&u32, &u64, &Name)>(&(directory, generation, name), 3),
+        } => on::<Name>(directory, generation, name, 3),
         Step::Rename {
             directory,
             generation,
             old,
             new,
-        } => typed::<(&u32, &u64, &Name, &Name)>(&(directory, generation, old, new), 4),
+        } => on::<(&Name, &Name)>(directory, generation, &(old, new), 4),
         Step::List {
             directory,
             generation,
             slot,
-        } => typed::<(&u32, &u64, &u64)>(&(directory, generation, slot), 5),
+        } => on::<u64>(directory, generation, slot, 5),
         Step::Get {
             inode,
             generation,
             slot,
-        } => typed::<(&u32, &u64, &u64)>(&(inode, generation, slot), 6),
+        } => on::<u64>(inode, generation, slot, 6),
         Step::Put {
+            bytes,
+            at,
+            slot,
             inode,
             generation,
-            slot,
-            at,
-            bytes,
-        } => typed::<(&u32, &u64, &u64, &u32, &Content)>(&(inode, generation, slot, at, bytes), 7),
+        } => on::<(&u64, &u32, &Content)>(inode, generation, &(slot, at, bytes), 7),
         Step::Resize {
             inode,
             generation,
             size,
-        } => typed::<(&u32, &u64, &u64)>(&(inode, generation, size), 8),
+        } => on::<u64>(inode, generation, size, 8),
         Step::Stat { inode, generation } => typed::<(&u32, &u64)>(&(inode, generation), 9),
         Step::Flush { inode, generation } => typed::<(&u32, &u64)>(&(inode, generation), 10),
         Step::SeeInode { inode } => typed::<u32>(inode, 11),
@@ -128,16 +133,16 @@ pub fn refusal_variant(it: &Refusal) -> u8 {
 }
 
 /// `nofs_history::Entry1`
-pub fn entry1_fields(it: Entry1) -> (u32, u64, u64, Step, Reply, Claims) {
+pub fn entry1_fields(it: Entry1) -> (u64, u64, u32, Step, Reply, Claims) {
     let Entry1 {
-        caller,
         from,
         to,
+        caller,
         step,
         reply,
         claims,
     } = it;
-    (caller, from, to, step, reply, claims)
+    (from, to, caller, step, reply, claims)
 }
 
 /// `nofs_history::Claims`
@@ -206,12 +211,12 @@ pub fn history_start(this: &History) -> u64 {
 
 /// `nofs_history::accepted_of`
 pub fn accepted_of(
-    alloc: Global,
-    base: &[Cell],
     history: &History,
+    base: &[Cell],
     inode: u32,
     generation: u64,
     slot: u64,
+    alloc: Global,
 ) -> Result<Vec<Value>, AllocError> {
     nofs_history::accepted_of(alloc, base, history, inode, generation, slot)
 }

@@ -25,12 +25,11 @@ pub fn write_sink_itself<W: Write>(it: WriteSink<W>) -> WriteSink<W> {
     it
 }
 
+/// The bytes that a source has left, or why not.
+type Left = Result<Vec<u8>, ReadFault>;
+
 /// `nofs_io::read_all`
-pub fn io_read_all<S: Source>(
-    alloc: Global,
-    source: &mut S,
-    limit: usize,
-) -> Result<Vec<u8>, ReadFault>
+pub fn io_read_all<S: Source>(alloc: Global, source: &mut S, limit: usize) -> Left
     requires { limit < 2 ^ 32 }
 {
     nofs_io::read_all(alloc, source, limit)
