@@ -294,6 +294,26 @@ class Streams(Images):
         reader.join(TIME)
         self.assertEqual((program.wait(TIME), bytes(replies)), (0, 2500 * b"".join(answers)))
 
+    def test_each_frame_is_answered_before_the_next_is_sent(self):
+        program = self.begin()
+        for _ in range(100):
+            for sent, answer in ((STAT, STATTED), (GET_HOLE, HOLE), (GET_PAST, PAST)):
+                os.write(program.stdin.fileno(), sent)
+                self.assertEqual(program.stdout.read(len(answer)), answer)
+        program.stdin.close()
+        self.assertEqual((program.wait(TIME), program.stdout.read()), (0, b""))
+
+    def test_300_frames_in_one_write_are_answered_before_more_is_sent(self):
+        program = self.begin()
+        os.write(program.stdin.fileno(), 300 * GET_PAST)
+        self.assertEqual(program.stdout.read(300 * len(PAST)), 300 * PAST)
+        os.write(program.stdin.fileno(), 299 * GET_PAST + GET_PAST[:-1])     # the last one is cut, and the others are answered
+        self.assertEqual(program.stdout.read(299 * len(PAST)), 299 * PAST)
+        os.write(program.stdin.fileno(), GET_PAST[-1:])
+        self.assertEqual(program.stdout.read(len(PAST)), PAST)
+        program.stdin.close()
+        self.assertEqual(program.wait(TIME), 0)
+
     def test_frames_in_small_pieces_are_the_same_frames(self):
         program = self.begin()
         replies, _, reader = self.read_by_thread(program, 1)

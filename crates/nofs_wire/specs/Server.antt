@@ -1,4 +1,4 @@
 -- What a server takes, makes and writes.
-pub mod Inbox
+pub mod Buffers
 pub mod Serve
 pub mod Turns

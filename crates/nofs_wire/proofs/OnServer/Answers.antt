@@ -1,10 +1,8 @@
 -- What an answer to one frame comes to.
-use Rattle.std.proofs.Common.{◌≡◌, ℕ, suc, ◌*◌, ◌<◌, ◌≤◌, ◌^◌, List, [], ◌∷◌, ◌++◌, length, take, flat_map, append-nil}
+use Rattle.std.proofs.Common.{◌≡◌, ℕ, suc, ◌*◌, ◌<◌, ◌≤◌, ◌^◌, List, [], ◌∷◌, ◌++◌, length, flat_map, append-nil}
 use Rattle.std.proofs.Common.{length-append, All, true, false}
-use Rattle.std.proofs.Common.{Option, Some, if◌then◌else◌, refl, sym, ap, ◌∙◌, subst, arith}
+use Rattle.std.proofs.Common.{Option, Some, if◌then◌else◌, refl, sym, ap, ◌∙◌, arith}
 use Rattle.std.specs.Prelude.{IsTrue, option_to_list, slice_index_or}
-use Rattle.std.specs.Io.KnownBytes.{Appends}
-use Rattle.std.proofs.KnownBytes.{Appends-nil}
 use Rattle.nofs_dirent.specs.Names.{is_name}
 use Rattle.nofs_dirent.specs.NameLaws.{is_name-Decides}
 use Rattle.nofs_history.specs.Steps.{Made, Fits, with_made, is_out_of_memory}
@@ -15,12 +13,10 @@ use Rattle.nofs_history.specs.declared.machine.replies.Reply.{Reply}
 use Rattle.nofs_history.specs.declared.machine.replies.Reply.TheVariants as reply
 use Rattle.nofs_history.specs.declared.machine.replies.Refusal.{Refusal}
 use Rattle.nofs_history.specs.declared.machine.replies.Refusal.TheVariants as refusal
-use Rattle.nofs_wire.specs.declared.server.answers.Answered.{Answered}
-use Rattle.nofs_wire.specs.declared.server.answers.Answered.TheVariants as answered
 use Rattle.nofs_wire.specs.Frames.Replies.{HasSpelling, FitsOneByte, line_bytes, body_bytes, field_bytes, kept_bytes}
 use Rattle.nofs_wire.specs.Frames.Replies.{reply_bytes}
 use Rattle.nofs_wire.specs.Frames.Fields.{kind_byte, truth_byte, number_bytes}
-use Rattle.nofs_wire.specs.Server.Turns.{AnswersSo, AnswersInPart, GivesReply}
+use Rattle.nofs_wire.specs.Server.Turns.{AnswersInPart, AnswersWhole}
 use Rattle.nofs_wire.proofs.OnFrames.Fields.{length-number_bytes}
 
 -- what a mount replies can be spelled in a frame
@@ -171,48 +167,33 @@ fits-spelled s reply.Resized fits = record { lists = tt; short = omega arith }
 fits-spelled s reply.Flushed fits = record { lists = tt; short = omega arith }
 fits-spelled s (reply.Seen b) fits = record { lists = tt; short = omega arith }
 
--- nothing was made or given
-pub answers-nothing : (o : Option Step) (made new : List Made) (given : Option (List ℕ))
-    → new ≡ made → AnswersInPart o made new given given
-answers-nothing o made new given same = record {
+-- nothing was made
+pub answers-nothing : (o : Option Step) (made new : List Made) → new ≡ made → AnswersInPart o made new
+answers-nothing o made new same = record {
   steps = [];
   left = option_to_list o;
-  count = 0;
   makes = same ∙ sym (append-nil made);
   first = refl;
-  gives = Appends-nil given;
 }
 
--- a step that was made, and what was given of its reply
-pub answers-made : (a : Answered) (s : Step) (r : Reply) (made new : List Made) (given new_given : Option (List ℕ))
-    → is_out_of_memory r ≡ false
-    → new ≡ with_made made s r → GivesReply a (reply_bytes r) given new_given
-    → AnswersSo a (Some s) made new given new_given
-answers-made a s r made new given new_given room more gives = go a gives
-  where
-    added : new ≡ made ++ (s, r) ∷ []
-    added = more ∙ ap (λ b. if b then made else made ++ (s, r) ∷ []) room
+-- a step that was made
+pub made-one : (s : Step) (r : Reply) (made new : List Made) → is_out_of_memory r ≡ false
+    → new ≡ with_made made s r → new ≡ made ++ (s, r) ∷ []
+made-one s r made new room more = more ∙ ap (λ b. if b then made else made ++ (s, r) ∷ []) room
 
-    part : (count : ℕ) × Appends given new_given (take count (reply_bytes r))
-        → AnswersInPart (Some s) made new given new_given
-    part p = record {
-      steps = (s, r) ∷ [];
-      left = [];
-      count = p.0;
-      makes = added;
-      first = refl;
-      gives = subst (λ l. Appends given new_given (take p.0 l)) (sym (append-nil (reply_bytes r))) p.1;
-    }
+-- its reply is there
+pub answers-whole : (s : Step) (r : Reply) (made new : List Made) (frame : List ℕ)
+    → new ≡ made ++ (s, r) ∷ [] → frame ≡ reply_bytes r → AnswersWhole (Some s) made new frame
+answers-whole s r made new frame more is = record { one = (s, r); is = refl; makes = more; reply = is }
 
-    go : (a : Answered) → GivesReply a (reply_bytes r) given new_given → AnswersSo a (Some s) made new given new_given
-    go answered.Whole g = record { one = (s, r); is = refl; makes = added; gives = g }
-    go answered.Bad g = absurd g
-    go answered.SinkFault g = part g
-    go answered.OutOfMemory g = part g
+-- its reply found no memory
+pub answers-made : (o : Option Step) (m : Made) (made new : List Made) → o ≡ Some m.0 → new ≡ made ++ m ∷ []
+    → AnswersInPart o made new
+answers-made o m made new is more =
+    record { steps = m ∷ []; left = []; makes = more; first = ap option_to_list is }
 
 -- a step that found no memory isn't made
-pub answers-unmade : (s : Step) (r : Reply) (made new : List Made) (given : Option (List ℕ))
-    → is_out_of_memory r ≡ true → new ≡ with_made made s r
-    → AnswersInPart (Some s) made new given given
-answers-unmade s r made new given none more =
-    answers-nothing (Some s) made new given (more ∙ ap (λ b. if b then made else made ++ (s, r) ∷ []) none)
+pub answers-unmade : (s : Step) (r : Reply) (made new : List Made) → is_out_of_memory r ≡ true
+    → new ≡ with_made made s r → AnswersInPart (Some s) made new
+answers-unmade s r made new none more =
+    answers-nothing (Some s) made new (more ∙ ap (λ b. if b then made else made ++ (s, r) ∷ []) none)

@@ -6,8 +6,10 @@ use Rattle.std.specs.Io.KnownBytes.{Consumes, Appends}
 use Rattle.std.proofs.KnownBytes.{Appends-nil, Appends-trans, Consumes-nil, Consumes-trans}
 use lib.Seq.{take-append-add}
 use Rattle.std.proofs.lemmas.Grind.{flat_map-append}
-use Rattle.std.proofs.lemmas.List.{map-append, take_at}
+use Rattle.std.proofs.lemmas.List.{map-append, take_at, take-append-le}
+use Rattle.std.specs.Prelude.{option_to_list}
 use Rattle.nofs_history.specs.Steps.{Made}
+use Rattle.nofs_history.specs.declared.machine.steps.Step.{Step}
 use Rattle.nofs_history.specs.Callers.{made_step}
 use Rattle.nofs_wire.specs.declared.frames.split.Front.{Front}
 use Rattle.nofs_wire.specs.declared.frames.split.Front.TheVariants as front
@@ -16,41 +18,47 @@ use Rattle.nofs_wire.specs.declared.server.serve.WireEnd.TheVariants as ended
 use Rattle.nofs_wire.specs.Frames.Split.{front_of, step_in, split_of, frames_of, rest_of, IsBad, IsBadBy, IsCut}
 use Rattle.nofs_wire.specs.Frames.Split.{IsCutBy}
 use Rattle.nofs_wire.specs.Server.Serve.{made_bytes, replies_of, IsServed, IsServedInPart, IsRestAt, EndsSo, Serves}
-use Rattle.nofs_wire.specs.Server.Turns.{IsFramed, GoesOn, HasNone, IsInPart, StopsSo, Stops}
-use Rattle.nofs_wire.specs.Server.Inbox.{InboxState}
+use Rattle.nofs_wire.specs.Server.Turns.{IsFramed, GoesOn, HasNone, IsInPart, IsNothing, StopsSo, Stops}
+use Rattle.nofs_wire.specs.Server.Buffers.{BuffersState}
 use Rattle.nofs_wire.proofs.OnFrames.Split.{framed-none, framed-more, none-split, first-split}
 
 -- the frames so far are answered, and behind them stands what wasn't used yet
 pub record Along (first left first_given given : Option (List ℕ)) (first_made made : List Made)
-    (inbox : InboxState) : Type 0 where
+    (buffers : BuffersState) : Type 0 where
   pub done : List ℕ
   pub steps : List Made
-  pub takes : Consumes first left (done ++ inbox.window)
+  pub takes : Consumes first left (done ++ buffers.window)
   pub makes : made ≡ first_made ++ steps
   pub framed : IsFramed steps done
-  pub gives : Appends first_given given (replies_of steps)
-  pub counts : inbox.taken ≡ length (done ++ inbox.window)
+  pub written : List ℕ
+  pub gives : Appends first_given given written
+  pub keeps : written ++ buffers.kept ≡ replies_of steps
+  pub counts : buffers.taken ≡ length (done ++ buffers.window)
 
-pub along-begins : (left given : Option (List ℕ)) (made : List Made)
-    → Along left left given given made made (record { window = []; taken = 0 })
-along-begins left given made = record {
-  done = [];
-  steps = [];
-  takes = Consumes-nil left;
-  makes = sym (append-nil made);
-  framed = framed-none;
-  gives = Appends-nil given;
-  counts = refl;
-}
+pub along-begins : (left given : Option (List ℕ)) (made : List Made) (buffers : BuffersState)
+    → buffers ≡ record { window = []; taken = 0; kept = [] } → Along left left given given made made buffers
+along-begins left given made buffers is =
+    subst (λ (b : BuffersState). Along left left given given made made b) (sym is) (record {
+      done = [];
+      steps = [];
+      takes = Consumes-nil left;
+      makes = sym (append-nil made);
+      framed = framed-none;
+      written = [];
+      gives = Appends-nil given;
+      keeps = refl;
+      counts = refl;
+    })
 
 -- no more bytes stand behind the frames than were taken
-pub along-order : (first left first_given given : Option (List ℕ)) (first_made made : List Made) (inbox : InboxState)
-    → Along first left first_given given first_made made inbox → length inbox.window ≤ inbox.taken
-along-order first left first_given given first_made made inbox a =
-    omega (arith, a.counts, length-append a.done inbox.window)
+pub along-order : (first left first_given given : Option (List ℕ)) (first_made made : List Made)
+    (buffers : BuffersState)
+    → Along first left first_given given first_made made buffers → length buffers.window ≤ buffers.taken
+along-order first left first_given given first_made made buffers a =
+    omega (arith, a.counts, length-append a.done buffers.window)
 
 pub along-goes : (first left new_left first_given given new_given : Option (List ℕ))
-    (first_made made new_made : List Made) (old new : InboxState)
+    (first_made made new_made : List Made) (old new : BuffersState)
     → Along first left first_given given first_made made old
     → GoesOn old new left new_left given new_given made new_made
     → Along first new_left first_given new_given first_made new_made new
@@ -65,8 +73,11 @@ along-goes first left new_left first_given given new_given first_made made new_m
           (Consumes-trans first left new_left (a.done ++ old.window) g.bytes a.takes g.takes);
       makes = g.makes ∙ ap (λ l. l ++ g.steps) a.makes ∙ append_assoc first_made a.steps g.steps;
       framed = framed-more a.steps g.steps a.done g.front a.framed g.framed;
-      gives = subst (Appends first_given new_given) (sym (flat_map-append made_bytes a.steps g.steps))
-          (Appends-trans first_given given new_given (replies_of a.steps) (replies_of g.steps) a.gives g.gives);
+      written = a.written ++ g.written;
+      gives = Appends-trans first_given given new_given a.written g.written a.gives g.gives;
+      keeps = append_assoc a.written g.written new.kept ∙ ap (λ l. a.written ++ l) (sym g.keeps)
+          ∙ sym (append_assoc a.written old.kept (replies_of g.steps)) ∙ ap (λ l. l ++ replies_of g.steps) a.keeps
+          ∙ sym (flat_map-append made_bytes a.steps g.steps);
       counts = g.counts ∙ ap (λ n. n + length g.bytes) a.counts ∙ sym (length-append (a.done ++ old.window) g.bytes)
           ∙ ap length moved;
     }
@@ -111,9 +122,10 @@ module _ (done w : List ℕ) (steps : List Made) (framed : IsFramed steps done) 
   rest-at : (at : ℕ) → HasNone w → at + length w ≡ length (done ++ w) → IsRestAt at (done ++ w)
   rest-at at none place = ap (λ l. at + length l) (rest none) ∙ place
 
-  part : (more : List Made) (written : List ℕ) → IsInPart (step_in (front_of w) w) more written
-      → IsServedInPart (done ++ w) (steps ++ more) (replies_of steps ++ written)
-  part more written (left, count, first, wrote) =
+  part : (more : List Made) (left : List Step) → option_to_list (step_in (front_of w) w) ≡ map made_step more ++ left
+      → (count : ℕ) (given : List ℕ) → given ≡ take count (replies_of (steps ++ more))
+      → IsServedInPart (done ++ w) (steps ++ more) given
+  part more left first count given is =
       let front = first-split w in
       let all = map made_step steps in
       record {
@@ -123,112 +135,115 @@ module _ (done w : List ℕ) (steps : List Made) (framed : IsFramed steps done) 
             (front.1 ∙ ap (λ l. l ++ front.0) first ∙ append_assoc (map made_step more) left front.0)
             ∙ sym (append_assoc all (map made_step more) (left ++ front.0))
             ∙ ap (λ l. l ++ (left ++ front.0)) (sym (map-append made_step steps more));
-        count = length (replies_of steps) + count;
-        replies = ap (λ l. replies_of steps ++ l) wrote
-            ∙ sym (take-append-add (replies_of steps) (replies_of more) count)
-            ∙ ap (take (length (replies_of steps) + count)) (sym (flat_map-append made_bytes steps more));
+        count = count;
+        replies = is;
       }
 
+-- the first bytes of what was written and what is kept are those of all replies
+written-part : (written kept more whole : List ℕ) (count : ℕ) → count ≤ length kept → written ++ kept ≡ whole
+    → written ++ take count kept ≡ take (length written + count) (whole ++ more)
+written-part written kept more whole count low is =
+    ap (λ l. written ++ l) (sym (take-append-le count kept more low))
+    ∙ sym (take-append-add written (kept ++ more) count)
+    ∙ ap (take (length written + count)) (sym (append_assoc written kept more) ∙ ap (λ l. l ++ more) is)
+
 module _ (most : ℕ) (first left new_left first_given given new_given : Option (List ℕ))
-    (first_made made new_made : List Made) (inbox : InboxState)
-    (a : Along first left first_given given first_made made inbox) (few : inbox.taken ≤ most) (bytes : List ℕ)
+    (first_made made new_made : List Made) (buffers : BuffersState)
+    (a : Along first left first_given given first_made made buffers) (few : buffers.taken ≤ most) (bytes : List ℕ)
     (steps : List Made) (written : List ℕ)
     (takes : Consumes left new_left bytes) (makes : new_made ≡ made ++ steps)
     (gives : Appends given new_given written) where
-  end-so : (e : WireEnd) (taken : List ℕ) → (a.done ++ inbox.window) ++ bytes ≡ taken
-      → EndsSo most e new_left taken (a.steps ++ steps) (replies_of a.steps ++ written)
+  end-so : (e : WireEnd) (taken : List ℕ) → (a.done ++ buffers.window) ++ bytes ≡ taken
+      → EndsSo most e new_left taken (a.steps ++ steps) (a.written ++ written)
       → Serves most e first new_left first_given new_given first_made new_made
   end-so e taken same ends = record {
     taken = taken;
     steps = a.steps ++ steps;
-    written = replies_of a.steps ++ written;
+    written = a.written ++ written;
     takes = subst (Consumes first new_left) same
-        (Consumes-trans first left new_left (a.done ++ inbox.window) bytes a.takes takes);
+        (Consumes-trans first left new_left (a.done ++ buffers.window) bytes a.takes takes);
     makes = makes ∙ ap (λ l. l ++ steps) a.makes ∙ append_assoc first_made a.steps steps;
-    writes = Appends-trans first_given given new_given (replies_of a.steps) written a.gives gives;
+    writes = Appends-trans first_given given new_given a.written written a.gives gives;
     ends = ends;
   }
 
-  same-bytes : bytes ≡ [] → (a.done ++ inbox.window) ++ bytes ≡ a.done ++ inbox.window
-  same-bytes none = ap (λ b. (a.done ++ inbox.window) ++ b) none ∙ append-nil (a.done ++ inbox.window)
+  same-bytes : bytes ≡ [] → (a.done ++ buffers.window) ++ bytes ≡ a.done ++ buffers.window
+  same-bytes none = ap (λ b. (a.done ++ buffers.window) ++ b) none ∙ append-nil (a.done ++ buffers.window)
 
-  same-steps : steps ≡ [] → a.steps ≡ a.steps ++ steps
-  same-steps none = sym (ap (λ s. a.steps ++ s) none ∙ append-nil a.steps)
-
-  same-written : written ≡ [] → replies_of a.steps ≡ replies_of a.steps ++ written
-  same-written none = sym (ap (λ s. replies_of a.steps ++ s) none ∙ append-nil (replies_of a.steps))
-
-  short : length (a.done ++ inbox.window) ≤ most
+  short : length (a.done ++ buffers.window) ≤ most
   short = omega (arith, a.counts, few)
 
-  same-served : (b : List ℕ) → steps ≡ [] → written ≡ [] → IsServed b a.steps (replies_of a.steps)
-      → IsServed b (a.steps ++ steps) (replies_of a.steps ++ written)
-  same-served b no_steps no_written s =
-      subst (λ w. IsServed b (a.steps ++ steps) w) (same-written no_written)
-      (subst (λ m. IsServed b m (replies_of a.steps)) (same-steps no_steps) s)
+  -- no step was made, and all replies were given
+  whole-served : (b : List ℕ) → steps ≡ [] → written ≡ buffers.kept → IsServed b a.steps (replies_of a.steps)
+      → IsServed b (a.steps ++ steps) (a.written ++ written)
+  whole-served b no_steps is s =
+      let same : a.steps ≡ a.steps ++ steps = sym (ap (λ s. a.steps ++ s) no_steps ∙ append-nil a.steps) in
+      let all : replies_of a.steps ≡ a.written ++ written = sym (ap (λ l. a.written ++ l) is ∙ a.keeps) in
+      subst (λ w. IsServed b (a.steps ++ steps) w) all (subst (λ m. IsServed b m (replies_of a.steps)) same s)
 
-  here : HasNone inbox.window → IsServed (a.done ++ inbox.window) a.steps (replies_of a.steps)
-  here = served a.done inbox.window a.steps a.framed
+  quiet-served : IsNothing buffers bytes steps written → HasNone buffers.window
+      → IsServed (a.done ++ buffers.window) (a.steps ++ steps) (a.written ++ written)
+  quiet-served (no_bytes, no_steps, is) none =
+      whole-served (a.done ++ buffers.window) no_steps is (served a.done buffers.window a.steps a.framed none)
 
-  place : (at : ℕ) → HasNone inbox.window
-      → at + length inbox.window ≡ inbox.taken → IsRestAt at (a.done ++ inbox.window)
-  place at none is = rest-at a.done inbox.window a.steps a.framed at none (is ∙ a.counts)
+  rest-is : HasNone buffers.window → rest_of (a.done ++ buffers.window) ≡ buffers.window
+  rest-is = rest a.done buffers.window a.steps a.framed
 
-  stops-so : (e : WireEnd) → StopsSo most e inbox new_left bytes steps written
+  place : (at : ℕ) → HasNone buffers.window
+      → at + length buffers.window ≡ buffers.taken → IsRestAt at (a.done ++ buffers.window)
+  place at none is = rest-at a.done buffers.window a.steps a.framed at none (is ∙ a.counts)
+
+  -- the steps and the replies are the first of those of the frames
+  part-served : (p : IsInPart buffers bytes steps written)
+      → IsServedInPart (a.done ++ buffers.window) (a.steps ++ steps) (a.written ++ written)
+  part-served (no_bytes, others, count, made_first, low, is) =
+      part a.done buffers.window a.steps a.framed steps others made_first (length a.written + count)
+      (a.written ++ written)
+      (ap (λ l. a.written ++ l) is
+      ∙ written-part a.written buffers.kept (replies_of steps) (replies_of a.steps) count low a.keeps
+      ∙ ap (take (length a.written + count)) (sym (flat_map-append made_bytes a.steps steps)))
+
+  stops-so : (e : WireEnd) → StopsSo most e buffers new_left bytes steps written
       → Serves most e first new_left first_given new_given first_made new_made
   stops-so ended.End (nothing, none, at_end) =
-      let quiet : HasNone inbox.window = subst HasNone (sym none) nil-none in
-      end-so ended.End (a.done ++ inbox.window) (same-bytes nothing.0) (
-        same-served _ nothing.1 nothing.2 (here quiet),
-        rest a.done inbox.window a.steps a.framed quiet ∙ none,
-        at_end,
-        short,
-      )
+      let quiet : HasNone buffers.window = subst HasNone (sym none) nil-none in
+      end-so ended.End (a.done ++ buffers.window) (same-bytes nothing.0)
+      (quiet-served nothing quiet, rest-is quiet ∙ none, at_end, short)
   stops-so (ended.Cut at) (nothing, cut, is, at_end) =
-      let quiet : HasNone inbox.window = cut-none inbox.window cut in
-      end-so (ended.Cut at) (a.done ++ inbox.window) (same-bytes nothing.0) (
-        same-served _ nothing.1 nothing.2 (here quiet),
-        subst IsCut (sym (rest a.done inbox.window a.steps a.framed quiet)) cut,
-        place at quiet is,
-        at_end,
-        short,
-      )
+      let quiet : HasNone buffers.window = cut-none buffers.window cut in
+      let behind : IsCut (rest_of (a.done ++ buffers.window)) = subst IsCut (sym (rest-is quiet)) cut in
+      end-so (ended.Cut at) (a.done ++ buffers.window) (same-bytes nothing.0)
+      (quiet-served nothing quiet, behind, place at quiet is, at_end, short)
   stops-so (ended.Bad at) (nothing, bad, is) =
-      let quiet : HasNone inbox.window = bad-none inbox.window bad in
-      end-so (ended.Bad at) (a.done ++ inbox.window) (same-bytes nothing.0) (
-        same-served _ nothing.1 nothing.2 (here quiet),
-        subst IsBad (sym (rest a.done inbox.window a.steps a.framed quiet)) bad,
-        place at quiet is,
-        short,
-      )
-  stops-so ended.TooLong (none, is, one, no_steps, no_written) =
-      let long : length (a.done ++ inbox.window) ≡ most = sym a.counts ∙ is in
-      let front : take most ((a.done ++ inbox.window) ++ bytes) ≡ a.done ++ inbox.window =
-      take_at (a.done ++ inbox.window) bytes most long in
-      end-so ended.TooLong ((a.done ++ inbox.window) ++ bytes) refl (
-        same-served _ no_steps no_written
-            (subst (λ b. IsServed b a.steps (replies_of a.steps)) (sym front) (here none)),
-        omega (arith, length-append (a.done ++ inbox.window) bytes),
+      let quiet : HasNone buffers.window = bad-none buffers.window bad in
+      end-so (ended.Bad at) (a.done ++ buffers.window) (same-bytes nothing.0)
+      (quiet-served nothing quiet, subst IsBad (sym (rest-is quiet)) bad, place at quiet is, short)
+  stops-so ended.TooLong (none, is, one, no_steps, given_all) =
+      let long : length (a.done ++ buffers.window) ≡ most = sym a.counts ∙ is in
+      let front : take most ((a.done ++ buffers.window) ++ bytes) ≡ a.done ++ buffers.window =
+      take_at (a.done ++ buffers.window) bytes most long in
+      end-so ended.TooLong ((a.done ++ buffers.window) ++ bytes) refl (
+        whole-served _ no_steps given_all
+            (subst (λ b. IsServed b a.steps (replies_of a.steps)) (sym front)
+            (served a.done buffers.window a.steps a.framed none)),
+        omega (arith, length-append (a.done ++ buffers.window) bytes),
       )
   stops-so ended.SourceFault (nothing, none) =
-      end-so ended.SourceFault (a.done ++ inbox.window) (same-bytes nothing.0)
-      (same-served _ nothing.1 nothing.2 (here none), short)
-  stops-so ended.SinkFault (no_bytes, in_part) =
-      end-so ended.SinkFault (a.done ++ inbox.window) (same-bytes no_bytes)
-      (part a.done inbox.window a.steps a.framed steps written in_part, short)
-  stops-so ended.OutOfMemory (no_bytes, in_part) =
-      end-so ended.OutOfMemory (a.done ++ inbox.window) (same-bytes no_bytes)
-      (part a.done inbox.window a.steps a.framed steps written in_part, short)
+      end-so ended.SourceFault (a.done ++ buffers.window) (same-bytes nothing.0) (quiet-served nothing none, short)
+  stops-so ended.SinkFault in_part =
+      end-so ended.SinkFault (a.done ++ buffers.window) (same-bytes in_part.0) (part-served in_part, short)
+  stops-so ended.OutOfMemory in_part =
+      end-so ended.OutOfMemory (a.done ++ buffers.window) (same-bytes in_part.0) (part-served in_part, short)
 
 -- where the server ends, it has served
 pub along-stops : (most : ℕ) (e : WireEnd) (first left new_left first_given given new_given : Option (List ℕ))
     (first_made made new_made : List Made)
-    (inbox : InboxState)
-    → Along first left first_given given first_made made inbox
-    → inbox.taken ≤ most → Stops most e inbox left new_left given new_given made new_made
+    (buffers : BuffersState)
+    → Along first left first_given given first_made made buffers
+    → buffers.taken ≤ most → Stops most e buffers left new_left given new_given made new_made
     → Serves most e first new_left first_given new_given first_made new_made
-along-stops most e first left new_left first_given given new_given first_made made new_made inbox a few s =
-    stops-so most first left new_left first_given given new_given first_made made new_made inbox a few
+along-stops most e first left new_left first_given given new_given first_made made new_made buffers a few s =
+    stops-so most first left new_left first_given given new_given first_made made new_made buffers a few
     s.bytes s.steps s.written s.takes s.makes s.gives e s.ends
 
 -- nothing was served

@@ -14,7 +14,7 @@ use Rattle.nofs_wire.specs.declared.server.serve.WireEnd.TheVariants as ended
 use Rattle.nofs_wire.specs.Frames.Split.{front_of, split_of, step_in, IsBad, IsCut}
 use Rattle.nofs_wire.specs.Frames.Replies.{reply_bytes}
 use Rattle.nofs_wire.specs.Server.Serve.{replies_of}
-use Rattle.nofs_wire.specs.Server.Inbox.{InboxState}
+use Rattle.nofs_wire.specs.Server.Buffers.{BuffersState}
 
 -- the count of faults of a source or a sink, where an end may be its fault
 pub record FailsAt (end : Type 0) (before now : ℕ) : Type 0 where
@@ -23,52 +23,34 @@ pub record FailsAt (end : Type 0) (before now : ℕ) : Type 0 where
   -- it rose where that end came
   pub fault : end → CountRose before now
 
--- a frame was given whole, or its first bytes
-abbrev pub GivesReply : Answered → List ℕ → Option (List ℕ) → Option (List ℕ) → Type 0
-GivesReply answered.Whole frame given new_given = Appends given new_given frame
-GivesReply answered.Bad frame given new_given = ⊥
-GivesReply answered.SinkFault frame given new_given = (count : ℕ) × Appends given new_given (take count frame)
-GivesReply answered.OutOfMemory frame given new_given = (count : ℕ) × Appends given new_given (take count frame)
-
--- the step was made or not, and the first bytes of its reply were given
-pub record AnswersInPart (step : Option Step) (made new_made : List Made)
-    (given new_given : Option (List ℕ)) : Type 0 where
+-- the step was made or not, and there is no reply
+pub record AnswersInPart (step : Option Step) (made new_made : List Made) : Type 0 where
   pub steps : List Made
   pub left : List Step
-  pub count : ℕ
   pub makes : new_made ≡ made ++ steps
   pub first : option_to_list step ≡ map made_step steps ++ left
-  pub gives : Appends given new_given (take count (replies_of steps))
 
--- the step was made, and its reply given whole
-pub record AnswersWhole (step : Option Step) (made new_made : List Made)
-    (given new_given : Option (List ℕ)) : Type 0 where
+-- the step was made, and this is the frame of its reply
+pub record AnswersWhole (step : Option Step) (made new_made : List Made) (frame : List ℕ) : Type 0 where
   pub one : Made
   pub is : step ≡ Some one.0
   pub makes : new_made ≡ made ++ one ∷ []
-  pub gives : Appends given new_given (reply_bytes one.1)
-
--- no step was there to be made
-pub record AnswersNone (step : Option Step) (made new_made : List Made)
-    (given new_given : Option (List ℕ)) : Type 0 where
-  pub none : step ≡ None
-  pub makes : new_made ≡ made
-  pub gives : Appends given new_given []
+  pub reply : frame ≡ reply_bytes one.1
 
 -- how far the step of a body was answered
-abbrev pub AnswersSo : Answered → Option Step → List Made → List Made → Option (List ℕ) → Option (List ℕ) → Type 0
-AnswersSo answered.Whole step made new_made given new_given = AnswersWhole step made new_made given new_given
-AnswersSo answered.Bad step made new_made given new_given = AnswersNone step made new_made given new_given
-AnswersSo answered.SinkFault step made new_made given new_given = AnswersInPart step made new_made given new_given
-AnswersSo answered.OutOfMemory step made new_made given new_given = AnswersInPart step made new_made given new_given
+abbrev pub AnswersSo : Answered → Option Step → List Made → List Made → List ℕ → Type 0
+AnswersSo answered.Whole step made new_made frame = AnswersWhole step made new_made frame
+AnswersSo answered.Bad step made new_made frame = (step ≡ None) × (new_made ≡ made)
+AnswersSo answered.OutOfMemory step made new_made frame = AnswersInPart step made new_made
 
 -- these bytes are the frames of just these steps, whatever follows
 abbrev pub IsFramed : List Made → List ℕ → Type 0
 IsFramed steps front =
     (rest : List ℕ) → split_of (front ++ rest) ≡ (map made_step steps ++ (split_of rest).0, (split_of rest).1)
 
--- the server goes on: it took bytes, and used others for the steps that it made and answered
-pub record GoesOn (old new : InboxState) (left new_left given new_given : Option (List ℕ))
+-- the server goes on: it took bytes, and used others for the steps that it made; replies to them or to earlier ones
+-- were given, and the others are kept
+pub record GoesOn (old new : BuffersState) (left new_left given new_given : Option (List ℕ))
     (made new_made : List Made) : Type 0 where
   pub bytes : List ℕ
   pub front : List ℕ
@@ -78,46 +60,58 @@ pub record GoesOn (old new : InboxState) (left new_left given new_given : Option
   pub uses : old.window ++ bytes ≡ front ++ new.window
   pub framed : IsFramed steps front
   pub makes : new_made ≡ made ++ steps
-  pub gives : Appends given new_given (replies_of steps)
+  pub written : List ℕ
+  pub gives : Appends given new_given written
+  pub keeps : old.kept ++ replies_of steps ≡ written ++ new.kept
   pub nearer : length new.window < length old.window + 2 * length bytes
 
--- nothing was taken, made or given
-abbrev pub IsNothing : List ℕ → List Made → List ℕ → Type 0
-IsNothing bytes steps written = (bytes ≡ []) × (steps ≡ []) × (written ≡ [])
+-- the step of the frame in front was made and the reply to it kept, or all that came is as it was
+abbrev pub KeepsAnswer : Answered → BuffersState → BuffersState → List Made → List Made → Type 0
+KeepsAnswer answered.Whole old new made new_made = (one : Made) × (front : List ℕ) × (old.window ≡ front ++ new.window)
+    × (0 < length front) × IsFramed (one ∷ []) front
+    × (new.taken ≡ old.taken) × (new.kept ≡ old.kept ++ reply_bytes one.1) × (new_made ≡ made ++ one ∷ [])
+KeepsAnswer answered.Bad old new made new_made = (new ≡ old) × IsBad old.window × (new_made ≡ made)
+KeepsAnswer answered.OutOfMemory old new made new_made =
+    (new ≡ old) × AnswersInPart (step_in (front_of old.window) old.window) made new_made
+
+-- nothing was taken or made, and the replies that were kept were given
+abbrev pub IsNothing : BuffersState → List ℕ → List Made → List ℕ → Type 0
+IsNothing buffers bytes steps written = (bytes ≡ []) × (steps ≡ []) × (written ≡ buffers.kept)
 
 -- no whole frame of a step is in front
 abbrev pub HasNone : List ℕ → Type 0
 HasNone window = step_in (front_of window) window ≡ None
 
--- the first of these steps were made, and the first bytes of their replies given
-abbrev pub IsInPart : Option Step → List Made → List ℕ → Type 0
-IsInPart step steps written =
-    (left : List Step) × (count : ℕ) × (option_to_list step ≡ map made_step steps ++ left)
-    × (written ≡ take count (replies_of steps))
+-- nothing was taken, the step in front was made or not, and the first bytes of the replies that were kept were given
+abbrev pub IsInPart : BuffersState → List ℕ → List Made → List ℕ → Type 0
+IsInPart buffers bytes steps written =
+    (bytes ≡ []) × (left : List Step) × (count : ℕ)
+    × (option_to_list (step_in (front_of buffers.window) buffers.window) ≡ map made_step steps ++ left)
+    × (count ≤ length buffers.kept) × (written ≡ take count buffers.kept)
 
 -- why it ends here, by the bytes that came and weren't used
-abbrev pub StopsSo : ℕ → WireEnd → InboxState → Option (List ℕ) → List ℕ → List Made → List ℕ → Type 0
-StopsSo most ended.End inbox left bytes steps written = IsNothing bytes steps written
-    × (inbox.window ≡ []) × IsAtEnd left
-StopsSo most (ended.Cut at) inbox left bytes steps written =
-    IsNothing bytes steps written × IsCut inbox.window × (at + length inbox.window ≡ inbox.taken) × IsAtEnd left
-StopsSo most (ended.Bad at) inbox left bytes steps written =
-    IsNothing bytes steps written × IsBad inbox.window × (at + length inbox.window ≡ inbox.taken)
-StopsSo most ended.TooLong inbox left bytes steps written =
-    HasNone inbox.window × (inbox.taken ≡ most) × (length bytes ≡ 1) × (steps ≡ []) × (written ≡ [])
-StopsSo most ended.SourceFault inbox left bytes steps written = IsNothing bytes steps written × HasNone inbox.window
-StopsSo most ended.SinkFault inbox left bytes steps written = (bytes ≡ [])
-    × IsInPart (step_in (front_of inbox.window) inbox.window) steps written
-StopsSo most ended.OutOfMemory inbox left bytes steps written = (bytes ≡ [])
-    × IsInPart (step_in (front_of inbox.window) inbox.window) steps written
+abbrev pub StopsSo : ℕ → WireEnd → BuffersState → Option (List ℕ) → List ℕ → List Made → List ℕ → Type 0
+StopsSo most ended.End buffers left bytes steps written =
+    IsNothing buffers bytes steps written × (buffers.window ≡ []) × IsAtEnd left
+StopsSo most (ended.Cut at) buffers left bytes steps written =
+    IsNothing buffers bytes steps written × IsCut buffers.window × (at + length buffers.window ≡ buffers.taken)
+    × IsAtEnd left
+StopsSo most (ended.Bad at) buffers left bytes steps written =
+    IsNothing buffers bytes steps written × IsBad buffers.window × (at + length buffers.window ≡ buffers.taken)
+StopsSo most ended.TooLong buffers left bytes steps written =
+    HasNone buffers.window × (buffers.taken ≡ most) × (length bytes ≡ 1) × (steps ≡ []) × (written ≡ buffers.kept)
+StopsSo most ended.SourceFault buffers left bytes steps written =
+    IsNothing buffers bytes steps written × HasNone buffers.window
+StopsSo most ended.SinkFault buffers left bytes steps written = IsInPart buffers bytes steps written
+StopsSo most ended.OutOfMemory buffers left bytes steps written = IsInPart buffers bytes steps written
 
 -- the server ends
-pub record Stops (most : ℕ) (end : WireEnd) (inbox : InboxState) (left new_left given new_given : Option (List ℕ))
+pub record Stops (most : ℕ) (end : WireEnd) (buffers : BuffersState) (left new_left given new_given : Option (List ℕ))
     (made new_made : List Made) : Type 0 where
   pub bytes : List ℕ
-  pub steps : List Made
-  pub written : List ℕ
   pub takes : Consumes left new_left bytes
+  pub steps : List Made
   pub makes : new_made ≡ made ++ steps
+  pub written : List ℕ
   pub gives : Appends given new_given written
-  pub ends : StopsSo most end inbox new_left bytes steps written
+  pub ends : StopsSo most end buffers new_left bytes steps written

@@ -113,22 +113,6 @@ fn refusal_byte(refusal: &Refusal) -> u8
     }
 }
 
-fn push_full(
-    out: &mut Vec<u8>,
-    needed: u64,
-    free: u64,
-    unverified: u64,
-    next: u64,
-) -> Result<(), AllocError>
-    ensures { OnOk result (out.new.items ≡ out.old.items
-        ++ (number_bytes 8 needed ++ (number_bytes 8 free ++ (number_bytes 8 unverified ++ number_bytes 8 next)))) }
-{
-    push_u64(out, needed)?;
-    push_u64(out, free)?;
-    push_u64(out, unverified)?;
-    push_u64(out, next)
-}
-
 fn push_kept(out: &mut Vec<u8>, refusal: &Refusal) -> Result<(), AllocError>
     ensures { OnOk result (out.new.items ≡ out.old.items ++ kept_bytes refusal.now) }
 {
@@ -140,7 +124,12 @@ fn push_kept(out: &mut Vec<u8>, refusal: &Refusal) -> Result<(), AllocError>
             free,
             unverified,
             next,
-        } => push_full(out, *needed, *free, *unverified, *next),
+        } => {
+            push_u64(out, *needed)?;
+            push_u64(out, *free)?;
+            push_u64(out, *unverified)?;
+            push_u64(out, *next)
+        }
         Refusal::InodesFull { unverified, next } => {
             push_u64(out, *unverified)?;
             push_u64(out, *next)

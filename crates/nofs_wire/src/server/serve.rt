@@ -1,13 +1,13 @@
 //! A server: steps come in frames from a source, and their replies go in frames to a sink.
 //!
-//! Promise: each whole frame's step is made once, in order, and each reply is given before the next frame's body is
-//! taken. No frame is answered before it is whole, and none is made up where the source ends.
+//! Promise: each whole frame's step is made once, in order, and each reply is given before the source is asked for
+//! further bytes. No frame is answered before it is whole, and none is made up where the source ends.
 ghost use Rattle.std.specs.Prelude.{◌≡◌, ◌+◌, ◌<◌, ◌≤◌, ◌^◌, [], IfSome, IfNone, List, None, Some, length, ℕ};
 ghost use Rattle.nofs_io.specs.Calls.{CountRose};
 ghost use Rattle.nofs_wire.specs.Frames.Split.{HasFront, front_of as front_in};
 ghost use Rattle.nofs_wire.specs.Server.Serve.{Serves};
-ghost use Rattle.nofs_wire.specs.Server.Turns.{FailsAt, GoesOn, Stops, StopsSo};
-ghost use Rattle.nofs_wire.specs.Server.Inbox.{MayTake};
+ghost use Rattle.nofs_wire.specs.Server.Turns.{FailsAt, GoesOn, KeepsAnswer, Stops, StopsSo};
+ghost use Rattle.nofs_wire.specs.Server.Buffers.{MayTake};
 ghost use Rattle.nofs_wire.specs.declared.server.serve.WireEnd.TheVariants.{Bad as bad_end};
 ghost use Rattle.nofs_history.specs.Steps.{Made};
 ghost use Rattle.std.specs.declared.option.Option.{Option};
@@ -16,7 +16,7 @@ ghost use Rattle.nofs_wire.specs.declared.frames.split.Front.TheVariants.{Whole 
 
 use crate::frames::split::{FRAME_LIMIT, Front, LENGTH_BYTES, front_body, front_of};
 use crate::server::answers::{Answered, answer};
-use crate::server::inbox::Inbox;
+use crate::server::buffers::Buffers;
 use nofs_history::Steps;
 use nofs_io::{Sink, Source};
 use std::alloc::Global;
@@ -46,9 +46,13 @@ pub enum WireEnd {
 
 /// Serves the frames of a source until it ends, a frame is bad or something fails.
 ///
-/// Each reply is given before the next frame's body is taken. At `SourceFault`, `Cut`, `Bad` and `End` the steps made
-/// are those of all whole frames taken, at `TooLong` of those in the first 16,777,216 bytes; all are answered. At
-/// `SinkFault` and `OutOfMemory` they are the first of them, and the last reply may be given in part or not at all.
+/// A call of the source takes what is there, up to 64 KiB, and the replies to its frames are given together: before the
+/// source is called again, at the end, and where they have 64 KiB. That no reply is kept at a call of the source is
+/// what `Buffers::fill` asks of its caller. This contract can't say it, since source and sink have no common order.
+///
+/// At `SourceFault`, `Cut`, `Bad` and `End` the steps made are those of all whole frames taken, at `TooLong` of those
+/// in the first 16,777,216 bytes; all are answered. At `SinkFault` and `OutOfMemory` they are the first of them: at
+/// `OutOfMemory` the last of them may have no reply, at `SinkFault` the first bytes of the replies were given.
 pub fn serve<S: Steps, Q: Source, K: Sink>(
     alloc: Global,
     steps: &mut S,
@@ -85,162 +89,196 @@ pub fn serve_up_to<S: Steps, Q: Source, K: Sink>(
     ensures source_later { (Q.state source.old).faults ≤ (Q.state source.new).faults }
     ensures sink_later { (K.state sink.old).faults ≤ (K.state sink.new).faults }
 {
-    let Ok(mut inbox) = Inbox::new(alloc) else {
+    let Ok(mut buffers) = Buffers::new(alloc) else {
         return WireEnd::OutOfMemory;
     };
-    let Ok(mut out) = Vec::with_capacity(alloc, FRAME_LIMIT) else {
+    let Ok(mut frame) = Vec::with_capacity(alloc, FRAME_LIMIT) else {
         return WireEnd::OutOfMemory;
     };
     loop {
-        match turn(alloc, limit, steps, source, sink, &mut inbox, &mut out) {
+        match turn(alloc, limit, steps, source, sink, &mut buffers, &mut frame) {
             Some(end) => return end,
             None => {}
         }
     }
 }
 
-// Answers the frame in front where it is whole, else takes further bytes; the end where there is one.
+// Answers the frame in front where it is whole, else gives all replies and takes further bytes; the end where there is
+// one. `frame` is room for the frame of a reply.
 fn turn<S: Steps, Q: Source, K: Sink>(
     alloc: Global,
     limit: u64,
     steps: &mut S,
     source: &mut Q,
     sink: &mut K,
-    inbox: &mut Inbox,
-    out: &mut Vec<u8>,
+    buffers: &mut Buffers,
+    frame: &mut Vec<u8>,
 ) -> Option<WireEnd>
-    requires may { MayTake limit inbox.old }
-    ensures on { IfNone result (GoesOn inbox.old inbox.new (Q.state source.old).left (Q.state source.new).left
+    requires may { MayTake limit buffers.old }
+    ensures on { IfNone result (GoesOn buffers.old buffers.new (Q.state source.old).left (Q.state source.new).left
         (K.state sink.old).given (K.state sink.new).given (S.made steps.old) (S.made steps.new)) }
-    ensures within { IfNone result (inbox.new.taken ≤ limit) }
-    ensures ends { IfSome result (λ end. Stops limit end inbox.old (Q.state source.old).left (Q.state source.new).left
+    ensures within { IfNone result (buffers.new.taken ≤ limit) }
+    ensures ends { IfSome result (λ end. Stops limit end buffers.old (Q.state source.old).left (Q.state source.new).left
         (K.state sink.old).given (K.state sink.new).given (S.made steps.old) (S.made steps.new)) }
     ensures goes { S.goes steps.old steps.new }
     ensures source { FailsAt (result ≡ Some WireEnd.SourceFault)
         (Q.state source.old).faults (Q.state source.new).faults }
     ensures sink { FailsAt (result ≡ Some WireEnd.SinkFault) (K.state sink.old).faults (K.state sink.new).faults }
 {
-    match front_of(inbox.window()) {
-        Front::Bad => Some(bad_at(inbox)),
-        Front::Whole { size } => answer_front(alloc, steps, sink, inbox, size, out),
-        Front::Short { wanted } => take_more(source, inbox, wanted, limit),
+    match front_of(buffers.window()) {
+        Front::Whole { size } => match buffers.give_many(sink) {
+            Err(_) => Some(WireEnd::SinkFault),
+            Ok(()) => answer_front(alloc, steps, sink, buffers, size, frame),
+        },
+        Front::Bad => match buffers.give(sink) {
+            Err(_) => Some(WireEnd::SinkFault),
+            Ok(()) => Some(bad_at(buffers)),
+        },
+        Front::Short { .. } => match buffers.give(sink) {
+            Err(_) => Some(WireEnd::SinkFault),
+            Ok(()) => take_more(source, buffers, limit),
+        },
     }
 }
 
 // The end at a bad frame in front.
-fn bad_at(inbox: &Inbox) -> WireEnd
-    requires { length inbox.now.window ≤ inbox.now.taken }
-    ensures { (at : ℕ) × (result ≡ bad_end at) × (at + length inbox.now.window ≡ inbox.now.taken) }
+fn bad_at(buffers: &Buffers) -> WireEnd
+    requires { length buffers.now.window ≤ buffers.now.taken }
+    ensures { (at : ℕ) × (result ≡ bad_end at) × (at + length buffers.now.window ≡ buffers.now.taken) }
 {
     WireEnd::Bad {
-        at: place_of(inbox),
+        at: place_of(buffers),
     }
 }
 
 // Where the first byte that wasn't used stands in the stream.
-fn place_of(inbox: &Inbox) -> u64
-    requires { length inbox.now.window ≤ inbox.now.taken }
-    ensures { result + length inbox.now.window ≡ inbox.now.taken }
+fn place_of(buffers: &Buffers) -> u64
+    requires { length buffers.now.window ≤ buffers.now.taken }
+    ensures { result + length buffers.now.window ≡ buffers.now.taken }
 {
-    inbox.taken() - inbox.window().len() as u64
+    buffers.taken() - buffers.window().len() as u64
 }
 
-// Answers the whole frame in front.
+// Answers the whole frame in front. Where the server ends with it, the replies that are kept are given first.
 fn answer_front<S: Steps, K: Sink>(
     alloc: Global,
     steps: &mut S,
     sink: &mut K,
-    inbox: &mut Inbox,
+    buffers: &mut Buffers,
     size: usize,
-    out: &mut Vec<u8>,
+    frame: &mut Vec<u8>,
 ) -> Option<WireEnd>
-    requires front { HasFront (whole_front size) inbox.old.window }
-    requires order { length inbox.old.window ≤ inbox.old.taken }
-    ensures on { (left : Option (List ℕ)) → IfNone result (GoesOn inbox.old inbox.new left left
+    requires front { HasFront (whole_front size) buffers.old.window }
+    requires order { length buffers.old.window ≤ buffers.old.taken }
+    ensures on { (left : Option (List ℕ)) → IfNone result (GoesOn buffers.old buffers.new left left
         (K.state sink.old).given (K.state sink.new).given (S.made steps.old) (S.made steps.new)) }
-    ensures taken { inbox.new.taken ≡ inbox.old.taken }
-    ensures ends { (left : Option (List ℕ)) (most : ℕ) → IfSome result (λ end. Stops most end inbox.old left left
+    ensures taken { IfNone result (buffers.new.taken ≡ buffers.old.taken) }
+    ensures ends { (left : Option (List ℕ)) (most : ℕ) → IfSome result (λ end. Stops most end buffers.old left left
         (K.state sink.old).given (K.state sink.new).given (S.made steps.old) (S.made steps.new)) }
     ensures goes { S.goes steps.old steps.new }
     ensures no_source_fault { result ≡ Some WireEnd.SourceFault → ⊥ }
     ensures sink { FailsAt (result ≡ Some WireEnd.SinkFault) (K.state sink.old).faults (K.state sink.new).faults }
 {
-    let body = front_body(inbox.window(), size);
-    match answer(alloc, steps, sink, body, out) {
-        Answered::Bad => Some(bad_at(inbox)),
-        Answered::SinkFault => Some(WireEnd::SinkFault),
-        Answered::OutOfMemory => Some(WireEnd::OutOfMemory),
-        Answered::Whole => {
-            inbox.pass(LENGTH_BYTES + size);
-            None
-        }
+    match keep_answer(alloc, steps, buffers, size, frame) {
+        Answered::Whole => None,
+        Answered::Bad => match buffers.give(sink) {
+            Err(_) => Some(WireEnd::SinkFault),
+            Ok(()) => Some(bad_at(buffers)),
+        },
+        Answered::OutOfMemory => match buffers.give(sink) {
+            Err(_) => Some(WireEnd::SinkFault),
+            Ok(()) => Some(WireEnd::OutOfMemory),
+        },
     }
 }
 
-// Takes what is wanted of the frame in front and the length of the next one, up to the limit of the stream.
-fn take_more<Q: Source>(
-    source: &mut Q,
-    inbox: &mut Inbox,
-    wanted: usize,
-    limit: u64,
-) -> Option<WireEnd>
-    requires front { HasFront (short_front wanted) inbox.old.window }
-    requires may { MayTake limit inbox.old }
+// Makes the step of the whole frame in front, and keeps the reply to it.
+fn keep_answer<S: Steps>(
+    alloc: Global,
+    steps: &mut S,
+    buffers: &mut Buffers,
+    size: usize,
+    frame: &mut Vec<u8>,
+) -> Answered
+    requires { HasFront (whole_front size) buffers.old.window }
+    ensures so { KeepsAnswer result buffers.old buffers.new (S.made steps.old) (S.made steps.new) }
+    ensures goes { S.goes steps.old steps.new }
+{
+    let body = front_body(buffers.window(), size);
+    match answer(alloc, steps, body, frame) {
+        Answered::Bad => Answered::Bad,
+        Answered::OutOfMemory => Answered::OutOfMemory,
+        Answered::Whole => match buffers.keep(frame) {
+            Err(_) => Answered::OutOfMemory,
+            Ok(()) => {
+                buffers.pass(LENGTH_BYTES + size);
+                Answered::Whole
+            }
+        },
+    }
+}
+
+// Takes what is there, up to the limit of the stream.
+fn take_more<Q: Source>(source: &mut Q, buffers: &mut Buffers, limit: u64) -> Option<WireEnd>
+    requires none_kept { buffers.old.kept ≡ [] }
+    requires short { (wanted : ℕ) × HasFront (short_front wanted) buffers.old.window }
+    requires may { MayTake limit buffers.old }
     ensures on { (given : Option (List ℕ)) (made : List Made)
         → IfNone result
-        (GoesOn inbox.old inbox.new (Q.state source.old).left (Q.state source.new).left given given made made) }
-    ensures within { IfNone result (inbox.new.taken ≤ limit) }
+        (GoesOn buffers.old buffers.new (Q.state source.old).left (Q.state source.new).left given given made made) }
+    ensures within { IfNone result (buffers.new.taken ≤ limit) }
     ensures ends { (given : Option (List ℕ)) (made : List Made)
         → IfSome result
-        (λ end. Stops limit end inbox.old (Q.state source.old).left (Q.state source.new).left given given made made) }
+        (λ end. Stops limit end buffers.old (Q.state source.old).left (Q.state source.new).left given given made made) }
     ensures source { FailsAt (result ≡ Some WireEnd.SourceFault)
         (Q.state source.old).faults (Q.state source.new).faults }
     ensures no_sink_fault { result ≡ Some WireEnd.SinkFault → ⊥ }
 {
-    let left = limit - inbox.taken();
+    let left = limit - buffers.taken();
     if left == 0 {
-        return Some(take_past(source, inbox));
+        return Some(take_past(source, buffers));
     }
-    let most = wanted + LENGTH_BYTES - inbox.window().len();
-    match inbox.fill(source, most.min(left as usize)) {
+    match buffers.fill(source, left as usize) {
         Err(_) => Some(WireEnd::SourceFault),
-        Ok(0) => Some(end_of(inbox)),
+        Ok(0) => Some(end_of(buffers)),
         Ok(_) => None,
     }
 }
 
 // The end of a stream of which so many bytes were taken as it may have.
-fn take_past<Q: Source>(source: &mut Q, inbox: &mut Inbox) -> WireEnd
-    requires short { (wanted : ℕ) × (front_in inbox.old.window ≡ short_front wanted) }
-    requires room { length inbox.old.window < 1104 }
-    requires small { inbox.old.taken < 2 ^ 32 }
-    requires order { length inbox.old.window ≤ inbox.old.taken }
+fn take_past<Q: Source>(source: &mut Q, buffers: &mut Buffers) -> WireEnd
+    requires none_kept { buffers.old.kept ≡ [] }
+    requires short { (wanted : ℕ) × (front_in buffers.old.window ≡ short_front wanted) }
+    requires room { length buffers.old.window < 65536 }
+    requires small { buffers.old.taken < 2 ^ 32 }
+    requires order { length buffers.old.window ≤ buffers.old.taken }
     ensures ends { (given : Option (List ℕ)) (made : List Made)
-        → Stops inbox.old.taken result inbox.old
+        → Stops buffers.old.taken result buffers.old
         (Q.state source.old).left (Q.state source.new).left given given made made }
     ensures source { FailsAt (result ≡ WireEnd.SourceFault) (Q.state source.old).faults (Q.state source.new).faults }
     ensures no_sink_fault { result ≡ WireEnd.SinkFault → ⊥ }
 {
-    match inbox.fill(source, 1) {
+    match buffers.fill(source, 1) {
         Err(_) => WireEnd::SourceFault,
-        Ok(0) => end_of(inbox),
+        Ok(0) => end_of(buffers),
         Ok(_) => WireEnd::TooLong,
     }
 }
 
 // The end where the source has ended.
-fn end_of(inbox: &Inbox) -> WireEnd
-    requires short { (wanted : ℕ) × (front_in inbox.now.window ≡ short_front wanted) }
-    requires order { length inbox.now.window ≤ inbox.now.taken }
-    ensures ends { (most : ℕ) (left : Option (List ℕ)) → IsAtEnd left → StopsSo most result inbox.now left [] [] [] }
+fn end_of(buffers: &Buffers) -> WireEnd
+    requires none_kept { buffers.now.kept ≡ [] }
+    requires short { (wanted : ℕ) × (front_in buffers.now.window ≡ short_front wanted) }
+    requires order { length buffers.now.window ≤ buffers.now.taken }
+    ensures ends { (most : ℕ) (left : Option (List ℕ)) → IsAtEnd left → StopsSo most result buffers.now left [] [] [] }
     ensures no_source_fault { result ≡ WireEnd.SourceFault → ⊥ }
     ensures no_sink_fault { result ≡ WireEnd.SinkFault → ⊥ }
 {
-    if inbox.window().is_empty() {
+    if buffers.window().is_empty() {
         WireEnd::End
     } else {
         WireEnd::Cut {
-            at: place_of(inbox),
+            at: place_of(buffers),
         }
     }
 }

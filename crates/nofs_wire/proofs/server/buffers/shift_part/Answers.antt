@@ -1,6 +1,6 @@
 use Rattle.std.proofs.Common.{ap, ◌∙◌, ◌-◌, take}
-use Rattle.nofs_wire.proofs.OnServer.Inbox.{shifted}
-use Rattle.nofs_wire.proofs.server.inbox.shift_part.Goals as goal
+use Rattle.nofs_wire.proofs.OnServer.Buffers.{shifted}
+use Rattle.nofs_wire.proofs.server.buffers.shift_part.Goals as goal
 
 pub returns-clause-moved : goal.returns-clause-moved
 returns-clause-moved c =

@@ -7,7 +7,7 @@ use Rattle.std.specs.Io.KnownBytes.{Consumes, Keeps, ReadConsumes}
 use lib.Seq.{paste, take-append-add}
 use Rattle.std.proofs.lemmas.List.{drop-take, length-take-le, take-append-le, take_at}
 use Rattle.std.proofs.lemmas.List.Edits.{take-paste}
-use Rattle.nofs_wire.specs.Server.Inbox.{TakesInto}
+use Rattle.nofs_wire.specs.Server.Buffers.{TakesInto}
 
 -- nothing was taken of what is kept
 pub consumes-nothing : (a b : Option (List ℕ)) → Keeps a b → Consumes a b []

@@ -1,7 +1,7 @@
 use Rattle.std.proofs.Common.{arith}
 use Rattle.std.proofs.lemmas.Grind.{common_steps}
-use Rattle.nofs_wire.proofs.OnServer.Inbox.{takes-into}
-use Rattle.nofs_wire.proofs.server.inbox.take_part.Goals as goal
+use Rattle.nofs_wire.proofs.OnServer.Buffers.{takes-into}
+use Rattle.nofs_wire.proofs.server.buffers.take_part.Goals as goal
 
 pub returns-clause-into : goal.returns-clause-into
 returns-clause-into g c =
