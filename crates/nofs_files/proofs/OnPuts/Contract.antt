@@ -59,26 +59,15 @@ abbrev climbing : (new : DiskState) {d : DiskState} {k l : Books} {H : List Entr
     → IsClimb d p i g slot at bytes r r' m way places cells c c2 → Takes k l c m → Climb
 climbing new {d} {k} {l} {H} {p} {i} {g} {slot} {at} {bytes} {r} {r'} {m} {way} {places} {cells} {c} {c2}
     is_d tells safe o f takes = record {
-      standing = record { old = d; k = k; H = H; p = p; is_old = is_d; tells = tells; o = o };
-      bytes = bytes;
       new = new;
-      i = i;
-      g = g;
-      slot = slot;
-      h = f.climbs;
-      at = at;
-      places = places;
-      r = r;
-      r' = r';
-      m = m;
-      needs = f.needs;
-      way = way;
-      cells = cells;
-      c = c;
-      c2 = c2;
       l = l;
-      claim = f.claim;
       safe = safe;
+      standing = record { old = d; k = k; H = H; p = p; is_old = is_d; tells = tells; o = o };
+      asked = record { i = i; g = g; slot = slot; at = at; bytes = bytes };
+      written = record { r = r; r' = r'; m = m; way = way; places = places; cells = cells; c = c; c2 = c2 };
+      h = f.climbs;
+      needs = f.needs;
+      claim = f.claim;
       takes = takes;
     }
 

@@ -98,25 +98,34 @@ pub record Climbs (X : Image) (i g slot at : ℕ) (bytes : List ℕ) (r r' : Rec
   pub top : is_claimed c.top ≡ true → IsAbove (slot_above (slot_above way)) way
       × (places (slot_above (slot_above way)) ≡ c.top)
 
--- a Put on its way: what it was asked, what it claims and writes, the disk and the books after it, and the mount that
--- it was asked of
-pub record Climb : Type 1 where
-  pub standing : Standing
-  pub open standing use *
-  pub bytes : List ℕ
-  pub new : DiskState
+-- what a Put is asked
+pub record Asked : Type 0 where
   pub i : ℕ
   pub g : ℕ
   pub slot : ℕ
   pub at : ℕ
-  pub places : Path → Pointer
+  pub bytes : List ℕ
+
+-- what it writes: the record before and after it, its way with m new slots, their places and cells, and its claims
+pub record Written : Type 0 where
   pub r : Record
   pub r' : Record
   pub m : ℕ
   pub way : Path
+  pub places : Path → Pointer
   pub cells : Path → Cell
   pub c : Claims
   pub c2 : Cell
+
+-- a Put on its way, with the disk and the books after it, and the mount that it was asked of
+pub record Climb : Type 1 where
+  pub standing : Standing
+  pub open standing use *
+  pub asked : Asked
+  pub open asked use *
+  pub written : Written
+  pub open written use *
+  pub new : DiskState
   pub l : Books
   pub safe : IsSafe old k
   pub h : Climbs old.now i g slot at bytes r r' m way places cells c c2
