@@ -100,7 +100,12 @@ impl<S: Batches, O: Course, T: Gate> BlockSweeper<S, O, T> {
         ensures room { self.new.out_of_memory ≡ true → S.lacks_room self.new.steps }
         ensures goes { S.goes self.old.steps self.new.steps }
     {
-        self.out_of_memory = sweep(ElementKind::Block, &mut self.steps, &self.order, &mut self.gate);
+        self.out_of_memory = sweep(
+            ElementKind::Block,
+            &mut self.steps,
+            &self.order,
+            &mut self.gate,
+        );
     }
 }
 

@@ -23,7 +23,12 @@ pub enum Answered {
 }
 
 /// Makes the step that a body spells, and makes `frame` the frame of its reply.
-pub(crate) fn answer<S: Steps>(alloc: Global, steps: &mut S, body: &[u8], frame: &mut Vec<u8>) -> Answered
+pub(crate) fn answer<S: Steps>(
+    alloc: Global,
+    steps: &mut S,
+    body: &[u8],
+    frame: &mut Vec<u8>,
+) -> Answered
     ensures so { AnswersSo result (step_of body.now) (S.made steps.old) (S.made steps.new) frame.new.items }
     ensures goes { S.goes steps.old steps.new }
 {
