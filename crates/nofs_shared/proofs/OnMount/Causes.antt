@@ -165,16 +165,12 @@ order-unroomed d P s K = record { claims = no_claims; entry = λ e. cc; order = 
 pub see-leaves : (old new : DiskState) (P : Files → Type 0) (s : Step) (r : Reply) (K : List Entry1) → is_see s ≡ true
     → StepOrder old new P s r K
     → KeepsCells old new
-see-leaves old new P (step.SeeInode i) r K e o = go o.order
+see-leaves old new P s r K e o = go s e o.order
   where
-    go : NoOrder old new P (step.SeeInode i) o.claims r → KeepsCells old new
-    go (LeavesDisk none cells) = cells
-    go (FlushesAlone is quick f) = absurd (cc is)
-    go (WritesAlone made w) = absurd w.count
-see-leaves old new P (step.SeeBlock b) r K e o = go o.order
-  where
-    go : NoOrder old new P (step.SeeBlock b) o.claims r → KeepsCells old new
-    go (LeavesDisk none cells) = cells
-    go (FlushesAlone is quick f) = absurd (cc is)
-    go (WritesAlone made w) = absurd w.count
-see-leaves old new P _ r K e o = absurd (cc e)
+    go : (s : Step) → is_see s ≡ true → NoOrder old new P s o.claims r → KeepsCells old new
+    go s e (LeavesDisk none cells) = cells
+    go (step.SeeInode i) e (FlushesAlone is quick f) = absurd (cc is)
+    go (step.SeeInode i) e (WritesAlone made w) = absurd w.count
+    go (step.SeeBlock b) e (FlushesAlone is quick f) = absurd (cc is)
+    go (step.SeeBlock b) e (WritesAlone made w) = absurd w.count
+    go _ e _ = absurd (cc e)

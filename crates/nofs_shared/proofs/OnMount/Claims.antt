@@ -61,6 +61,9 @@ pub unowned-none : (X : Image) (H K : List Entry1) → K ≡ H → Unowned X H K
 unowned-none X H K same e is x has =
     absurd (let a = ap length same in let b = ap length is in omega (arith, a, b, length-append H (e ∷ [])))
 
+pub unowned-kept : (X : Image) (k l : Books) → l.history ≡ k.history → Unowned X k.history.entries l.history.entries
+unowned-kept X k l same = unowned-none X k.history.entries l.history.entries (ap (λ h. h.entries) same)
+
 pub unowned-more : (found old new : DiskState) (first : ℕ) (k l : Books) (s : Step) (c : Claims) (r : Reply)
     (caller : ℕ) → Goes old k new l s c r
     → IsMount found old first k → is_out_of_memory r ≡ false → IsSoundDisk found

@@ -1,7 +1,6 @@
 -- A mount stands after a verdict of an earlier state is committed.
 use Rattle.std.proofs.Common.{◌≡◌, ℕ, ◌^◌, ◌<◌, ◌≤◌, arith, Bool, true, false, [], ◌∷◌, ◌++◌, set, IsTrue, ◌⊎◌, inl}
 use Rattle.std.proofs.Common.{inr, refl, sym, ap, ◌∙◌, subst, le_refl}
-use mathlib.Core.List.{IsPrefix}
 use Rattle.nofs_disk.specs.Disk.{DiskState}
 use Rattle.nofs_disk.specs.Chains.{IsSameDisk-refl, KeepsCells-refl, KeepsPast-refl}
 use Rattle.nofs_super.specs.Format.{super_cell}
@@ -24,18 +23,18 @@ use Rattle.nofs_state.specs.Books.Verdicts.{LearnsIt, OffersVerdict, StaysSo}
 use Rattle.nofs_scan.specs.Steps.Elements.{HasElement, is_used, learned, see_step, verdict_of}
 use Rattle.nofs_scan.specs.Steps.Commits.{Commits, WasOpen}
 use Rattle.nofs_shared.specs.Mount.Commits.{IsCommit, SeesVerdict}
+use Rattle.nofs_shared.specs.Mount.Earlier.{IsOfBooks}
 use Rattle.nofs_shared.specs.Acts.Sees.{is_see}
 use Rattle.nofs_shared.specs.Mount.Invariant.{IsMount, IsSoundDisk, MountStands}
+use Rattle.nofs_shared.proofs.OnMount.Histories.{entry_at}
 use Rattle.nofs_shared.proofs.OnMount.Steps.{Leads, mount-more}
 
 module _ (found early d : DiskState) (first : ℕ) (before k l : Books) (then : IsMount found early first before)
-    (m : IsMount found d first k)
-    (open_then : before.stopped ≡ false) (going : k.stopped ≡ false) (begun : before.history.start ≡ k.history.start)
-    (numbers : before.at ≡ k.at)
-    (begins : IsPrefix before.history.entries k.history.entries) where
+    (m : IsMount found d first k) (came : IsOfBooks before k) (going : k.stopped ≡ false) where
   -- the base of both is the disk that was found, with the mount number raised
   base-then : (p q : Past) → q.base ≡ early.was before.history.start → p.base ≡ d.was k.history.start → p.base ≡ q.base
-  base-then p q eq ep = ep ∙ m.mounted.base ∙ ap (λ (at : SuperBlock). set found.now 0 (super_cell at)) (sym numbers)
+  base-then p q eq ep =
+      ep ∙ m.mounted.base ∙ ap (λ (at : SuperBlock). set found.now 0 (super_cell at)) (sym came.numbers)
       ∙ sym then.mounted.base ∙ sym eq
 
   pub was-open : IsSoundDisk found → (p : Past) → p.base ≡ d.was k.history.start
@@ -48,13 +47,13 @@ module _ (found early d : DiskState) (first : ℕ) (before k l : Books) (then : 
       go : (o : Past) → o.base ≡ early.was before.history.start → o.first ≡ first
           → IsOpen early before before.history.entries o ⊎ IsStopped early before before.history.entries o
           → WasOpen early before k k.history.entries p
-      go o eb ef (inr s) = absurd (let e = s.stopped in cc (e, open_then))
+      go o eb ef (inr s) = absurd (let e = s.stopped in let g = came.going in cc (e, g))
       go o eb ef (inl s) = record {
         tells = subst (λ (b : Bool). IsTrue b) (sym then.disk.tells) q.tells;
         before = before.history.entries;
-        after = begins.0;
-        whole = sym begins.1;
-        start = begun;
+        after = came.begins.0;
+        whole = sym came.begins.1;
+        start = came.begun;
         past = o;
         mount = record { base = base-then p o eb base; first = serial ∙ sym ef };
         stood = s;
@@ -92,45 +91,18 @@ module _ (found early d : DiskState) (first : ℕ) (before k l : Books) (then : 
             refl in
             (t.0, t.1, inl t.2)
 
+    abbrev more_history : ℕ → ℕ → ℕ → Step → HistoryState
+    more_history from to spare s = record {
+      start = l.history.start;
+      entries = l.history.entries ++ entry_at caller from to s no_claims (reply.Seen result) ∷ [];
+      spare = spare;
+    }
+
     -- with the entry that the code writes
     pub mount-kept : (from to spare : ℕ) (s : Step) → s ≡ see_step kind item → from ≡ d.moment → to ≡ d.moment
-        → IsMount found d first (with_history l (record {
-          start = l.history.start;
-          entries =
-              l.history.entries ++ record {
-                caller = caller;
-                from = from;
-                to = to;
-                step = s;
-                reply = reply.Seen result;
-                claims = no_claims;
-              } ∷ [];
-          spare =
-              spare;
-        }))
-    mount-kept from to spare s same begin end =
-        mount-commits (record {
-          start = l.history.start;
-          entries =
-              l.history.entries ++ record {
-                caller = caller;
-                from = from;
-                to = to;
-                step = s;
-                reply = reply.Seen result;
-                claims = no_claims;
-              } ∷ [];
-          spare =
-              spare;
-        }) refl
-        (λ j. l.history.entries ++ record {
-          caller = caller;
-          from = begin j;
-          to = end j;
-          step = same j;
-          reply = reply.Seen result;
-          claims = no_claims;
-        } ∷ [])
+        → IsMount found d first (with_history l (more_history from to spare s))
+    mount-kept from to spare s same begin end = mount-commits (more_history from to spare s) refl
+        (λ j. l.history.entries ++ entry_at caller (begin j) (end j) (same j) no_claims (reply.Seen result) ∷ [])
 
     -- the answer is the verdict that stands, and right
     pub mount-answers : (h : HistoryState) → IsCommit found d k (with_history l h) kind item used (reply.Seen result)

@@ -32,6 +32,11 @@ use Rattle.nofs_shared.specs.Mount.Forms.{Cells, ExactCalls, Forms, IsNextEntry,
 use Rattle.nofs_shared.specs.Mount.Forms.{flushes_of, faults_in}
 use Rattle.nofs_shared.specs.Mount.Invariant.{IsMount, IsMounted}
 
+-- an entry with these moments
+abbrev pub entry_at : ℕ → ℕ → ℕ → Step → Claims → Reply → Entry1
+entry_at caller from to s c r =
+    record { caller = caller; from = from; to = to; step = s; reply = r; claims = c }
+
 -- The same books with another history
 pub safe-history : (k : Books) (h : HistoryState) (d : DiskState) → IsSafe d k → IsSafe d (with_history k h)
 safe-history k h d = safe-over d d k k.stopped h (IsSameDisk-refl d) refl

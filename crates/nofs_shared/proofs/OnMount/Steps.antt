@@ -110,6 +110,26 @@ module _ (old new : DiskState) (k l : Books) (r : Reply) (g : IsSafeStep old k n
         flushed : is_flushed r ≡ true → old.moment < new.moment
         flushed f = g.cause.flush (flushed-is r f)
 
+-- where the cells and the moment stay, so does what stands, given how the machine goes on and that images stay sound
+pub stands-still : (found old new : DiskState) (first : ℕ) (k : Books) → IsSameDisk old new → KeepsCells old new
+    → new.was k.history.start ≡ old.was k.history.start → (st : MountStands found old first k)
+    → IsOpen new k k.history.entries st.past ⊎ IsStopped new k k.history.entries st.past
+    → Sounds found.moment new → MountStands found new first k
+stands-still found old new first k disk cells was st now sound = record {
+  past = st.past;
+  base = st.base ∙ sym was;
+  serial = st.serial;
+  raised = st.raised;
+  now = now;
+  sound = sound;
+  along = subst (λ (X : Image). ImagesAlong st.past.base k.history.entries X) (sym cells.now) st.along;
+  machine = λ only. subst (λ (X : Image). IsOfImage st.past.world X) (sym cells.now) (st.machine only);
+  calls = subst (λ (n : ℕ). ExactCalls (agreed_files st.past.base) k.history.start n k.history.entries)
+      (sym cells.moment) st.calls;
+  rests = λ X p. subst (λ (n : ℕ). IsAllowed st.past.base k.history.entries n X) (sym cells.moment)
+      (st.rests X (picks-back old new disk cells X p));
+}
+
 module _ (found old new : DiskState) (first : ℕ) (k l : Books) (m : IsMount found old first k) where
   low : k.history.start ≤ old.moment
   low = forms-later k.history.entries k.history.start false old.moment k.stopped m.forms
@@ -131,20 +151,9 @@ module _ (found old new : DiskState) (first : ℕ) (k l : Books) (m : IsMount fo
     forms = subst (λ (n : ℕ). Forms k.history.start false k.history.entries n k.stopped)
         (sym keep.cells.moment) m.forms;
     counted = (let q = m.counted in let f = keep.disk.faults in omega (arith, q, f));
-    stands = λ q. let st = m.stands q in record {
-      past = st.past;
-      base = st.base ∙ sym (keep.past.was k.history.start low);
-      serial = st.serial;
-      raised = st.raised;
-      now = go st.past st.now;
-      sound = sounds-keep found.moment old new keep.disk keep.past keep.cells st.sound;
-      along = subst (λ (X : Image). ImagesAlong st.past.base k.history.entries X) (sym keep.cells.now) st.along;
-      machine = λ only. subst (λ (X : Image). IsOfImage st.past.world X) (sym keep.cells.now) (st.machine only);
-      calls = subst (λ (n : ℕ). ExactCalls (agreed_files st.past.base) k.history.start n k.history.entries)
-          (sym keep.cells.moment) st.calls;
-      rests = λ X p. subst (λ (n : ℕ). IsAllowed st.past.base k.history.entries n X) (sym keep.cells.moment)
-          (st.rests X (picks-back old new keep.disk keep.cells X p));
-    };
+    stands = λ q. let st = m.stands q in
+        stands-still found old new first k keep.disk keep.cells (keep.past.was k.history.start low) st
+        (go st.past st.now) (sounds-keep found.moment old new keep.disk keep.past keep.cells st.sound);
   }
     where
       go : (p : Past) → IsOpen old k k.history.entries p ⊎ IsStopped old k k.history.entries p

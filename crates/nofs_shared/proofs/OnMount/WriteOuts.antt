@@ -10,12 +10,10 @@ use Rattle.nofs_state.specs.Cores.Invariant.{IsOpen, IsStopped, Past}
 use Rattle.nofs_state.specs.declared.books.maps.Books.{Books}
 use Rattle.nofs_state.specs.Cores.WriteOuts.{WroteOne}
 use Rattle.nofs_state.proofs.OnCores.WriteOuts.{open-out, safe-out, sounds-out, stopped-out}
-use Rattle.nofs_shared.specs.Mount.Images.{ImagesAlong, IsOfImage}
-use Rattle.nofs_history.specs.Since.{agreed_files}
-use Rattle.nofs_shared.specs.Mount.Forms.{ExactCalls, Forms}
+use Rattle.nofs_shared.specs.Mount.Forms.{Forms}
 use Rattle.nofs_shared.specs.Mount.Invariant.{IsMount, IsMounted}
 use Rattle.nofs_shared.proofs.OnMount.Histories.{forms-later}
-use Rattle.nofs_shared.proofs.OnMount.Steps.{picks-back}
+use Rattle.nofs_shared.proofs.OnMount.Steps.{picks-back, stands-still}
 
 module _ (found old new : DiskState) (first : ℕ) (k : Books) (result : Result (Option ℕ) OutFault)
     (out : WroteOne old new result)
@@ -46,20 +44,9 @@ module _ (found old new : DiskState) (first : ℕ) (k : Books) (result : Result 
     mounted = mounted-out;
     forms = subst (λ (n : ℕ). Forms k.history.start false k.history.entries n k.stopped) (sym out.cells.moment) m.forms;
     counted = (let q = m.counted in let f = out.disk.faults in omega (arith, q, f));
-    stands = λ q. let st = m.stands q in record {
-      past = st.past;
-      base = st.base ∙ sym (out.was k.history.start began);
-      serial = st.serial;
-      raised = st.raised;
-      now = go st.past st.rests st.now;
-      sound = sounds-out old new result out found.moment st.sound;
-      along = subst (λ (X : Image). ImagesAlong st.past.base k.history.entries X) (sym out.cells.now) st.along;
-      machine = λ only. subst (λ (X : Image). IsOfImage st.past.world X) (sym out.cells.now) (st.machine only);
-      calls = subst (λ (n : ℕ). ExactCalls (agreed_files st.past.base) k.history.start n k.history.entries)
-          (sym out.cells.moment) st.calls;
-      rests = λ X p. subst (λ (n : ℕ). IsAllowed st.past.base k.history.entries n X) (sym out.cells.moment)
-          (st.rests X (picks-back old new out.disk out.cells X p));
-    };
+    stands = λ q. let st = m.stands q in
+        stands-still found old new first k out.disk out.cells (out.was k.history.start began) st
+        (go st.past st.rests st.now) (sounds-out old new result out found.moment st.sound);
   }
     where
       go : (p : Past) → ((X : Image) → Picks old.may old.blocks X → IsAllowed p.base k.history.entries old.moment X)

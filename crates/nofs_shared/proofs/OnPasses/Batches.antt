@@ -104,7 +104,7 @@ module _ {F : Type 0} (commits : F → List Entry1 → Reply → Type 0) (room :
     (v w : View Entry1 F) (r : Reply)
     (h : Ran (λ f xs ys q. TellsStep caller s xs ys q × commits f xs q × FindsRoom (room f) caller s xs q) v w r) where
   pub commit-step : StepRan room caller s v w r
-  commit-step = ran-less _ (λ f xs ys q. TellsStep caller s xs ys q × FindsRoom (room f) caller s xs q) v w r
+  commit-step = ran-less _ (λ f xs ys q. TellsStep caller s xs ys q × FindsRoom (room f) caller s xs q)
       (λ f xs ys q t. (t.0, t.2)) h
 
   pub commit-ran : CommitRan commits v w r

@@ -58,19 +58,19 @@ own_steps-append [] ys = refl
 own_steps-append (x ∷ xs) ys = λ i. done_of x.1 ∷ own_steps-append xs ys i
 
 -- what a section tells a pass, it tells less
-pub ran-less : {F Out : Type 0} (tells less : F → List Entry1 → List Entry1 → Out → Type 0) (v w : View Entry1 F)
-    (out : Out) → ((f : F) (xs ys : List Entry1) (q : Out) → tells f xs ys q → less f xs ys q) → Ran tells v w out
+pub ran-less : {F Out : Type 0} (tells less : F → List Entry1 → List Entry1 → Out → Type 0) {v w : View Entry1 F}
+    {out : Out} → ((f : F) (xs ys : List Entry1) (q : Out) → tells f xs ys q → less f xs ys q) → Ran tells v w out
     → Ran less v w out
-ran-less tells less v w out to h = record {
+ran-less tells less to h = record {
   part = h.part;
   before = h.before;
   after = h.after;
   looks_now = h.looks_now;
   same_part = h.same_part;
+  told = to h.part h.before h.after _ h.told;
   begins = h.begins;
   keeps = h.keeps;
   at_most_one = h.at_most_one;
-  told = to h.part h.before h.after out h.told;
   looked_more = h.looked_more;
   now = h.now;
 }
@@ -78,7 +78,7 @@ ran-less tells less v w out to h = record {
 -- a step through a pass is one
 pub step-ran : {F : Type 0} (room : F → ℕ) (caller : ℕ) (s : Step) (v w : View Entry1 F) (r : Reply)
     → StepRan room caller s v w r → Ran (λ f xs ys q. TellsStep caller s xs ys q) v w r
-step-ran room caller s v w r h = ran-less _ (λ f xs ys q. TellsStep caller s xs ys q) v w r (λ f xs ys q t. t.0) h
+step-ran room caller s v w r h = ran-less _ (λ f xs ys q. TellsStep caller s xs ys q) (λ f xs ys q t. t.0) h
 
 module _ {F : Type 0} (c : ℕ) (s : Step) (r : Reply) (v w : View Entry1 F)
     (h : Ran (λ (f : F) xs ys q. TellsStep c s xs ys q) v w r) where

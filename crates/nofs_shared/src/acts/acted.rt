@@ -6,15 +6,15 @@ ghost use Rattle.nofs_history.specs.declared.machine.replies.Reply.TheVariants a
 ghost use Rattle.nofs_history.specs.declared.machine.steps.Step.{Step};
 ghost use Rattle.nofs_history.specs.declared.machine.steps.Step.TheVariants as step;
 ghost use Rattle.nofs_inode.specs.declared.inode.FileKind.{FileKind};
-ghost use Rattle.nofs_files.specs.Reads.{flush_answer, got_answer, stat_answer};
+ghost use Rattle.nofs_scan.specs.Steps.Sees.{seen_answer};
 ghost use Rattle.nofs_files.specs.Puts.{put_answer};
+ghost use Rattle.nofs_files.specs.Reads.{flush_answer, got_answer, stat_answer};
 ghost use Rattle.nofs_files.specs.Resizes.{resize_answer};
 ghost use Rattle.nofs_names.specs.Drops.Answers.{drop_answer};
+ghost use Rattle.nofs_names.specs.Renames.Parts.{done_answer};
+ghost use Rattle.nofs_names.specs.Searches.Refusals.{look_answer};
 ghost use Rattle.nofs_names.specs.Lists.{HasListed, list_answer};
 ghost use Rattle.nofs_names.specs.Makes.{made_answer};
-ghost use Rattle.nofs_names.specs.Searches.Refusals.{look_answer};
-ghost use Rattle.nofs_names.specs.Renames.Parts.{done_answer};
-ghost use Rattle.nofs_scan.specs.Steps.Sees.{seen_answer};
 
 use nofs_dirent::Content;
 use nofs_files::Got;
@@ -119,23 +119,52 @@ pub(crate) fn got(done: Result<Got, Refusal>, room: Vec<u8>, bytes: &[u8; 1024])
     }
 }
 
+// The reply of a step that may claim: this one, where it was not refused.
+fn ended(done: Ended, reply: Reply) -> Acted
+    requires { IfErr done.result InRange }
+    ensures is { result ≡ record { reply = done_answer reply done.result; claims = done.claims } }
+    ensures fits { (s : Step) → Fits s reply → Fits s result.reply }
+{
+    let Ended { claims, result } = done;
+    match result {
+        Ok(()) => Acted { reply, claims },
+        Err(why) => Acted {
+            reply: Reply::Refused(why),
+            claims,
+        },
+    }
+}
+
 /// What a Put came to.
 pub(crate) fn stored(done: Ended) -> Acted
     requires { IfErr done.result InRange }
     ensures is { result ≡ record { reply = put_answer done.result; claims = done.claims } }
     ensures fits { (i g k at : ℕ) (bytes : List ℕ) → Fits (step.Put i g k at bytes) result.reply }
 {
-    let Ended { claims, result } = done;
-    match result {
-        Ok(()) => Acted {
-            reply: Reply::Stored,
-            claims,
-        },
-        Err(why) => Acted {
-            reply: Reply::Refused(why),
-            claims,
-        },
-    }
+    ended(done, Reply::Stored)
+}
+
+/// What a Make came to: the new file is what it claimed.
+pub(crate) fn made(done: Ended) -> Acted
+    requires { IfErr done.result InRange }
+    ensures is { result ≡ record { reply = made_answer done.claims done.result; claims = done.claims } }
+    ensures fits { (d g : ℕ) (name : List ℕ) (kind : FileKind) → Fits (step.Make d g name kind) result.reply }
+{
+    let Claims {
+        inode,
+        generation,
+        ..
+    } = done.claims;
+    ended(done, Reply::Made { inode, generation })
+}
+
+/// What a Link came to.
+pub(crate) fn linked(done: Ended) -> Acted
+    requires { IfErr done.result InRange }
+    ensures is { result ≡ record { reply = done_answer reply.Linked done.result; claims = done.claims } }
+    ensures fits { (d g : ℕ) (name : List ℕ) (i of : ℕ) → Fits (step.Link d g name i of) result.reply }
+{
+    ended(done, Reply::Linked)
 }
 
 /// What a Stat came to.
@@ -171,47 +200,6 @@ pub(crate) fn resized(done: Result<(), Refusal>) -> Acted
     match done {
         Ok(()) => unclaimed(Reply::Resized),
         Err(why) => refused(why),
-    }
-}
-
-/// What a Make came to: the new file is what it claimed.
-pub(crate) fn made(done: Ended) -> Acted
-    requires { IfErr done.result InRange }
-    ensures is { result ≡ record { reply = made_answer done.claims done.result; claims = done.claims } }
-    ensures fits { (d g : ℕ) (name : List ℕ) (kind : FileKind) → Fits (step.Make d g name kind) result.reply }
-{
-    let Ended { claims, result } = done;
-    match result {
-        Ok(()) => Acted {
-            reply: Reply::Made {
-                inode: claims.inode,
-                generation: claims.generation,
-            },
-            claims,
-        },
-        Err(why) => Acted {
-            reply: Reply::Refused(why),
-            claims,
-        },
-    }
-}
-
-/// What a Link came to.
-pub(crate) fn linked(done: Ended) -> Acted
-    requires { IfErr done.result InRange }
-    ensures is { result ≡ record { reply = done_answer reply.Linked done.result; claims = done.claims } }
-    ensures fits { (d g : ℕ) (name : List ℕ) (i of : ℕ) → Fits (step.Link d g name i of) result.reply }
-{
-    let Ended { claims, result } = done;
-    match result {
-        Ok(()) => Acted {
-            reply: Reply::Linked,
-            claims,
-        },
-        Err(why) => Acted {
-            reply: Reply::Refused(why),
-            claims,
-        },
     }
 }
 

@@ -8,6 +8,7 @@ ghost use Rattle.nofs_history.specs.declared.machine.steps.Step.TheVariants as s
 ghost use Rattle.nofs_state.specs.Books.Maps.{IsSafe};
 ghost use Rattle.nofs_state.specs.Cores.Steps.{Goes};
 ghost use Rattle.nofs_shared.specs.Acts.Contents.{reads_content};
+ghost use Rattle.nofs_shared.specs.Acts.Names.{is_on_names};
 ghost use Rattle.nofs_shared.specs.Acts.Sees.{is_see};
 ghost use Rattle.nofs_shared.specs.Mount.Flushes.{Settles};
 
@@ -46,18 +47,15 @@ fn get_content<D: Disk + Drop>(
     got(done, room, &bytes)
 }
 
-/// Makes one step. What of it needs memory takes it before anything is written. A step whose reply has the content of
-/// a slot has
-/// only read, and may be taken as one that found no memory.
-pub(crate) fn act<D: Disk + Drop>(core: &mut Core<D>, alloc: Global, step: &Step) -> Acted
-    requires { IsSafe (D.state core.old.disk) core.old.books }
+// Makes one step on a name, or on the names of a directory.
+fn act_on_names<D: Disk + Drop>(core: &mut Core<D>, alloc: Global, step: &Step) -> Acted
+    requires safe { IsSafe (D.state core.old.disk) core.old.books }
+    requires names { is_on_names step.now ≡ true }
     ensures goes { Goes (D.state core.old.disk) core.old.books
         (D.state core.new.disk) core.new.books step.now result.claims result.reply }
     ensures memory { reads_content step.now ≡ true → Goes (D.state core.old.disk) core.old.books
         (D.state core.new.disk) core.new.books step.now no_claims (reply.Refused refusal.OutOfMemory) }
     ensures fits { Fits step.now result.reply }
-    ensures sees { is_see step.now ≡ true → is_out_of_memory result.reply ≡ false }
-    ensures settled { Settles step.now result.reply (D.state core.new.disk) }
 {
     match step {
         Step::Look {
@@ -65,43 +63,6 @@ pub(crate) fn act<D: Disk + Drop>(core: &mut Core<D>, alloc: Global, step: &Step
             generation,
             name,
         } => found(look(core, *directory, *generation, name.as_slice())),
-        Step::Rename {
-            directory,
-            generation,
-            old,
-            new,
-        } => renamed(rename(
-            alloc,
-            core,
-            *directory,
-            *generation,
-            old.as_slice(),
-            new.as_slice(),
-        )),
-        Step::List {
-            directory,
-            generation,
-            slot,
-        } => listed(list(alloc, core, *directory, *generation, *slot)),
-        Step::Get {
-            inode,
-            generation,
-            slot,
-        } => get_content(core, alloc, *inode, *generation, *slot),
-        Step::Put {
-            inode,
-            generation,
-            bytes,
-            slot,
-            at,
-        } => stored(put(core, *inode, *generation, *slot, *at, bytes.as_slice())),
-        Step::Stat { inode, generation } => stated(stat(core, *inode, *generation)),
-        Step::Flush { inode, generation } => flushed(flush(core, *inode, *generation)),
-        Step::Resize {
-            inode,
-            generation,
-            size,
-        } => resized(resize(core, alloc, *inode, *generation, *size)),
         Step::Make {
             directory,
             generation,
@@ -128,6 +89,66 @@ pub(crate) fn act<D: Disk + Drop>(core: &mut Core<D>, alloc: Global, step: &Step
             generation,
             name,
         } => dropped(drop_name(core, alloc, *directory, *generation, name.as_slice())),
+        Step::Rename {
+            directory,
+            generation,
+            old,
+            new,
+        } => renamed(rename(
+            alloc,
+            core,
+            *directory,
+            *generation,
+            old.as_slice(),
+            new.as_slice(),
+        )),
+        Step::List {
+            directory,
+            generation,
+            slot,
+        } => listed(list(alloc, core, *directory, *generation, *slot)),
+        _ => unreachable!(),
+    }
+}
+
+/// Makes one step. What of it needs memory takes it before anything is written. A step whose reply has the content of
+/// a slot has only read, and may be taken as one that found no memory.
+pub(crate) fn act<D: Disk + Drop>(core: &mut Core<D>, alloc: Global, step: &Step) -> Acted
+    requires { IsSafe (D.state core.old.disk) core.old.books }
+    ensures goes { Goes (D.state core.old.disk) core.old.books
+        (D.state core.new.disk) core.new.books step.now result.claims result.reply }
+    ensures memory { reads_content step.now ≡ true → Goes (D.state core.old.disk) core.old.books
+        (D.state core.new.disk) core.new.books step.now no_claims (reply.Refused refusal.OutOfMemory) }
+    ensures fits { Fits step.now result.reply }
+    ensures sees { is_see step.now ≡ true → is_out_of_memory result.reply ≡ false }
+    ensures settled { Settles step.now result.reply (D.state core.new.disk) }
+{
+    match step {
+        Step::Look { .. } => act_on_names(core, alloc, step),
+        Step::Make { .. } => act_on_names(core, alloc, step),
+        Step::Link { .. } => act_on_names(core, alloc, step),
+        Step::Drop { .. } => act_on_names(core, alloc, step),
+        Step::Rename { .. } => act_on_names(core, alloc, step),
+        Step::List { .. } => act_on_names(core, alloc, step),
+        Step::Get {
+            inode,
+            generation,
+            slot,
+        } => get_content(core, alloc, *inode, *generation, *slot),
+        Step::Put {
+            inode,
+            generation,
+            bytes,
+            slot,
+            at,
+        } => stored(put(core, *inode, *generation, *slot, *at, bytes.as_slice())),
+        Step::Stat { inode, generation } => stated(stat(core, *inode, *generation)),
+        Step::Flush { inode, generation } => flushed(flush(core, *inode, *generation)),
+        Step::Resize {
+            inode,
+            generation,
+            size,
+        } => resized(resize(core, alloc, *inode, *generation, *size)),
         Step::SeeInode { inode } => seen(see_inode(core, *inode)),
         Step::SeeBlock { block } => seen(see_block(core, *block)),
     }

@@ -18,14 +18,11 @@ returns-clause-keeps g c = λ found first then m.
     subst₂ (λ (d : DiskState) (l : Books). IsMount (g.D.Disk.state found) d first l)
     (ap g.D.Disk.state (sym (c.keep_step.ensures.disk ∙ c.commit-stands.ensures.disk))) (sym c.keep_step.ensures.books)
     (mount-kept (g.D.Disk.state found) (g.D.Disk.state c.args.evidence.now.core.value.disk)
-    (g.D.Disk.state c.args.core.now.disk)
-    first c.args.evidence.now.core.value.books c.args.core.now.books c.commit-stands.new.core.books then m
-    c.requires.earlier.going c.if-core.false c.requires.earlier.begun c.requires.earlier.numbers
-    c.requires.earlier.begins
-    c.args.evidence.now.kind (verdict_at c.args.evidence.now.verdicts c.args.at).item c.args.used c.commit-stands.result
-    c.commit-stands.ensures.commits
-    c.args.caller
-    c.moment-from.result (g.D.Disk.state c.commit-stands.new.core.disk).moment
+    (g.D.Disk.state c.args.core.now.disk) first c.args.evidence.now.core.value.books c.args.core.now.books
+    c.commit-stands.new.core.books then m c.requires.earlier c.if-core.false c.args.evidence.now.kind
+    (verdict_at c.args.evidence.now.verdicts c.args.at).item c.args.used c.commit-stands.result
+    c.commit-stands.ensures.commits c.args.caller c.moment-from.result
+    (g.D.Disk.state c.commit-stands.new.core.disk).moment
     (c.commit-stands.new.core.books.history.spare - 1) c.step_of-step.result
     (c.step_of-step.ensures ∙ ap (see_step c.args.evidence.now.kind) c.item-item.ensures) c.moment-from.ensures
     (λ j. (g.D.Disk.state (c.commit-stands.ensures.disk j)).moment))
@@ -37,13 +34,10 @@ returns-clause-commits g c = λ found first then m.
     (verdict_at c.args.evidence.now.verdicts c.args.at).item c.args.used (reply.Seen c.commit-stands.result))
     (sym c.keep_step.ensures.books)
     (mount-answers (g.D.Disk.state found) (g.D.Disk.state c.args.evidence.now.core.value.disk)
-    (g.D.Disk.state c.args.core.now.disk)
-    first c.args.evidence.now.core.value.books c.args.core.now.books c.commit-stands.new.core.books then m
-    c.requires.earlier.going c.if-core.false c.requires.earlier.begun c.requires.earlier.numbers
-    c.requires.earlier.begins
-    c.args.evidence.now.kind (verdict_at c.args.evidence.now.verdicts c.args.at).item c.args.used c.commit-stands.result
-    c.commit-stands.ensures.commits
-    c.args.caller _)
+    (g.D.Disk.state c.args.core.now.disk) first c.args.evidence.now.core.value.books c.args.core.now.books
+    c.commit-stands.new.core.books then m c.requires.earlier c.if-core.false c.args.evidence.now.kind
+    (verdict_at c.args.evidence.now.verdicts c.args.at).item c.args.used c.commit-stands.result
+    c.commit-stands.ensures.commits c.args.caller _)
 
 pub returns-then-core-clause-commits : goal.returns-then-core-clause-commits
 returns-then-core-clause-commits g c = λ found first then m.

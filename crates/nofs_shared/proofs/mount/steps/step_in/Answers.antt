@@ -11,11 +11,11 @@ use Rattle.nofs_state.specs.declared.books.maps.Books.{Books}
 use Rattle.nofs_shared.specs.Mount.Invariant.{IsMount}
 use Rattle.nofs_shared.specs.Mount.Flushes.{Settles}
 use Rattle.nofs_shared.specs.Mount.Causes.{StepCauses, StepOrder}
-use Rattle.nofs_shared.proofs.OnMount.Claims.{unowned-none, unowned-more}
+use Rattle.nofs_shared.proofs.OnMount.Claims.{unowned-kept, unowned-more}
 use Rattle.nofs_shared.proofs.OnMount.Causes.{causes-kept, causes-none}
 use Rattle.nofs_shared.proofs.OnActs.Contents.{see-reads-none}
 use Rattle.nofs_shared.proofs.OnMount.Steps.{mount-none, mount-goes}
-use Rattle.nofs_shared.proofs.OnMount.Histories.{safe-history}
+use Rattle.nofs_shared.proofs.OnMount.Histories.{entry_at, safe-history}
 use Rattle.nofs_shared.proofs.OnActs.Room.{adds-none, settles-memory}
 use Rattle.nofs_shared.proofs.mount.steps.step_in.Goals as goal
 
@@ -30,9 +30,8 @@ returns-then-is_out_of_memory-clause-keeps g c = λ found first m.
 
 pub returns-then-is_out_of_memory-clause-claims : goal.returns-then-is_out_of_memory-clause-claims
 returns-then-is_out_of_memory-clause-claims g c = λ found first m q.
-    unowned-none (g.D.Disk.state c.args.core.now.disk).now c.args.core.now.books.history.entries
-    c.act-reply.new.core.books.history.entries
-    (ap (λ h. h.entries) c.act-reply.ensures.goes.history)
+    unowned-kept (g.D.Disk.state c.args.core.now.disk).now c.args.core.now.books c.act-reply.new.core.books
+    c.act-reply.ensures.goes.history
 
 pub returns-then-is_out_of_memory-clause-causes : goal.returns-then-is_out_of_memory-clause-causes
 returns-then-is_out_of_memory-clause-causes g c =
@@ -58,9 +57,8 @@ returns-in-Err-clause-keeps g c = λ found first m.
 
 pub returns-in-Err-clause-claims : goal.returns-in-Err-clause-claims
 returns-in-Err-clause-claims g c = λ found first m q.
-    unowned-none (g.D.Disk.state c.args.core.now.disk).now c.args.core.now.books.history.entries
-    c.act-reply.new.core.books.history.entries
-    (ap (λ h. h.entries) c.act-reply.ensures.goes.history)
+    unowned-kept (g.D.Disk.state c.args.core.now.disk).now c.args.core.now.books c.act-reply.new.core.books
+    c.act-reply.ensures.goes.history
 
 pub returns-in-Err-clause-tells : goal.returns-in-Err-clause-tells
 returns-in-Err-clause-tells g c = record {
@@ -101,15 +99,8 @@ returns-in-Ok-clause-keeps g c = λ found first m.
     c.args.step c.act-reply.result.claims c.act-reply.result.reply c.args.caller c.act-reply.ensures.goes
     (sym c.is_out_of_memory.ensures ∙ c.if-is_out_of_memory.false) _ refl
     (ap (λ (x : ℕ × Reply). c.act-reply.new.core.books.history.entries
-    ++ record {
-      caller = c.args.caller;
-      from = x.0;
-      to = (g.D.Disk.state c.act-reply.new.core.disk).moment;
-      step =
-          c.args.step;
-      reply = x.1;
-      claims = c.act-reply.result.claims;
-    } ∷ [])
+    ++ entry_at c.args.caller x.0 (g.D.Disk.state c.act-reply.new.core.disk).moment c.args.step
+    c.act-reply.result.claims x.1 ∷ [])
     (λ i. (c.moment-from.ensures i, c.in-Ok.ensures.same i))))
 
 pub returns-in-Ok-clause-claims : goal.returns-in-Ok-clause-claims
@@ -120,15 +111,8 @@ returns-in-Ok-clause-claims g c = λ found first m q.
     (sym c.is_out_of_memory.ensures ∙ c.if-is_out_of_memory.false) q c.keep_step.new.self.books.history.entries
     (ap (λ (l : Books). l.history.entries) c.keep_step.ensures.books
     ∙ ap (λ (x : List Entry1 × ℕ × Reply). x.0
-    ++ record {
-      caller = c.args.caller;
-      from = x.1;
-      to = (g.D.Disk.state c.act-reply.new.core.disk).moment;
-      step =
-          c.args.step;
-      reply = x.2;
-      claims = c.act-reply.result.claims;
-    } ∷ [])
+    ++ entry_at c.args.caller x.1 (g.D.Disk.state c.act-reply.new.core.disk).moment c.args.step
+    c.act-reply.result.claims x.2 ∷ [])
     (λ i. ((c.act-reply.ensures.goes.history i).entries, c.moment-from.ensures i, c.in-Ok.ensures.same i)))
 
 pub returns-in-Ok-clause-goes_on : goal.returns-in-Ok-clause-goes_on

@@ -27,15 +27,9 @@ commit_in-requires-clause-earlier g c = record {
 
 pub invariant_of-self : goal.invariant_of-self
 invariant_of-self g c =
-    let kept = roomed _ _ _ _ c.take_room.new.history _ c.take_room.ensures.stays c.args.self.now.few
-    c.args.self.now.safe c.args.self.now.stands in
-    record {
-      few = kept.few;
-      room = c.take_room.ensures.kept;
-      safe = kept.safe;
-      stands = kept.stands;
-      taken = taken-same _ _ c.take_room.new.history.entries c.take_room.ensures.stays.0 c.args.self.now.taken;
-    }
+    let is = roomed _ _ _ _ c.take_room.new.history _ c.take_room.ensures.stays c.args.self.now.few
+    c.args.self.now.taken c.args.self.now.safe c.args.self.now.stands in
+    record { few = is.few; room = c.take_room.ensures.kept; taken = is.taken; safe = is.safe; stands = is.stands }
 
 pub invariant_of-self-in-Some : goal.invariant_of-self-in-Some
 invariant_of-self-in-Some g c = record {
