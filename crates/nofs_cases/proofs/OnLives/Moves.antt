@@ -239,7 +239,6 @@ pair-case = (
 
 abbrev move-alone : IsAlone move_entries 1 1 a 1 1 b 3 (2 ^ 40) File
 move-alone = record {
-  before = [];
   look = look_entry;
   first = first_flush;
   link = link_entry;
@@ -253,6 +252,7 @@ move-alone = record {
   linked = refl;
   flushes_again = refl;
   drops = refl;
+  before = [];
 }
 
 pub move-case : MoveCase

@@ -187,11 +187,11 @@ hole-place = refl
 hole-claim : IsClaim full_world (step.Link 1 1 b 3 (2 ^ 40)) hole_claims
 unfolding place_for first_dead least_from path_of entry_of entry_fields number_at is_name
 hole-claim = record {
-  inode = NoInode refl refl;
   cell = Claimed refl (omega arith) refl;
   leaf = Unclaimed refl;
   top = Unclaimed refl;
   apart = ((λ y c. absurd (none-of c)), tt);
+  inode = NoInode refl refl;
 }
 
 full-plain : ArePlain full_image (pick (block_two 1) null null)

@@ -134,16 +134,16 @@ module _ (F : Files) (X Y : Image) (v : Value) (n s : ℕ) (ready : IsReady F X 
   make-lies g x y none range unpaired young spells made = record {
     files = ready.files;
     is = ready.root;
+    old = λ j some. ready.old j;
     generation = refl;
     folder = refl;
     range = range;
     unpaired = unpaired;
+    made = new-record Y 3 g (first_links 1 n 1) made;
     none = none;
     plain = refl;
     young = young;
     spells = spells;
-    made = new-record Y 3 g (first_links 1 n 1) made;
-    old = λ j some. ready.old j;
   }
 
   -- Link of b to inode 3, which has the name a
@@ -152,20 +152,20 @@ module _ (F : Files) (X Y : Image) (v : Value) (n s : ℕ) (ready : IsReady F X 
       → inode X 3 ≡ file_record one_link → inode Y 3 ≡ file_record (set_link one_link 1 (link_to 1 n 1))
       → LinkLies F X Y 1 1 n 3 (2 ^ 40) 1 s b (root_file v) (third_file one_link)
   link-lies spells is range unpaired before after = record {
+    old = λ j some. ready.old j;
     files = ready.files;
     is = ready.root;
     generation = refl;
     folder = refl;
     range = range;
     unpaired = unpaired;
+    place = omega arith;
     is_file = is;
     of_is = refl;
     file = refl;
     plain = refl;
-    place = omega arith;
-    spells = spells;
     linked = relinked X Y 3 (file_record one_link) (set_link one_link 1 (link_to 1 n 1)) before after;
-    old = λ j some. ready.old j;
+    spells = spells;
   }
 
   -- Drop of a name of inode 3, whose entry is cleared in place
@@ -174,16 +174,16 @@ module _ (F : Files) (X Y : Image) (v : Value) (n s : ℕ) (ready : IsReady F X 
       → EntryInPlace X Y 1 n 3 (zero_bytes 64) (block_two 1)
       → DropLies F X Y 1 1 n s (root_file v) (third_file links) (block_two 1) (entry_named name)
   drop-lies name links found paired is cleared = record {
+    generation = refl;
     files = ready.files;
     is = ready.root;
-    generation = refl;
-    found = found;
-    paired = paired;
-    named = is;
-    no_names = λ f. cc f;
+    old = λ j some. ready.old j;
     held = cleared.held;
     whole = cleared.whole;
     content = cleared.content;
     writes = cleared.writes;
-    old = λ j some. ready.old j;
+    no_names = λ f. cc f;
+    found = found;
+    paired = paired;
+    named = is;
   }

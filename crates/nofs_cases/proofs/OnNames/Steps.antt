@@ -172,6 +172,7 @@ rename-case = record {
   is = refl;
   generation = refl;
   found = refl;
+  old = λ j some. name-ready.old j;
   held = name-holds;
   whole = refl;
   spells = spells-b;
@@ -179,7 +180,6 @@ rename-case = record {
   writes = root-writes name_table name_table (short_entry_bytes 97 ++ z 960) (short_entry_bytes 98 ++ z 960)
       (file_record one_link) (file_record one_link)
       name-records name-records 0 (λ j ne. refl);
-  old = λ j some. name-ready.old j;
 }
 
 -- what holds after the Rename held before
@@ -214,11 +214,11 @@ pub name-homes-case : NameHomesCase
 unfolding entry_of entry_fields number_at is_name
 name-homes-case = record {
   claim = record {
-    inode = NoInode refl refl;
     cell = Unclaimed refl;
     leaf = Unclaimed refl;
     top = Unclaimed refl;
     apart = tt;
+    inode = NoInode refl refl;
   };
   writes = rename-writes;
   before = name-match;

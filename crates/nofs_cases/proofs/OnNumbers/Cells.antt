@@ -92,11 +92,11 @@ pub entry-in-place-case : EntryInPlaceCase
 entry-in-place-case = (
   name-numbers,
   record {
+    from = Before name-pointer;
     live = ap is_live (name-inode 1);
     slot = omega arith;
     area = data-two name_table (root_block (short_entry_bytes 97 ++ z 960)) blank;
     tag = link-tag;
-    from = Before name-pointer;
   },
   ap (λ (r : Record). kind_in r (InRecord 0)) (name-inode 1),
   record {
