@@ -207,7 +207,7 @@ class Reading:
                 yield place, entry
 
     def is_pair(self, directory, place, entry):
-        """Whether an entry is that of a pair; one that names inode 1 or 2 only where that is agreed (docs/DECISIONS.md)."""
+        """Whether an entry is that of a pair; one that names inode 1 or 2 only where that is agreed (docs/DEFINITIONS.md)."""
         if entry.inode in (ROOT, LABEL) and entry.inode not in self.world.agreed:
             return False
         record = self.world.record(entry.inode)
