@@ -13,16 +13,13 @@ use std::alloc::{AllocError, Global};
 use std::test::Fail;
 
 #[test]
-fn a_reply_is_given_before_the_next_body_is_taken(rt: HostRuntime) -> Result<(), Fail> {
+fn a_reply_is_given_before_more_is_taken(rt: HostRuntime) -> Result<(), Fail> {
     let alloc = rt.alloc();
     let stream = joined(alloc, &[STAT, GET_0])?;
-    let third = Faults {
-        reads: &[3],
-        ..NO_FAULTS
-    };
-    let mut served = serve_faulty(alloc, &stream, 4096, third, &[])?;
+    let second = failing_reads(&[2]);
+    let mut served = serve_faulty(alloc, &stream, 21, second, &[])?;
     let fault = WireEnd::SourceFault;
-    expect(&rt, &served, fault, STAT, STOPPED_REPLY, 3);
+    expect(&rt, &served, fault, STAT, STOPPED_REPLY, 2);
     match read_all(alloc, &mut served.source, 100) {
         Ok(left) => assert_eq!(rt; left.as_slice(), &GET_0[4..]),
         Err(_) => assert!(rt; false),
@@ -69,7 +66,7 @@ fn each_call_of_a_source_fails_once(rt: HostRuntime) -> Result<(), Fail> {
 fn each_call_of_a_sink_fails_once(rt: HostRuntime) -> Result<(), Fail> {
     let alloc = rt.alloc();
     for number in 1..5u64 {
-        let served = serve_stats(alloc, 4096, failing_writes(&[number]))?;
+        let served = serve_stats(alloc, 17, failing_writes(&[number]))?;
         let want = if number < 4 {
             WireEnd::SinkFault
         } else {
@@ -79,6 +76,14 @@ fn each_call_of_a_sink_fails_once(rt: HostRuntime) -> Result<(), Fail> {
         let given = number.saturating_sub(1).min(3);
         assert_eq!(rt; counts(&served), (number.min(3), given), "{number}");
     }
+    Ok(())
+}
+
+#[test]
+fn the_replies_to_one_piece_fail_together(rt: HostRuntime) -> Result<(), Fail> {
+    let served = serve_stats(rt.alloc(), 4096, failing_writes(&[1]))?;
+    assert_eq!(rt; served.end, WireEnd::SinkFault);
+    assert_eq!(rt; counts(&served), (3, 0));
     Ok(())
 }
 

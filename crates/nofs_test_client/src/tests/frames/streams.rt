@@ -73,7 +73,7 @@ fn a_frame_that_spells_no_step_is_bad(rt: HostRuntime) -> Result<(), Fail> {
 }
 
 /// A put of so many bytes, whose frame begins with these.
-fn put_of(alloc: Global, length: &[u8], count: u64) -> Result<Vec<u8>, AllocError> {
+pub(crate) fn put_of(alloc: Global, length: &[u8], count: u64) -> Result<Vec<u8>, AllocError> {
     let mut frame = length.to_vec(alloc)?;
     frame.extend_from_slice(b"\x08\x02\0\0\0\x02\0\0\0\0\0\0\0\x01\0\0\0\0\0\0\0\0\0\0\0")?;
     for _ in 0..count {
