@@ -48,14 +48,14 @@ entries-tag : tag_of deep_entries.tag
 unfolding tag_of number_at
 entries-tag = refl
 
+entries-slot : tag_of deep_entries.tag ≡ Some (tag_for deep_image 1 (Under leaf 0) (2 ^ 40 + 1))
+unfolding slot_of
+entries-slot = tag-is deep_image 1 (Under leaf 0) deep_root deep_entries (2 ^ 40 + 1) (deep-inode 1) entries-tag
+
 leaf-tag : tag_of root_leaf.tag
     ≡ Some (record { kind = Leaf; inode = 1; generation = 1; slot = 2 ^ 32; stamp = 2 ^ 40 + 2 })
 unfolding tag_of number_at
 leaf-tag = refl
-
-entries-slot : tag_of deep_entries.tag ≡ Some (tag_for deep_image 1 (Under leaf 0) (2 ^ 40 + 1))
-unfolding slot_of
-entries-slot = tag-is deep_image 1 (Under leaf 0) deep_root deep_entries (2 ^ 40 + 1) (deep-inode 1) entries-tag
 
 leaf-slot : tag_of root_leaf.tag ≡ Some (tag_for deep_image 1 leaf (2 ^ 40 + 2))
 unfolding slot_of

@@ -12,7 +12,7 @@ use Rattle.nofs_crashlaw.specs.Names.NewEntries.{MakeLies, EntryInHole}
 use Rattle.nofs_crashlaw.specs.Machine.Examples.{a}
 use Rattle.nofs_cases.specs.Disks.Images.{z, image_of, first_image, label_bytes, pointer_bytes, stamp_bytes, table_of}
 use Rattle.nofs_cases.specs.Disks.Worlds.{root_file, first_files, block_two}
-use Rattle.nofs_cases.specs.Steps.Leaf.{block_three}
+use Rattle.nofs_cases.specs.Steps.Leaf.{block_three, leaf_of}
 use Rattle.nofs_cases.specs.Names.Disks.{short_entry_bytes, file_bytes, link_bytes}
 
 -- the leaf of the root is block 3, and inode 3 has its name in entry 128
@@ -28,10 +28,7 @@ deep_entries =
 
 -- the leaf, whose first pointer leads there
 abbrev pub root_leaf : Cell
-root_leaf = record {
-  payload = pointer_bytes 2 1 ++ z 1008;
-  tag = 3 ∷ z 3 ++ 1 ∷ z 3 ++ 1 ∷ z 7 ++ z 4 ++ 1 ∷ z 3 ++ stamp_bytes 2;
-}
+root_leaf = leaf_of 1 1 2
 
 abbrev pub deep_image : Image
 deep_image = image_of deep_table deep_entries root_leaf

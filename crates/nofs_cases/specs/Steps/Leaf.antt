@@ -1,5 +1,5 @@
 -- An instance of the laws of a Put at depth: to slot 8 of the empty label file, with its leaf.
-use Rattle.std.specs.Prelude.{◌+◌, ◌^◌, [], ◌∷◌, ◌++◌}
+use Rattle.std.specs.Prelude.{ℕ, ◌+◌, ◌^◌, [], ◌∷◌, ◌++◌}
 use Rattle.nofs_disk.specs.declared.tag.Cell.{Cell}
 use Rattle.nofs_disk.specs.declared.tag.Pointer.{Pointer}
 use Rattle.nofs_disk.specs.Pointer.{null}
@@ -23,12 +23,16 @@ leaf_table = table_of (root_bytes (z 16))
 abbrev pub deep_block : Cell
 deep_block = record { payload = 7 ∷ z 1023; tag = 1 ∷ z 3 ++ 2 ∷ z 3 ++ 2 ∷ z 7 ++ 8 ∷ z 7 ++ stamp_bytes 0 }
 
+-- a leaf of inode i of generation i with stamp 2 ^ 40 + s, whose first pointer leads to block 2 with stamp 2 ^ 40 + p
+abbrev pub leaf_of : ℕ → ℕ → ℕ → Cell
+leaf_of i p s = record {
+  payload = pointer_bytes 2 p ++ z 1008;
+  tag = 3 ∷ z 3 ++ i ∷ z 3 ++ i ∷ z 7 ++ z 4 ++ 1 ∷ z 3 ++ stamp_bytes s;
+}
+
 -- the leaf, whose first pointer leads there
 abbrev pub leaf_block : Cell
-leaf_block = record {
-  payload = pointer_bytes 2 0 ++ z 1008;
-  tag = 3 ∷ z 3 ++ 2 ∷ z 3 ++ 2 ∷ z 7 ++ z 4 ++ 1 ∷ z 3 ++ stamp_bytes 1;
-}
+leaf_block = leaf_of 2 0 1
 
 abbrev pub leaf_image : Image
 leaf_image = image_of leaf_table deep_block leaf_block
