@@ -1,12 +1,12 @@
 //! A formatted disk, its mount, and the mount after one Put.
 ghost use Rattle.std.specs.Prelude.{◌≡◌, [], false, true, codes, IfOk, IsTrue, OnOk};
 ghost use Rattle.nofs_memdisk.specs.Parts.{memory_state};
-ghost use Rattle.nofs_history.specs.declared.machine.replies.Reply.TheVariants as reply;
-ghost use Rattle.nofs_history.specs.declared.machine.steps.Step.TheVariants as step;
 ghost use Rattle.nofs_shared.specs.Mount.Invariant.{IsSoundDisk};
 ghost use Rattle.nofs_shared.specs.Laws.{IsBlankDisk};
 ghost use Rattle.nofs_cases.specs.Mounts.Open.{StandsOpen};
 ghost use Rattle.nofs_cases.specs.Mounts.Replies.{AddsOne, SeesAndPuts, tells_free, is_stored};
+ghost use Rattle.nofs_history.specs.declared.machine.replies.Reply.TheVariants as reply;
+ghost use Rattle.nofs_history.specs.declared.machine.steps.Step.TheVariants as step;
 
 use nofs_crashlaw::law_homes;
 use nofs_dirent::Content;

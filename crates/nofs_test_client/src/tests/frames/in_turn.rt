@@ -28,32 +28,32 @@ fn end_of(alloc: Global, stream: &[u8], faults: Faults<'_>) -> Result<WireEnd, A
 }
 
 #[test]
-fn three_hundred_frames_cost_two_reads_and_one_write(rt: HostRuntime) -> Result<(), Fail> {
-    let alloc = rt.alloc();
-    let stream = repeated(alloc, GET_0, 300)?;
-    for (faults, want) in [
-        (failing_reads(&[2]), WireEnd::SourceFault),
-        (failing_reads(&[3]), WireEnd::End),
-        (failing_writes(&[1]), WireEnd::SinkFault),
-        (failing_writes(&[2]), WireEnd::End),
-    ] {
-        assert_eq!(rt; end_of(alloc, &stream, faults)?, want);
-    }
-    Ok(())
-}
-
-#[test]
-fn three_hundred_long_frames_cost_a_call_for_each_64_kib(rt: HostRuntime) -> Result<(), Fail> {
+fn three_hundred_frames_cost_a_call_for_each_64_kib(rt: HostRuntime) -> Result<(), Fail> {
     let alloc = rt.alloc();
     let longest = put_of(alloc, b"\x4c\x04\0\0", 1075)?;
-    let stream = repeated(alloc, &longest, 300)?;
-    for (faults, want) in [
-        (failing_reads(&[7]), WireEnd::SourceFault),
-        (failing_reads(&[8]), WireEnd::End),
-        (failing_writes(&[6]), WireEnd::SinkFault),
-        (failing_writes(&[7]), WireEnd::End),
+    for (frame, reads, writes) in [
+        (GET_0, [2, 3], [1, 2]),
+        (longest.as_slice(), [7, 8], [6, 7]),
     ] {
-        assert_eq!(rt; end_of(alloc, &stream, faults)?, want);
+        let stream = repeated(alloc, frame, 300)?;
+        let [last, past] = reads;
+        assert_eq!(rt;
+            end_of(alloc, &stream, failing_reads(&[last]))?,
+            WireEnd::SourceFault
+        );
+        assert_eq!(rt;
+            end_of(alloc, &stream, failing_reads(&[past]))?,
+            WireEnd::End
+        );
+        let [last, past] = writes;
+        assert_eq!(rt;
+            end_of(alloc, &stream, failing_writes(&[last]))?,
+            WireEnd::SinkFault
+        );
+        assert_eq!(rt;
+            end_of(alloc, &stream, failing_writes(&[past]))?,
+            WireEnd::End
+        );
     }
     Ok(())
 }
