@@ -33,19 +33,15 @@ from-none P commands script old new made old_lines lines said is none no_lines m
     let s : said ≡ lines = sym (more_lines ∙ ap (λ l. l ++ said) no_lines) in
     subst (λ (q : List Command × List Made × List Line). P q.0 q.1 q.2) (λ i. (is i, m i, s i)) driven
 
-pub runs-some : (commands script : List Command) (old new : List Made) (old_lines lines : List Line)
-    → commands ≡ script → old ≡ [] → old_lines ≡ []
-    → RunsSome commands old new old_lines lines → IsPartlyDriven script new lines
-runs-some commands script old new old_lines lines is none no_lines r =
-    from-none IsPartlyDriven commands script old new r.made old_lines lines r.said is none no_lines r.more
-    r.more_lines r.driven
+module _ (commands script : List Command) (old new : List Made) (old_lines lines : List Line)
+    (is : commands ≡ script) (none : old ≡ []) (no_lines : old_lines ≡ []) where
+  pub runs-some : RunsSome commands old new old_lines lines → IsPartlyDriven script new lines
+  runs-some r = from-none IsPartlyDriven commands script old new r.made old_lines lines r.said is none no_lines
+      r.more r.more_lines r.driven
 
-pub runs-all : (commands script : List Command) (old new : List Made) (old_lines lines : List Line)
-    → commands ≡ script → old ≡ [] → old_lines ≡ []
-    → RunsAll commands old new old_lines lines → IsDriven script new lines
-runs-all commands script old new old_lines lines is none no_lines r =
-    from-none IsDriven commands script old new r.made old_lines lines r.said is none no_lines r.more
-    r.more_lines r.driven
+  pub runs-all : RunsAll commands old new old_lines lines → IsDriven script new lines
+  runs-all r = from-none IsDriven commands script old new r.made old_lines lines r.said is none no_lines
+      r.more r.more_lines r.driven
 
 module _ {S T : Type 0} {made : S → List Made} {goes : S → S → Type 0} where
   zips : (xs ys : List (UserWorker S T)) → length ys ≡ length xs

@@ -35,26 +35,6 @@ pub trait Visits {
         ensures goes { S.goes steps.old steps.new };
 }
 
-impl<S: Steps, T: Gate> Works for UserWorker<S, T> {
-    ghost use Rattle.nofs_workers.specs.User.{WorkedAsUser};
-
-    ghost worked = { WorkedAsUser S.made S.goes };
-
-    fn work(&mut self) {
-        UserWorker::work(self);
-    }
-}
-
-impl<S: WritesOut, T: Gate> Works for Flusher<S, T> {
-    ghost use Rattle.nofs_workers.specs.Flusher.{Flushes};
-
-    ghost worked = { Flushes S.made S.wrote S.goes };
-
-    fn work(&mut self) {
-        Flusher::work(self);
-    }
-}
-
 impl<S: Batches, O: Course, T: Gate> Works for InodeSweeper<S, O, T> {
     ghost use Rattle.std.specs.Prelude.{◌≡◌, true};
     ghost use Rattle.nofs_history.specs.declared.machine.steps.ElementKind.TheVariants.{Inode};
@@ -84,5 +64,25 @@ impl<S: Batches, O: Course, T: Gate> Works for BlockSweeper<S, O, T> {
 
     fn work(&mut self) {
         BlockSweeper::work(self);
+    }
+}
+
+impl<S: Steps, T: Gate> Works for UserWorker<S, T> {
+    ghost use Rattle.nofs_workers.specs.User.{WorkedAsUser};
+
+    ghost worked = { WorkedAsUser S.made S.goes };
+
+    fn work(&mut self) {
+        UserWorker::work(self);
+    }
+}
+
+impl<S: WritesOut, T: Gate> Works for Flusher<S, T> {
+    ghost use Rattle.nofs_workers.specs.Flusher.{Flushes};
+
+    ghost worked = { Flushes S.made S.wrote S.goes };
+
+    fn work(&mut self) {
+        Flusher::work(self);
     }
 }

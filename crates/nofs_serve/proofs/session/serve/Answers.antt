@@ -39,8 +39,7 @@ run_team-pass-requires-clause-passes g c κs within =
 
 pub unreachable-requires : goal.unreachable-requires
 unreachable-requires g c =
-    let t = c.run_team-pass.ensures.gathered
-    (fresh (g.V.Kept.fixed c.args.mount) (g.V.Kept.entries c.args.mount) _) refl refl
+    let t = c.run_team-pass.ensures.gathered (fresh _ _ _) refl refl
     (λ k d h. (c.in-Ok-new.ensures.passes.1 k d h).1) in
     let e = c.in_default-close.ensures.out in
     let low = e.2 in
@@ -53,32 +52,22 @@ unreachable-requires g c =
 
 pub returns-clause-fixed : goal.returns-clause-fixed
 returns-clause-fixed g c =
-    let t = c.run_team-pass.ensures.gathered
-    (fresh (g.V.Kept.fixed c.args.mount) (g.V.Kept.entries c.args.mount) _) refl refl
+    let t = c.run_team-pass.ensures.gathered (fresh _ _ _) refl refl
     (λ k d h. (c.in-Ok-new.ensures.passes.1 k d h).1) in
     ap (λ o. option_map_or (λ x. x) o (g.V.Kept.fixed c.args.mount))
     (sym c.in-Ok-close.ensures.closed.0.same_part ∙ t.gathers.fixed)
 
 pub returns-clause-served : goal.returns-clause-served
 returns-clause-served g c =
-    let t = c.run_team-pass.ensures.gathered
-    (fresh (g.V.Kept.fixed c.args.mount) (g.V.Kept.entries c.args.mount) _) refl refl
+    let t = c.run_team-pass.ensures.gathered (fresh _ _ _) refl refl
     (λ k d h. (c.in-Ok-new.ensures.passes.1 k d h).1) in
     let closes = c.in-Ok-close.ensures.closed.0 in
-    team-closed (map (λ p. p.commands) c.args.plans.items) c.args.sweeps.inodes c.args.sweeps.blocks
-    g.V.Serves.room_in c.run_team-pass.result.out_of_memory c.run_team-pass.result.ended_early.items
-    c.run_team-pass.result.lines.items (g.V.Kept.entries c.args.mount) (g.V.Kept.entries c.in-Ok-close.mount) _
-    (view_of c.run_team-pass.result.pass)
-    refl refl t closes.begins closes.all_mine
+    team-closed _ _ _ _ _ _ _ _ _ _ (view_of c.run_team-pass.result.pass) refl refl t closes.begins closes.all_mine
 
 pub returns-clause-ended : goal.returns-clause-ended
 returns-clause-ended g c =
-    let t = c.run_team-pass.ensures.gathered
-    (fresh (g.V.Kept.fixed c.args.mount) (g.V.Kept.entries c.args.mount) _) refl refl
+    let t = c.run_team-pass.ensures.gathered (fresh _ _ _) refl refl
     (λ k d h. (c.in-Ok-new.ensures.passes.1 k d h).1) in
     let closes = c.in-Ok-close.ensures.closed.0 in
-    inr (team-ended (map (λ p. p.commands) c.args.plans.items) c.args.sweeps.inodes c.args.sweeps.blocks
-    g.V.Serves.room_in c.run_team-pass.result.out_of_memory c.run_team-pass.result.ended_early.items
-    c.run_team-pass.result.lines.items (g.V.Kept.entries c.args.mount) (g.V.Kept.entries c.in-Ok-close.mount) _
-    (view_of c.run_team-pass.result.pass)
-    refl refl t closes.begins closes.all_mine (g.V.Kept.fixed c.args.mount) refl)
+    inr (team-ended _ _ _ _ _ _ _ _ _ _ (view_of c.run_team-pass.result.pass) refl refl t closes.begins closes.all_mine
+    (g.V.Kept.fixed c.args.mount) refl)

@@ -11,9 +11,7 @@ run_visit-pass-requires-clause-passes g c κs within =
 
 pub unreachable-requires : goal.unreachable-requires
 unreachable-requires g c =
-    let t = c.run_visit-pass.ensures.gathered
-    (fresh (g.V.Kept.fixed c.args.mount) (g.V.Kept.entries c.args.mount) _) refl refl
-    (λ k d h. (c.in-Ok.ensures.passes.1 k d h).1) in
+    let t = c.run_visit-pass.ensures.gathered (fresh _ _ _) refl refl (λ k d h. (c.in-Ok.ensures.passes.1 k d h).1) in
     let e = c.in_default.ensures.out in
     let low = e.2 in
     let sum = e.3 in
@@ -21,32 +19,21 @@ unreachable-requires g c =
     let seats = t.gathers.seats in
     omega (arith, low, sum, stands, seats)
 
-pub returns-clause-fixed : goal.returns-clause-fixed
-returns-clause-fixed g c =
-    let t = c.run_visit-pass.ensures.gathered
-    (fresh (g.V.Kept.fixed c.args.mount) (g.V.Kept.entries c.args.mount) _) refl refl
-    (λ k d h. (c.in-Ok.ensures.passes.1 k d h).1) in
-    ap (λ o. option_map_or (λ x. x) o (g.V.Kept.fixed c.args.mount))
-    (sym c.in-Ok-close.ensures.closed.0.same_part ∙ t.gathers.fixed)
-
 pub returns-clause-visited : goal.returns-clause-visited
 returns-clause-visited g c =
-    let t = c.run_visit-pass.ensures.gathered
-    (fresh (g.V.Kept.fixed c.args.mount) (g.V.Kept.entries c.args.mount) _) refl refl
-    (λ k d h. (c.in-Ok.ensures.passes.1 k d h).1) in
+    let t = c.run_visit-pass.ensures.gathered (fresh _ _ _) refl refl (λ k d h. (c.in-Ok.ensures.passes.1 k d h).1) in
     let closes = c.in-Ok-close.ensures.closed.0 in
-    visit-closed g.V.Serves.room_in (g.G.Visits.visited c.args.visitor.now c.run_visit-pass.new.visitor [])
-    c.args.sweeps.inodes c.args.sweeps.blocks c.run_visit-pass.result.out_of_memory (g.V.Kept.entries c.args.mount)
-    (g.V.Kept.entries c.in-Ok-close.mount) _
-    (view_of c.run_visit-pass.result.pass) refl refl t closes.begins closes.all_mine
+    visit-closed _ _ _ _ _ _ _ _ (view_of c.run_visit-pass.result.pass) refl refl t closes.begins closes.all_mine
 
 pub returns-clause-sweeps : goal.returns-clause-sweeps
 returns-clause-sweeps g c =
-    let t = c.run_visit-pass.ensures.gathered
-    (fresh (g.V.Kept.fixed c.args.mount) (g.V.Kept.entries c.args.mount) _) refl refl
-    (λ k d h. (c.in-Ok.ensures.passes.1 k d h).1) in
+    let t = c.run_visit-pass.ensures.gathered (fresh _ _ _) refl refl (λ k d h. (c.in-Ok.ensures.passes.1 k d h).1) in
     let closes = c.in-Ok-close.ensures.closed.0 in
-    visit-sweeps g.V.Serves.room_in (g.G.Visits.visited c.args.visitor.now c.run_visit-pass.new.visitor [])
-    c.args.sweeps.inodes c.args.sweeps.blocks c.run_visit-pass.result.out_of_memory (g.V.Kept.entries c.args.mount)
-    (g.V.Kept.entries c.in-Ok-close.mount) _
-    (view_of c.run_visit-pass.result.pass) refl refl t closes.begins closes.all_mine (g.V.Kept.fixed c.args.mount) refl
+    visit-sweeps _ _ _ _ _ _ _ _ (view_of c.run_visit-pass.result.pass) refl refl t closes.begins closes.all_mine
+    (g.V.Kept.fixed c.args.mount) refl
+
+pub returns-clause-fixed : goal.returns-clause-fixed
+returns-clause-fixed g c =
+    let t = c.run_visit-pass.ensures.gathered (fresh _ _ _) refl refl (λ k d h. (c.in-Ok.ensures.passes.1 k d h).1) in
+    ap (λ o. option_map_or (λ x. x) o (g.V.Kept.fixed c.args.mount))
+    (sym c.in-Ok-close.ensures.closed.0.same_part ∙ t.gathers.fixed)

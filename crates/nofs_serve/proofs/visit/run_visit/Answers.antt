@@ -13,17 +13,14 @@ use Rattle.nofs_serve.proofs.visit.run_visit.Goals as goal
 pub returns-clause-gathered : goal.returns-clause-gathered
 returns-clause-gathered g c v one none all =
     let s1 = c.seat-visit.ensures.seen v all in
-    let seen = c.seat_beside-beside.ensures.seen v s1.1 in
-    let inodes = c.work_beside.ensures.inodes in
-    let blocks = c.work_beside.ensures.blocks in
-    let flushed = c.work_beside.ensures.flusher in
-    let worked = all-worked g.V.Serves.room_in c.args.sweeps.inodes c.args.sweeps.blocks _ _ _ _ _ _ _ _ v _ _ _ _ _ _
-    seen none c.seat_beside-beside.ensures.counts c.seat_beside-beside.ensures.callers inodes blocks flushed.none_made
-    flushed.goes_on.2 in
     let went = c.work_beside.ensures.goes in
     let o : View Entry1 g.row.V-Fixed.Denot = view_of c.work_beside.new.steps.pass in
     let z : View Entry1 g.row.V-Fixed.Denot = view_of c.gather_beside-joined.result.pass in
     let caller1 : c.work_beside.new.steps.caller ≡ 1 = went.1 ∙ c.seat-visit.ensures.way.1 in
+    let worked = all-worked g.V.Serves.room_in c.args.sweeps.inodes c.args.sweeps.blocks _ _ _ _ _ _ _ _ v _ _ _ _ _ _
+    (c.seat_beside-beside.ensures.seen v s1.1) none c.seat_beside-beside.ensures.counts
+    c.seat_beside-beside.ensures.callers c.work_beside.ensures.inodes c.work_beside.ensures.blocks
+    c.work_beside.ensures.flusher.none_made c.work_beside.ensures.flusher.goes_on.2 in
     visit-gathers g.V.Serves.room_in (g.G.Visits.visited c.args.visitor.now c.work_beside.new.visitor [])
     c.args.sweeps.inodes c.args.sweeps.blocks c.gather_beside-joined.result.out_of_memory v z o
     (view_of c.join_way.new.into) one
