@@ -142,9 +142,9 @@ module _ (B : Image) (H : List Entry1) (r : SaneRun B H) (c : ℕ) (from to : Pa
       old_entry = old.entry;
       is_old = old.finds;
       is_entry = old.there;
+      old_stays = old-stays drop is_drop late;
       new_place = fresh.0;
       is_new = fresh.1;
-      old_stays = old-stays drop is_drop late;
       new_stays = new-stays drop is_drop;
     }
 

@@ -35,10 +35,9 @@ part-of (x ∷ xs) made lines zero said driven h =
       mine = front;
       back = back;
       asked = x;
+      runs = record { asked = first.asked; says = first.says ∙ ap Say same };
       are = parts;
       there = refl;
-      runs =
-          record { asked = first.asked; says = first.says ∙ ap Say same };
     }
 part-of (x ∷ xs) made lines (suc k) said driven h =
     let (front, back, line, others, parts, said_are, first, rest) = driven in

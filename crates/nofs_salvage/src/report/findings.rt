@@ -2,9 +2,9 @@
 //!
 //! Promise: losses are noted at the end, and directories once.
 ghost use Rattle.std.specs.Prelude.{◌≡◌, ◌++◌, [], ◌∷◌, IfOk, OnOk};
-ghost use Rattle.nofs_salvage.specs.Report.Losses.{if_so, name_loss};
 ghost use Rattle.nofs_salvage.specs.Report.Inodes.{root_handle};
 ghost use Rattle.nofs_salvage.specs.Report.InHand.{handles_in};
+ghost use Rattle.nofs_salvage.specs.Report.Losses.{if_so, name_loss};
 
 use crate::report::answers::InodeHandle;
 use crate::report::report::{Loss, Report};

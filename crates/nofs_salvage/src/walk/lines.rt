@@ -139,9 +139,9 @@ pub(crate) fn note_lines<S: Steps, P: Fn(&[u8]) -> bool, R: NameRule>(
     seen: &mut SeenNames,
     findings: &mut Findings,
 ) -> Result<(), SalvageFault>
-    requires may { P.IsAlwaysCallable filter.now.keep }
     requires decides { (name : List ℕ) (yes : Bool) → FnReturnsAt P.Fn filter.now.keep name yes
         → yes ≡ R.picks filter.now.rule name }
+    requires may { P.IsAlwaysCallable filter.now.keep }
     ensures reads { MakesReads (S.made steps.old) (S.made steps.new) (refusal_by result) }
     ensures lines { OnOk result (LinesNoted (R.picks filter.now.rule) at lines.now (S.made steps.old) (S.made steps.new)
         findings.old findings.new seen.old seen.new) }

@@ -151,16 +151,16 @@ pub(crate) fn list<S: Steps>(
     at: InodeHandle,
     slot: u64,
 ) -> Result<NextSlot, SalvageFault>
+    ensures part { IfOk result IsFolderPart }
     ensures reads { MakesReads (S.made steps.old) (S.made steps.new) (refusal_by result) }
     ensures goes { S.goes steps.old steps.new }
     ensures right { (W : World) → AreAnswered W (S.made steps.old) (S.made steps.new) → MayAsk W.files true at
         → AreFair W.files (S.made steps.old) (S.made steps.new) }
     ensures asks { AsksOn (S.made steps.old) (S.made steps.new) at }
-    ensures part { IfOk result IsFolderPart }
-    ensures listed { IfOk result (λ listed. (W : World) → AreAnswered W (S.made steps.old) (S.made steps.new)
-        → IsListedFrom W.files at.inode slot listed) }
     ensures there { IfOk result (λ listed. (W : World) → AreAnswered W (S.made steps.old) (S.made steps.new)
         → is_there W.files at.inode at.generation ≡ true) }
+    ensures listed { IfOk result (λ listed. (W : World) → AreAnswered W (S.made steps.old) (S.made steps.new)
+        → IsListedFrom W.files at.inode slot listed) }
     ensures gives { IfOk result
         (λ listed. (first : List Made) → Asks first (S.made steps.old) → ListGives first (S.made steps.new) at listed) }
 {

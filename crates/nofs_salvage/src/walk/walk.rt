@@ -7,14 +7,14 @@ ghost use Rattle.std.specs.Prelude.{◌≡◌, ℕ, Bool, true, List, [], ◌∷
 ghost use Rattle.std.specs.Fn.{FnReturnsAt};
 ghost use Rattle.nofs_history.specs.World.{World};
 ghost use Rattle.nofs_history.specs.Steps.{Made};
+ghost use Rattle.nofs_salvage.specs.Walk.Asks.{Asks};
 ghost use Rattle.nofs_salvage.specs.Walk.Steps.{MakesReads, refusal_by};
-ghost use Rattle.nofs_salvage.specs.Report.Losses.{report_of};
 ghost use Rattle.nofs_salvage.specs.Walk.Answers.{AreAnswered};
 ghost use Rattle.nofs_salvage.specs.Walk.Refusals.{is_there, HasRoots, MayRefuse, AreFair};
-ghost use Rattle.nofs_salvage.specs.Report.Inodes.{root_handle};
-ghost use Rattle.nofs_salvage.specs.Report.InHand.{handles_in};
 ghost use Rattle.nofs_salvage.specs.Report.Findings.{TreeNoted};
-ghost use Rattle.nofs_salvage.specs.Walk.Asks.{Asks};
+ghost use Rattle.nofs_salvage.specs.Report.InHand.{handles_in};
+ghost use Rattle.nofs_salvage.specs.Report.Inodes.{root_handle};
+ghost use Rattle.nofs_salvage.specs.Report.Losses.{report_of};
 
 use crate::report::answers::InodeHandle;
 use crate::report::fault::SalvageFault;
