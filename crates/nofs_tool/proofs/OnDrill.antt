@@ -1,4 +1,5 @@
 -- What a drill leaves, and the numbers of its line.
 pub mod Reads
+pub mod Follows
 pub mod Tally
 pub mod Ends

@@ -1,7 +1,7 @@
 -- The drill: the session of its users, what PROGRAM then reads of their files, and the line that tells of it.
 use Rattle.std.specs.Prelude.{◌≡◌, ℕ, ◌+◌, ◌*◌, Bool, true, false, List, [], ◌∷◌, ◌++◌, length, take, map, codes, sum}
 use Rattle.std.specs.Prelude.{sum_by, count_by, bytes_eq, ◌≤◌}
-use Rattle.std.specs.Prelude.{if◌then◌else◌, Some, None, Result, IfOk, ⊤}
+use Rattle.std.specs.Prelude.{if◌then◌else◌, Some, None, Result, Ok, Err, ⊤}
 use mathlib.Core.List.{IsPrefix}
 use Rattle.std.specs.Fmt.{decimal}
 use Rattle.std.specs.declared.option.Option.{Option}
@@ -96,6 +96,47 @@ AreRead user (read ∷ reads) made = (front : List Made) × (back : List Made) �
     × IsFileRead user read front × AreRead (user + 1)
     reads back
 
+-- each of the four files was read
+abbrev pub AreFourRead : List (Option FileRead) → List Made → Type 0
+AreFourRead reads made = (length reads ≡ 4) × AreRead 1 reads made
+
+-- A beginning of such a reading: where memory was wanting, no more was asked for
+
+-- no step was made yet
+abbrev pub IsNotBegun : List Made → Type 0
+IsNotBegun made = made ≡ []
+
+-- the first slots of a file were got, in order, and none that does not lie below its size
+abbrev pub AreSlotsBegun : Found → Stat → List Made → Type 0
+AreSlotsBegun f s made = (rs : List Reply) × (made ≡ gets_from f 0 rs) × (length rs ≤ slots_in s.size)
+
+-- after a refusal nothing more was asked for; else what follows from the answer was begun
+abbrev pub IsAnswerBegun : {A : Type 0} → (A → List Made → Type 0) → Option A → List Made → Type 0
+IsAnswerBegun Next None rest = rest ≡ []
+IsAnswerBegun Next (Some it) rest = Next it rest
+
+-- no step was made yet; or this one was, and what follows from its reply was begun
+abbrev pub IsStepBegun : {A : Type 0} → (Reply → Option A) → (A → List Made → Type 0) → Step → List Made → Type 0
+IsStepBegun answer Next s [] = ⊤
+IsStepBegun answer Next s (m ∷ rest) = (m.0 ≡ s) × IsAnswerBegun Next (answer m.1) rest
+
+-- the size of the file is asked for first
+abbrev pub IsReadAtBegun : Found → List Made → Type 0
+IsReadAtBegun f made = IsStepBegun stat_in (AreSlotsBegun f) (step.Stat f.inode f.generation) made
+
+-- the file is looked up in its directory first
+abbrev pub IsReadInBegun : Found → List Made → Type 0
+IsReadInBegun d made = IsStepBegun found_in IsReadAtBegun (step.Look d.inode d.generation (codes "f")) made
+
+-- the directory of a user is looked up in the root first
+abbrev pub IsFileBegun : ℕ → List Made → Type 0
+IsFileBegun user made = IsStepBegun found_in IsReadInBegun (step.Look 1 1 (digit user)) made
+
+-- the files of the first users were read, and the reading of the next one's was begun
+abbrev pub AreFourBegun : List Made → Type 0
+AreFourBegun made = (reads : List (Option FileRead)) × (front : List Made) × (back : List Made)
+    × (made ≡ front ++ back) × (length reads ≤ 3) × AreRead 1 reads front × IsFileBegun (length reads + 1) back
+
 -- behind these entries PROGRAM added these steps with their replies, and no other caller anything
 pub record AddsOwn (made : List Made) (H K : List Entry1) : Type 0 where
   pub behind : IsPrefix H K
@@ -118,13 +159,20 @@ AreReadings (m ∷ made) = (is_reading m.0 ≡ true) × AreReadings made
 abbrev pub IsOneStep : Step → Reply → List Made → Type 0
 IsOneStep s r made = made ≡ (s, r) ∷ []
 
--- Whatever the result is, PROGRAM added steps that read, and no other caller anything; and where it is Ok, more is
--- said of it and of these steps
-pub record ReadsBy {T E : Type 0} (Is : T → List Made → Type 0) (result : Result T E) (H K : List Entry1) : Type 0 where
+-- where the result is Ok, the steps are all that a reading makes; else they are a beginning of such
+abbrev pub AreStepsOf : {T E : Type 0} → (T → List Made → Type 0) → (List Made → Type 0) → Result T E → List Made
+    → Type 0
+AreStepsOf Is Begun (Ok t) made = Is t made
+AreStepsOf Is Begun (Err e) made = Begun made
+
+-- Whatever the result is, PROGRAM added steps that read, and no other caller anything: where it is Ok the whole
+-- reading, and else a beginning of one, which follows the replies so far
+pub record ReadsBy {T E : Type 0} (Is : T → List Made → Type 0) (Begun : List Made → Type 0) (result : Result T E)
+    (H K : List Entry1) : Type 0 where
   pub made : List Made
   pub adds : AddsOwn made H K
   pub readings : AreReadings made
-  pub read : IfOk result (λ t. Is t made)
+  pub read : AreStepsOf Is Begun result made
 
 -- What the line tells
 
@@ -175,17 +223,7 @@ wrong_told H (Some file) = slots_wrong (replay_of H file.found.inode file.found.
 abbrev pub is_refused_line : Line → Bool
 is_refused_line (line.Refused _) = true
 is_refused_line (line.RefusedPut _ _) = true
-is_refused_line line.Made = false
-is_refused_line (line.Put _) = false
-is_refused_line (line.Got _) = false
-is_refused_line (line.Sized _) = false
-is_refused_line (line.Stat _) = false
-is_refused_line (line.Names _) = false
-is_refused_line line.Linked = false
-is_refused_line line.Dropped = false
-is_refused_line line.Renamed = false
-is_refused_line line.Synced = false
-is_refused_line line.Moved = false
+is_refused_line _ = false
 
 -- the line of a drill
 unfoldable pub drill_line : ℕ → ℕ → ℕ → ℕ → ℕ → ℕ → List ℕ
@@ -201,7 +239,7 @@ pub record IsReadOut (start steps refused : ℕ) (served H : List Entry1) (text 
   pub reads : List (Option FileRead)
   pub made : List Made
   pub flush : Reply
-  pub read : AreRead 1 reads made
+  pub read : AreFourRead reads made
   pub adds : AddsOwn made served seen
   pub closes : AddsStep PROGRAM (step.Flush 0 0) flush seen H
   pub closed : is_out_of_memory flush ≡ false
@@ -219,24 +257,31 @@ pub record IsDrilled (start steps : ℕ) (H : List Entry1) (text : List ℕ) : T
   pub out : IsReadOut start steps
       (count_by is_refused_line (session_lines 1 (drill_session start steps) H)) served H text
 
--- What a drill adds to the history of a new mount, whatever comes of it: the steps of the drawn users and of the
--- sweeps, which are as those of every session; behind them those by which PROGRAM reads the four files; then its flush
--- of the whole disk. Where memory was wanting (`short`), each may have ended early. Where it was wanting to the reads
--- they were cut, and nothing was flushed
-pub record IsDrillRun (start steps inodes blocks : ℕ) (short : Bool) (H : List Entry1) : Type 0 where
-  pub served : List Entry1
+-- Behind its users, whatever comes of it: PROGRAM reads the four files, one after the other, and flushes the whole
+-- disk. Where memory was wanting to a step of these reads, or to keep what it answered (`cut`), they end there: they
+-- are a beginning of those that a whole drill makes by the replies so far, and nothing is flushed. `short` tells
+-- whether memory was wanting to any part of the drill
+pub record IsReadRun (short : Bool) (served H : List Entry1) : Type 0 where
   pub seen : List Entry1
-  pub lines : List (List Line)
   pub made : List Made
   pub flush : Reply
-  pub team : TeamMade (drill_session start steps) inodes blocks short lines (λ c. steps_by c served)
   pub adds : AddsOwn made served seen
   pub readings : AreReadings made
   pub cut : Bool
-  pub read : cut ≡ false → (reads : List (Option FileRead)) × AreRead 1 reads made
+  pub read : cut ≡ false → (reads : List (Option FileRead)) × AreFourRead reads made
+  pub begun : cut ≡ true → AreFourBegun made
   pub unflushed : cut ≡ true → (short ≡ true) × (H ≡ seen)
   pub closes : AddsStep PROGRAM (step.Flush 0 0) flush seen H
   pub closed : short ≡ false → is_out_of_memory flush ≡ false
+
+-- What a drill adds to the history of a new mount, whatever comes of it: the steps of the drawn users and of the
+-- sweeps, which are as those of every session; and behind them those of PROGRAM. Where memory was wanting (`short`),
+-- each may have ended early
+pub record IsDrillRun (start steps inodes blocks : ℕ) (short : Bool) (H : List Entry1) : Type 0 where
+  pub served : List Entry1
+  pub lines : List (List Line)
+  pub team : TeamMade (drill_session start steps) inodes blocks short lines (λ c. steps_by c served)
+  pub reads : IsReadRun short served H
 
 -- what a drill leaves: its history, and whether there is a text of it
 pub record IsDrillFollowed (start steps : ℕ) (at : SuperBlock) (text : Option (List ℕ)) (H : List Entry1) : Type 0 where
@@ -249,16 +294,7 @@ pub record IsReadFollowed (out : Bool) (served : List Entry1) (text : Option (Li
   pub short : Bool
   pub early : short ≡ true → text ≡ None
   pub less : short ≡ false → out ≡ false
-  pub seen : List Entry1
-  pub made : List Made
-  pub flush : Reply
-  pub adds : AddsOwn made served seen
-  pub readings : AreReadings made
-  pub cut : Bool
-  pub read : cut ≡ false → (reads : List (Option FileRead)) × AreRead 1 reads made
-  pub unflushed : cut ≡ true → (short ≡ true) × (H ≡ seen)
-  pub closes : AddsStep PROGRAM (step.Flush 0 0) flush seen H
-  pub closed : short ≡ false → is_out_of_memory flush ≡ false
+  pub reads : IsReadRun short served H
 
 -- a drill whose line the sink took
 abbrev pub IsDrillDone : ℕ → ℕ → Option HistoryState → SinkState → SinkState → Type 0

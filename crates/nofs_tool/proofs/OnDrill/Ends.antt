@@ -22,7 +22,7 @@ use Rattle.nofs_io.specs.Texts.{AppendsAll}
 use Rattle.nofs_script.specs.Session.{IsSession}
 use Rattle.nofs_gen.proofs.OnScript.{script-formed}
 use Rattle.nofs_tool.specs.declared.drill.reads.FileRead.{FileRead}
-use Rattle.nofs_tool.specs.Drill.{AddsOwn, AreRead, IsDrillDone, IsDrilled, IsReadOut, drill_line, drill_session}
+use Rattle.nofs_tool.specs.Drill.{AddsOwn, AreFourRead, IsDrillDone, IsDrilled, IsReadOut, drill_line, drill_session}
 use Rattle.nofs_tool.specs.Drill.{is_refused_line, size_told, sum_told, wrong_told, IsDrillRun}
 use Rattle.nofs_tool.proofs.OnSession.Serve.{adds-others}
 use Rattle.nofs_tool.proofs.OnSession.Whole.{whole-by}
@@ -45,7 +45,7 @@ pub read-out : {E : Type 0} (start steps refused told_refused : ℕ) (served see
     (out closed : Bool) (line : Result (List ℕ) E) (text : Option (List ℕ)) → entries ≡ H → text ≡ result_ok line
     → out ≡ false → closed ≡ true
     → told_refused ≡ refused → told_reads ≡ reads → told ≡ H
-    → ((made : List Made) × AddsOwn made served seen × AreRead 1 reads made)
+    → ((made : List Made) × AddsOwn made served seen × AreFourRead reads made)
     → ((flush : Reply) × AddsStep 0 (step.Flush 0 0) flush seen H × (closed ≡ not (is_out_of_memory flush)))
     → IfOk line
     (λ text. text ≡ drill_line start steps told_refused (sum_by size_told told_reads) (sum_by sum_told told_reads)
@@ -163,9 +163,9 @@ pub whole-drill : (start steps : ℕ) (at : SuperBlock) (H : List Entry1) (begun
     (V : World) (X : Image)
     → IsDrillRun start steps at.inodes at.blocks false H → Run begun (world_of B first) H V
     → has_fault H ≡ false → ShowsDisk at V X → IsWholeScan V X
-whole-drill start steps at H begun first B V X run = whole-by at run.seen H run.flush run.closes
+whole-drill start steps at H begun first B V X run = whole-by at run.reads.seen H run.reads.flush run.reads.closes
     (subst (λ (m : List Made). Sweeps (λ place item. item ≡ place) Inode 0 at.inodes false [] m)
-    (sym (run.adds.others INODE_SWEEPER (omega arith))) run.team.inodes_seen)
+    (sym (run.reads.adds.others INODE_SWEEPER (omega arith))) run.team.inodes_seen)
     (subst (λ (m : List Made). Sweeps (λ place item. item ≡ at.blocks - 1 - place) Block 0 at.blocks false [] m)
-    (sym (run.adds.others BLOCK_SWEEPER (omega arith))) run.team.blocks_seen)
+    (sym (run.reads.adds.others BLOCK_SWEEPER (omega arith))) run.team.blocks_seen)
     begun first B V X

@@ -1,16 +1,18 @@
 //! What the program itself, caller `PROGRAM`, reads of the files of a drill.
 //!
 //! Promise: it looks up each file in its directory, asks for its size, and gets each slot below it, in order. A refused
-//! look or stat ends that file. Where memory is wanting it ends early, and has made no other steps than these.
+//! look or stat ends that file. Where memory is wanting it ends there: what it has made is a beginning of these steps.
 
-ghost use Rattle.std.specs.Prelude.{◌≡◌, ◌≤◌, ◌∷◌, ◌++◌, [], length, true};
+ghost use Rattle.std.specs.Prelude.{◌≡◌, ◌≤◌, ◌∷◌, ◌++◌, [], List, length, true};
 ghost use Rattle.std.specs.declared.option.Option.{Option};
 ghost use Rattle.nofs_history.specs.Machine as machine;
+ghost use Rattle.nofs_history.specs.declared.machine.replies.Reply.{Reply as Answer};
 ghost use Rattle.nofs_history.specs.declared.machine.steps.Step.TheVariants as step;
 ghost use Rattle.nofs_tool.specs.declared.drill.reads.FileRead.{FileRead as ReadOf};
-ghost use Rattle.nofs_tool.specs.Drill.{AreRead, IsFileRead, IsLookedUp, IsOneStep, IsReadAt, IsReadIn, IsWholeRead};
-ghost use Rattle.nofs_tool.specs.Drill.{ReadsBy, found_in as found_by};
-ghost use Rattle.nofs_tool.specs.Drill.{gets_from, is_reading, stat_in as stat_by};
+ghost use Rattle.nofs_tool.specs.Drill.{AreFourBegun, AreFourRead, AreSlotsBegun, IsFileBegun, IsFileRead, IsLookedUp};
+ghost use Rattle.nofs_tool.specs.Drill.{IsNotBegun, IsOneStep, IsReadAt, IsReadAtBegun, IsReadIn, IsReadInBegun};
+ghost use Rattle.nofs_tool.specs.Drill.{IsWholeRead, ReadsBy, found_in as found_by, gets_from, is_reading};
+ghost use Rattle.nofs_tool.specs.Drill.{stat_in as stat_by};
 
 use nofs_dirent::Name;
 use nofs_disk::Disk;
@@ -33,7 +35,7 @@ fn ask<D: Disk + Drop>(
     asked: Step,
 ) -> Result<Reply, AllocError>
     requires { is_reading asked ≡ true }
-    ensures reads { ReadsBy (IsOneStep asked) result mount.old.core.books.history.entries
+    ensures reads { ReadsBy (IsOneStep asked) IsNotBegun result mount.old.core.books.history.entries
         mount.new.core.books.history.entries }
     ensures same { (mount.new.found ≡ mount.old.found) × (mount.new.first ≡ mount.old.first) }
 {
@@ -76,8 +78,9 @@ fn read_slots<D: Disk + Drop>(
     found: Found,
     count: u64,
 ) -> Result<Vec<Reply>, AllocError>
-    ensures reads { ReadsBy (λ replies made. (length replies.items ≡ count)
-        × (made ≡ gets_from found 0 replies.items)) result
+    ensures reads { ReadsBy
+        (λ replies made. (length replies.items ≡ count) × (made ≡ gets_from found 0 replies.items))
+        (λ made. (rs : List Answer) × (made ≡ gets_from found 0 rs) × (length rs ≤ count)) result
         mount.old.core.books.history.entries mount.new.core.books.history.entries }
     ensures same { (mount.new.found ≡ mount.old.found) × (mount.new.first ≡ mount.old.first) }
 {
@@ -103,8 +106,8 @@ fn read_whole<D: Disk + Drop>(
     found: Found,
     stat: Stat,
 ) -> MaybeRead
-    ensures reads { ReadsBy (IsWholeRead found stat) result mount.old.core.books.history.entries
-        mount.new.core.books.history.entries }
+    ensures reads { ReadsBy (IsWholeRead found stat) (AreSlotsBegun found stat) result
+        mount.old.core.books.history.entries mount.new.core.books.history.entries }
     ensures same { (mount.new.found ≡ mount.old.found) × (mount.new.first ≡ mount.old.first) }
 {
     let slots = read_slots(alloc, mount, found, slots_in(stat.size))?;
@@ -117,8 +120,8 @@ fn read_whole<D: Disk + Drop>(
 
 // Reads the file that was found.
 fn read_found<D: Disk + Drop>(alloc: Global, mount: &mut Mount<D>, found: Found) -> MaybeRead
-    ensures reads { ReadsBy (IsReadAt found) result mount.old.core.books.history.entries
-        mount.new.core.books.history.entries }
+    ensures reads { ReadsBy (IsReadAt found) (IsReadAtBegun found) result
+        mount.old.core.books.history.entries mount.new.core.books.history.entries }
     ensures same { (mount.new.found ≡ mount.old.found) × (mount.new.first ≡ mount.old.first) }
 {
     let stat = Step::Stat {
@@ -140,8 +143,8 @@ fn look_up<D: Disk + Drop>(
     directory: u32,
     generation: u64,
 ) -> Result<Option<Found>, AllocError>
-    ensures reads { ReadsBy (IsLookedUp directory generation name.now) result mount.old.core.books.history.entries
-        mount.new.core.books.history.entries }
+    ensures reads { ReadsBy (IsLookedUp directory generation name.now) IsNotBegun result
+        mount.old.core.books.history.entries mount.new.core.books.history.entries }
     ensures same { (mount.new.found ≡ mount.old.found) × (mount.new.first ≡ mount.old.first) }
 {
     let look = Step::Look {
@@ -155,8 +158,8 @@ fn look_up<D: Disk + Drop>(
 
 // Looks up the file in its directory and reads it.
 fn read_in<D: Disk + Drop>(alloc: Global, mount: &mut Mount<D>, directory: Found) -> MaybeRead
-    ensures reads { ReadsBy (IsReadIn directory) result mount.old.core.books.history.entries
-        mount.new.core.books.history.entries }
+    ensures reads { ReadsBy (IsReadIn directory) (IsReadInBegun directory) result
+        mount.old.core.books.history.entries mount.new.core.books.history.entries }
     ensures same { (mount.new.found ≡ mount.old.found) × (mount.new.first ≡ mount.old.first) }
 {
     match look_up(alloc, mount, b"f", directory.inode, directory.generation)? {
@@ -168,8 +171,8 @@ fn read_in<D: Disk + Drop>(alloc: Global, mount: &mut Mount<D>, directory: Found
 // Looks up the directory of a user and reads the file in it.
 fn read_file<D: Disk + Drop>(alloc: Global, mount: &mut Mount<D>, user: u32) -> MaybeRead
     requires { user ≤ 4 }
-    ensures reads { ReadsBy (IsFileRead user) result mount.old.core.books.history.entries
-        mount.new.core.books.history.entries }
+    ensures reads { ReadsBy (IsFileRead user) (IsFileBegun user) result
+        mount.old.core.books.history.entries mount.new.core.books.history.entries }
     ensures same { (mount.new.found ≡ mount.old.found) × (mount.new.first ≡ mount.old.first) }
 {
     match look_up(alloc, mount, &[b'0' + user as u8], 1, 1)? {
@@ -188,7 +191,7 @@ fn push_read<D: Disk + Drop>(
     requires { user ≤ 4 }
     ensures reads { ReadsBy (λ _ made. (read : Option ReadOf) × (reads.new.items ≡ reads.old.items ++ read ∷ [])
         × IsFileRead user read made)
-        result mount.old.core.books.history.entries mount.new.core.books.history.entries }
+        (IsFileBegun user) result mount.old.core.books.history.entries mount.new.core.books.history.entries }
     ensures same { (mount.new.found ≡ mount.old.found) × (mount.new.first ≡ mount.old.first) }
 {
     reads.push(read_file(alloc, mount, user)?)?;
@@ -196,13 +199,13 @@ fn push_read<D: Disk + Drop>(
 }
 
 /// Reads the files of the four users, one after the other. None stands for a file of which a look or the stat was
-/// refused.
+/// refused. Where memory is wanting, what was asked for is a beginning of what a whole reading asks for.
 pub(crate) fn read_files<D: Disk + Drop>(
     alloc: Global,
     mount: &mut Mount<D>,
 ) -> Result<Vec<Option<FileRead>>, AllocError>
-    ensures reads { ReadsBy (λ reads made. AreRead 1 reads.items made) result mount.old.core.books.history.entries
-        mount.new.core.books.history.entries }
+    ensures reads { ReadsBy (λ reads made. AreFourRead reads.items made) AreFourBegun result
+        mount.old.core.books.history.entries mount.new.core.books.history.entries }
     ensures same { (mount.new.found ≡ mount.old.found) × (mount.new.first ≡ mount.old.first) }
 {
     let mut reads = Vec::new(alloc);

@@ -3,8 +3,8 @@
 //!
 //! Promise: where the line is told, each user made just the steps of its script, `PROGRAM` read the four files after
 //! them and made all durable, and the numbers are those of the lines, of these reads, and of a replay of the history.
-//! Where none is told each of them may have ended early, and made no other steps; where the reads did, nothing was made
-//! durable.
+//! Where none is told each of them may have ended early: what it made is a beginning of these steps. Where the reads
+//! did, nothing was made durable.
 
 ghost use Rattle.std.specs.Prelude.{◌≡◌, ◌≤◌, ◌∷◌, ◌++◌, ◌+◌, [], false, sum_by, count_by, All, map, vec_len, IfOk};
 ghost use Rattle.std.specs.Prelude.{IfSome, OnOk};
@@ -112,8 +112,9 @@ fn read_and_close<D: Disk + Drop>(
     } = served;
     let mut mount = mount;
     // Where the reads were cut, there is nothing to tell, and nothing more is asked of the device.
-    let Ok(reads) = read_files(alloc, &mut mount) else {
-        return ended(mount, None);
+    let reads = match read_files(alloc, &mut mount) {
+        Ok(reads) => reads,
+        Err(_) => return ended(mount, None),
     };
     let closed = close(alloc, &mut mount);
     if out_of_memory {

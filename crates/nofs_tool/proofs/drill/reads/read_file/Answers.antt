@@ -1,14 +1,15 @@
-use Rattle.nofs_tool.specs.Drill.{IsReadIn}
-use Rattle.nofs_tool.proofs.OnDrill.Reads.{look-end, look-more, only, only-failed}
+use Rattle.nofs_tool.specs.Drill.{IsReadIn, IsReadInBegun, found_in}
+use Rattle.nofs_tool.proofs.OnDrill.Reads.{begun, failed, look-end, look-more, step-unbegun}
 use Rattle.nofs_tool.proofs.drill.reads.read_file.Goals as goal
 
 pub returns-in_err-look_up-clause-reads : goal.returns-in_err-look_up-clause-reads
-returns-in_err-look_up-clause-reads g c =
-    only-failed _ _ _ _ _ c.from_residual.ensures.1 (only _ _ _ _ c.look_up.ensures.reads)
+returns-in_err-look_up-clause-reads g c = failed _ _ _ _ _ _ c.from_residual.ensures.1
+    (step-unbegun found_in IsReadInBegun _ _ _ (begun _ _ _ _ _ c.in_err-look_up.ensures.reads))
 
 pub returns-in-Some-clause-reads : goal.returns-in-Some-clause-reads
-returns-in-Some-clause-reads g c =
-    look-more IsReadIn _ _ _ _ _ _ _ _ _ c.in_ok-look_up.ensures.reads c.in-Some.is c.read_in.ensures.reads
+returns-in-Some-clause-reads g c = look-more IsReadIn IsReadInBegun _ _ _ _ _ _ c.in_ok-look_up.ensures.reads _ _ _
+    c.in-Some.is c.read_in.ensures.reads
 
 pub returns-in-None-clause-reads : goal.returns-in-None-clause-reads
-returns-in-None-clause-reads g c = look-end IsReadIn _ _ _ _ _ _ c.in_ok-look_up.ensures.reads c.in-None.is
+returns-in-None-clause-reads g c =
+    look-end IsReadIn IsReadInBegun _ _ _ _ _ _ c.in_ok-look_up.ensures.reads c.in-None.is

@@ -1,7 +1,7 @@
-use Rattle.std.proofs.Common.{rules, refl, ap, ◌≡◌, ◌∙◌, length}
+use Rattle.std.proofs.Common.{rules, refl, ap, ◌≡◌, ◌∙◌, ◌∷◌, ◌++◌, [], arith, length}
 use Rattle.nofs_tool.specs.Drill.{gets_from}
-use Rattle.nofs_tool.proofs.OnDrill.Reads.{adds-get, adds-init, gets-readings, long-more, only, only-both}
-use Rattle.nofs_tool.proofs.OnDrill.Reads.{only-failed, only-gets}
+use Rattle.nofs_tool.proofs.OnDrill.Reads.{adds-get, adds-init, adds-nothing, begun, failed, first-slots}
+use Rattle.nofs_tool.proofs.OnDrill.Reads.{gets-readings, long-more}
 use Rattle.nofs_tool.proofs.drill.reads.read_slots.Goals as goal
 
 pub loop-slot-init : goal.loop-slot-init
@@ -25,12 +25,24 @@ loop-slot-preserved g c =
     }
 
 pub returns-in_err-ask-clause-reads : goal.returns-in_err-ask-clause-reads
-returns-in_err-ask-clause-reads g c = only-failed _ _ _ _ _ c.from_residual.ensures.1
-    (only-both _ _ _ (only-gets c.args.found _ _ _ c.loop-slot.invariant.adds) (only _ _ _ _ c.ask.ensures.reads))
+returns-in_err-ask-clause-reads g c =
+    let so_far = c.loop-slot.invariant in
+    let low = c.loop-slot-test.true in
+    let long = so_far.long in
+    failed _ _ _ _ _ _ c.from_residual.ensures.1 (first-slots c.args.found _ _ _ _ (omega (arith, long, low))
+    (adds-nothing _ _ _ _ so_far.adds (begun _ _ _ _ _ c.in_err-ask.ensures.reads)))
 
 pub returns-in_err-push-clause-reads : goal.returns-in_err-push-clause-reads
-returns-in_err-push-clause-reads g c = only-failed _ _ _ _ _ c.from_residual-in_err-push.ensures.1
-    (only-both _ _ _ (only-gets c.args.found _ _ _ c.loop-slot.invariant.adds) (only _ _ _ _ c.in_ok-ask.ensures.reads))
+returns-in_err-push-clause-reads g c =
+    let so_far = c.loop-slot.invariant in
+    let rs = c.loop-slot.replies.items in
+    let r = c.in_ok-ask.field-0 in
+    let low = c.loop-slot-test.true in
+    let long = long-more rs (rs ++ r ∷ []) r _ refl so_far.long in
+    failed _ _ _ _ _ _ c.from_residual-in_err-push.ensures.1
+    (first-slots c.args.found _ (rs ++ r ∷ []) _ _ (omega (arith, long, low))
+    (adds-get c.args.found c.loop-slot.slot rs (rs ++ r ∷ []) r _ _ _ refl so_far.long so_far.adds
+    c.in_ok-ask.ensures.reads))
 
 pub returns-clause-reads : goal.returns-clause-reads
 returns-clause-reads g c =

@@ -2,7 +2,7 @@ use Rattle.std.proofs.Common.{map, ap, ◌∙◌}
 use Rattle.nofs_history.specs.HistoryState.{HistoryState}
 use Rattle.nofs_client.proofs.OnDriver.{lines-follow}
 use Rattle.nofs_tool.proofs.OnDrill.Ends.{drill-ends}
-use Rattle.nofs_tool.proofs.OnDrill.Reads.{drill-follows, drill-unserved}
+use Rattle.nofs_tool.proofs.OnDrill.Follows.{drill-follows, drill-unserved}
 use Rattle.nofs_tool.proofs.drill.runs.run_drill.Goals as goal
 
 pub returns-in-Ok-clause-drilled : goal.returns-in-Ok-clause-drilled
