@@ -1,4 +1,4 @@
--- A mount finds the premises met on what a format leaves.
+-- A mount finds the premises met on what a format leaves, and has the numbers that it read.
 use Rattle.std.proofs.Common.{◌≡◌, ℕ, ◌<◌, Option, Result, Ok, Err, IsTrue, sym, ap, ◌∙◌, subst, arith}
 use Rattle.std.specs.Prelude.{IfErr, IfOk, is_none}
 use Rattle.nofs_disk.specs.Adds.{Adds}
@@ -7,6 +7,9 @@ use Rattle.nofs_super.specs.Format.{IsFormatted, IsFreshCell, formatted_cell}
 use Rattle.nofs_super.specs.Geometry.{IsGeometry, is_geometry, is_geometry-parts}
 use Rattle.nofs_super.specs.declared.geometry.FormatFault.{FormatFault}
 use Rattle.nofs_model.proofs.OnSound.Formats.{formatted-law}
+use Rattle.nofs_state.specs.declared.books.maps.Books.{Books}
+use Rattle.nofs_shared.specs.Mount.Begin.{BeginsMount, MountsBy}
+use Rattle.nofs_tool.specs.Begin.Mounts.{IsRaisedFrom}
 use Rattle.nofs_tool.specs.Session.Whole.{IsMet}
 
 -- a format leaves a disk on which the premises are met, where it tells
@@ -27,6 +30,15 @@ formatted_met blocks inodes old new f adds cells tells = record {
 
     in_disk : (b : ℕ) → b < blocks → b < new.blocks
     in_disk b low = let e = adds.disk.blocks in let n = numbers.fits in omega (arith, low, e, n)
+
+-- a mount that began has the superblock that it read, raised
+pub raised-from : {D : Type 0} (state : D → DiskState) (disk found : D) (new : DiskState) (k : Books) → found ≡ disk
+    → BeginsMount (state disk) new k → IsRaisedFrom (state found) k.at
+raised-from {D} state disk found new k same b = record {
+  before = b.before;
+  mounts = subst (λ (d : D). MountsBy (state d) b.before) (sym same) b.mounts;
+  is = b.at;
+}
 
 -- what follows of a result's value
 pub if-ok : {T E : Type 0} (r : Result T E) (P Q : T → Type 0) → IfOk r P → ((t : T) → P t → Q t) → IfOk r Q

@@ -17,6 +17,7 @@ use Rattle.nofs_script.specs.Session.{session_of}
 use Rattle.nofs_state.specs.declared.books.maps.Books.{Books}
 use Rattle.nofs_shared.specs.Mount.Invariant.{IsMount}
 use Rattle.nofs_tool.specs.declared.begin.mounts.Numbers.{Numbers}
+use Rattle.nofs_tool.specs.Begin.Mounts.{IsRaisedFrom}
 use Rattle.nofs_tool.specs.Drill.{IsDrillFollowed}
 use Rattle.nofs_tool.specs.Session.Serve.{FollowsScripts, IsFollowed, IsClosed}
 use Rattle.nofs_tool.specs.Session.Entries.{has_fault}
@@ -35,14 +36,14 @@ headline-any : (Follows : SuperBlock → Bool → List Entry1 → Type 0) (found
     (k : Books) (text : Option (List ℕ))
     (ran : HistoryState)
     (h : Option HistoryState) → first ≡ 0 → h ≡ Some ran → ∥ IsMount found before first k ∥₁
-    → ∥ Finished found last first ran ∥₁
+    → IsRaisedFrom found k.at → ∥ Finished found last first ran ∥₁
     → (short : Bool) → (short ≡ true → text ≡ None) → Follows k.at short ran.entries
     → IfSome text (λ _. IsClosed last ran.entries) → (text ≡ None → status ≡ 7)
     → (status ≡ 0 → has_fault ran.entries ≡ false)
     → ((at : SuperBlock) (B : Image) (V : World) → Follows at false ran.entries
     → Run ran.start (world_of B 0) ran.entries V → has_fault ran.entries ≡ false
     → ShowsDisk at V last.now → IsWholeScan V last.now) → IfSome h (λ x. ∥ IsHeadlineOf Follows found last status x ∥₁)
-headline-any Follows found before last first status k text ran h zero some stands ends short early follows closed
+headline-any Follows found before last first status k text ran h zero some stands read ends short early follows closed
     unsaid sound scan =
     subst (λ (o : Option HistoryState). IfSome o (λ x. ∥ IsHeadlineOf Follows found last status x ∥₁)) (sym some)
     (∥∥₁_elim stands ∥∥₁_prop
@@ -61,6 +62,7 @@ headline-any Follows found before last first status k text ran h zero some stand
     made : IsMount found before first k → Finished found last 0 ran → IsHeadlineOf Follows found last status ran
     made m e = record {
       at = k.at;
+      read = read;
       numbers = λ q. (m.stands q).raised;
       short = short;
       early = λ s. unsaid (early s);
@@ -83,12 +85,12 @@ headline-any Follows found before last first status k text ran h zero some stand
 pub headline-of : (scripts : List (List Command)) (found before last : DiskState) (first status : ℕ) (k : Books)
     (text : Option (List ℕ)) (ran : HistoryState)
     (h : Option HistoryState) → first ≡ 0 → h ≡ Some ran → ∥ IsMount found before first k ∥₁
-    → ∥ Finished found last first ran ∥₁
+    → IsRaisedFrom found k.at → ∥ Finished found last first ran ∥₁
     → IsFollowed scripts k.at text ran.entries → IfSome text (λ _. IsClosed last ran.entries)
     → (text ≡ None → status ≡ 7)
     → (status ≡ 0 → has_fault ran.entries ≡ false) → IfSome h (λ x. ∥ IsHeadline scripts found last status x ∥₁)
-headline-of scripts found before last first status k text ran h zero some stands ends f closed unsaid sound =
-    headline-any (FollowsScripts scripts) found before last first status k text ran h zero some stands ends f.short
+headline-of scripts found before last first status k text ran h zero some stands read ends f closed unsaid sound =
+    headline-any (FollowsScripts scripts) found before last first status k text ran h zero some stands read ends f.short
     f.early f.follows closed unsaid sound
     (λ at B V follows run ok shows.
     whole-scan scripts at follows.0 ran.entries ran.start 0 B V last.now follows.1 run ok shows)
@@ -97,13 +99,14 @@ headline-of scripts found before last first status k text ran h zero some stands
 pub drill-of : (start steps : ℕ) (found before last : DiskState) (first status : ℕ) (k : Books) (text : Option (List ℕ))
     (ran : HistoryState)
     (h : Option HistoryState) → first ≡ 0 → h ≡ Some ran → ∥ IsMount found before first k ∥₁
-    → ∥ Finished found last first ran ∥₁
+    → IsRaisedFrom found k.at → ∥ Finished found last first ran ∥₁
     → IsDrillFollowed start steps k.at text ran.entries → IfSome text (λ _. IsClosed last ran.entries)
     → (text ≡ None → status ≡ 7)
     → (status ≡ 0 → has_fault ran.entries ≡ false)
     → IfSome h (λ x. ∥ IsHeadlineOf (FollowsDrill start steps) found last status x ∥₁)
-drill-of start steps found before last first status k text ran h zero some stands ends f closed unsaid sound =
-    headline-any (FollowsDrill start steps) found before last first status k text ran h zero some stands ends f.short
+drill-of start steps found before last first status k text ran h zero some stands read ends f closed unsaid sound =
+    headline-any (FollowsDrill start steps) found before last first status k text ran h zero some stands
+    read ends f.short
     f.early f.follows closed unsaid sound
     (λ at B V follows run ok shows.
     whole-drill start steps at ran.entries ran.start 0 B V last.now follows run ok shows)
@@ -112,13 +115,13 @@ drill-of start steps found before last first status k text ran h zero some stand
 pub visit-of : (P : List Made → Type 0) (found before last : DiskState) (first status : ℕ) (k : Books)
     (text : Option (List ℕ)) (ran : HistoryState)
     (h : Option HistoryState) → first ≡ 0 → h ≡ Some ran → ∥ IsMount found before first k ∥₁
-    → ∥ Finished found last first ran ∥₁
+    → IsRaisedFrom found k.at → ∥ Finished found last first ran ∥₁
     → IsVisitFollowed P k.at text ran.entries → IfSome text (λ _. IsClosed last ran.entries)
     → (text ≡ None → status ≡ 7)
     → (status ≡ 0 → has_fault ran.entries ≡ false)
     → IfSome h (λ x. ∥ IsHeadlineOf (FollowsVisit P) found last status x ∥₁)
-visit-of P found before last first status k text ran h zero some stands ends f closed unsaid sound =
-    headline-any (FollowsVisit P) found before last first status k text ran h zero some stands ends f.short f.early
+visit-of P found before last first status k text ran h zero some stands read ends f closed unsaid sound =
+    headline-any (FollowsVisit P) found before last first status k text ran h zero some stands read ends f.short f.early
     f.follows closed unsaid sound
     (λ at B V follows run ok shows. whole-visit P at ran.entries ran.start 0 B V last.now follows run ok shows)
 

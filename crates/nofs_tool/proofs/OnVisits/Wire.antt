@@ -19,6 +19,7 @@ use Rattle.nofs_wire.specs.Server.Serve.{Serves, EndsSo, IsServed, IsServedInPar
 use Rattle.nofs_wire.specs.declared.server.serve.WireEnd.{WireEnd}
 use Rattle.nofs_wire.specs.declared.server.serve.WireEnd.TheVariants as ended
 use Rattle.nofs_tool.specs.Runs.Complete.{CanBeMounted, HoldsFrames, NoneRose}
+use Rattle.nofs_tool.specs.Begin.Mounts.{IsRaisedFrom}
 use Rattle.nofs_tool.specs.Runs.Headline.{IsHeadlineOf}
 use Rattle.nofs_tool.specs.Runs.Tool.{IsRefusedBy, IsStatus}
 use Rattle.nofs_tool.specs.Visits.Visit.{FollowsVisit, IsVisitRun}
@@ -271,21 +272,22 @@ wire-completes old new source_old source_new sink_old sink_new s h none held rea
 -- the headline of frames at a mount
 pub wire-headline : (P : List Made → Type 0) (found before last : DiskState) (first status : ℕ) (k : Books) (out : Bool)
     (ran : HistoryState) → first ≡ 0
-    → ∥ IsMount found before first k ∥₁ → ∥ Finished found last first ran ∥₁
+    → ∥ IsMount found before first k ∥₁ → IsRaisedFrom found k.at → ∥ Finished found last first ran ∥₁
     → IsVisitRun P k.at.inodes k.at.blocks out ran.entries
     → (out ≡ false → IsClosed last ran.entries) → (out ≡ true → status ≡ 7)
     → (status ≡ 0 → has_fault ran.entries ≡ false)
     → ∥ IsHeadlineOf (FollowsVisit P) found last status ran ∥₁
-wire-headline P found before last first status k out ran begins stands ends run closed unsaid sound =
+wire-headline P found before last first status k out ran begins stands read ends run closed unsaid sound =
     go out run closed unsaid
   where
     go : (b : Bool) → IsVisitRun P k.at.inodes k.at.blocks b ran.entries → (b ≡ false → IsClosed last ran.entries)
         → (b ≡ true → status ≡ 7)
         → ∥ IsHeadlineOf (FollowsVisit P) found last status ran ∥₁
-    go true run closed unsaid = visit-of P found before last first status k None ran (Some ran) begins refl stands ends
+    go true run closed unsaid =
+        visit-of P found before last first status k None ran (Some ran) begins refl stands read ends
         (record { short = true; early = λ e. refl; follows = run }) tt (λ e. unsaid refl) sound
     go false run closed unsaid =
-        visit-of P found before last first status k (Some []) ran (Some ran) begins refl stands ends
+        visit-of P found before last first status k (Some []) ran (Some ran) begins refl stands read ends
         (record { short = false; early = λ e. absurd (cc e); follows = run }) (closed refl) (λ e. absurd (cc e)) sound
 
 pub short-seven : (b : Bool) (e : WireEnd) (f : Bool) → b ≡ true → wire_status b e f ≡ 7

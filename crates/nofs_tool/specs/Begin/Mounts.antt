@@ -5,29 +5,45 @@ use Rattle.nofs_disk.specs.Adds.{Adds}
 use Rattle.nofs_disk.specs.Disk.{DiskState, KeepsCells, Rose, cell_at}
 use Rattle.nofs_super.specs.Format.{FormatEnds, IsFormatted, IsFreshCell}
 use Rattle.nofs_super.specs.Geometry.{format_fault}
+use Rattle.nofs_super.specs.Raise.{raised}
 use Rattle.nofs_super.specs.Super.{check_super}
 use Rattle.nofs_super.specs.declared.geometry.FormatFault.{FormatFault}
 use Rattle.nofs_super.specs.declared.geometry.FormatFault.TheVariants as format
 use Rattle.nofs_super.specs.declared.superblock.MountFault.{MountFault}
 use Rattle.nofs_super.specs.declared.superblock.MountFault.TheVariants as mount
-use Rattle.nofs_shared.specs.Mount.Begin.{BeginFails}
+use Rattle.nofs_super.specs.declared.superblock.SuperBlock.{SuperBlock}
+use Rattle.nofs_shared.specs.Mount.Begin.{BeginFails, MountsBy}
 use Rattle.nofs_tool.specs.declared.begin.mounts.Cause.{Cause}
 use Rattle.nofs_tool.specs.declared.begin.mounts.Cause.TheVariants.{Device, NoMemory, Format, Mount}
 use Rattle.nofs_tool.specs.declared.begin.mounts.Numbers.{Numbers}
 use Rattle.nofs_tool.specs.Session.Whole.{IsMet}
+
+-- Over any disk the superblock of a mount is the one that was read of the disk that it found, with a mount number one
+-- higher; where the disk tells, block 0 spells the one that was read
+pub record IsRaisedFrom (found : DiskState) (at : SuperBlock) : Type 0 where
+  pub before : SuperBlock
+  pub mounts : MountsBy found before
+  pub is : at ≡ raised before
 
 -- the cause that the program tells of a mount
 abbrev pub mount_cause : MountFault → Cause
 mount_cause mount.ReadFault = Device
 mount_cause mount.WriteFault = Device
 mount_cause mount.OutOfMemory = NoMemory
-mount_cause fault = Mount fault
+mount_cause (mount.BadMagic found) = Mount (mount.BadMagic found)
+mount_cause (mount.BadVersion found) = Mount (mount.BadVersion found)
+mount_cause (mount.BadGeometry blocks inodes) = Mount (mount.BadGeometry blocks inodes)
+mount_cause (mount.DeviceTooSmall has) = Mount (mount.DeviceTooSmall has)
+mount_cause (mount.MountsSpent found) = Mount (mount.MountsSpent found)
+mount_cause (mount.BadRest place) = Mount (mount.BadRest place)
 
 -- and of a format
 abbrev pub format_cause : FormatFault → Cause
 format_cause format.WriteFault = Device
 format_cause format.OutOfMemory = NoMemory
-format_cause fault = Format fault
+format_cause (format.TooSmall least) = Format (format.TooSmall least)
+format_cause (format.TooLarge most) = Format (format.TooLarge most)
+format_cause (format.NotMultiple inodes) = Format (format.NotMultiple inodes)
 
 -- 3 for a fault of the device, 7 for want of memory, 4 for all others
 abbrev pub status_of : Cause → ℕ

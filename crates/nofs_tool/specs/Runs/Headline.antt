@@ -12,6 +12,7 @@ use Rattle.nofs_history.specs.declared.machine.history.Entry1.{Entry1}
 use Rattle.nofs_client.specs.declared.task.commands.Command.{Command}
 use Rattle.nofs_shared.specs.Mount.End.{Ends}
 use Rattle.nofs_tool.specs.declared.begin.mounts.Numbers.{Numbers}
+use Rattle.nofs_tool.specs.Begin.Mounts.{IsRaisedFrom}
 use Rattle.nofs_tool.specs.declared.begin.words.Request.{Request}
 use Rattle.nofs_tool.specs.declared.begin.words.Request.TheVariants.{New, Run, Scan, Drill, Upgrade, Salvage, Wire}
 use Rattle.nofs_tool.specs.Drill.{IsDrillRun}
@@ -23,15 +24,17 @@ use Rattle.nofs_tool.specs.Visits.Visit.{FollowsVisit}
 use Rattle.nofs_tool.specs.Visits.Wire.{IsWired}
 
 -- THE HEADLINE, of one history over the disk that the mount found. Its entries follow what was asked for (`Follows`, by
--- the numbers of the mount, and whether memory was wanting, which is so at status 7 alone). Where the premises are met,
+-- the numbers of the mount, and whether memory was wanting, which is so at status 7 alone); those numbers are of the
+-- superblock that the mount read, over any disk. Where the premises are met,
 -- `Ends` says further: the history is a run of the machine with its replies; at each moment, in mid-step too, every
 -- image that a crash may leave is allowed; what is claimed was free; and each image is one on which the premises are
 -- met again. At status 0 the machine knows every inode and every block, and says of each what the full scan of the disk
 -- handed back says; and each block of that disk may be left as a read gives it alone
 pub record IsHeadlineOf (Follows : SuperBlock → Bool → List Entry1 → Type 0) (found last : DiskState) (status : ℕ)
     (h : HistoryState) : Type 0 where
-  -- the numbers of the mount
+  -- the numbers of the mount, which it read over any disk
   pub at : SuperBlock
+  pub read : IsRaisedFrom found at
   pub numbers : IsMet found → at ≡ raised (super_at found.now)
   pub short : Bool
   pub early : short ≡ true → status ≡ 7

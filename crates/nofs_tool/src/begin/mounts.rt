@@ -1,12 +1,12 @@
 //! Formatting a device and mounting it.
 //!
-//! Promise: a mount that begins has raised the mount number, durably. A fault of the device is answered only where the
-//! device's count of faults rose.
+//! Promise: a mount that begins has raised the mount number, durably, and its numbers are those that it read. A fault
+//! of the device is answered only where the device's count of faults rose.
 
 ghost use Rattle.std.specs.Prelude.{◌≡◌, ◌≤◌, [], IfErr, IfOk, IsTrue, Some};
 ghost use Rattle.nofs_super.specs.Format.{IsFormatted};
 ghost use Rattle.nofs_tool.specs.Session.Whole.{IsMet};
-ghost use Rattle.nofs_tool.specs.Begin.Mounts.{HasNoMount, IsUnformatted, IsUnmounted};
+ghost use Rattle.nofs_tool.specs.Begin.Mounts.{HasNoMount, IsRaisedFrom, IsUnformatted, IsUnmounted};
 ghost use Rattle.nofs_tool.specs.Begin.Mounts.{format_cause as format_cause_in};
 ghost use Rattle.nofs_tool.specs.Begin.Mounts.{mount_cause as mount_cause_in};
 ghost use Rattle.nofs_tool.specs.Begin.Mounts.{status_of as status_in};
@@ -73,14 +73,22 @@ fn mount_cause(fault: MountFault) -> Cause
     match fault {
         MountFault::ReadFault | MountFault::WriteFault => Cause::Device,
         MountFault::OutOfMemory => Cause::NoMemory,
-        _ => Cause::Mount(fault),
+        MountFault::BadMagic { found } => Cause::Mount(MountFault::BadMagic { found }),
+        MountFault::BadVersion { found } => Cause::Mount(MountFault::BadVersion { found }),
+        MountFault::BadGeometry { blocks, inodes } => {
+            Cause::Mount(MountFault::BadGeometry { blocks, inodes })
+        }
+        MountFault::DeviceTooSmall { has } => Cause::Mount(MountFault::DeviceTooSmall { has }),
+        MountFault::MountsSpent { found } => Cause::Mount(MountFault::MountsSpent { found }),
+        MountFault::BadRest { at } => Cause::Mount(MountFault::BadRest { at }),
     }
 }
 
-/// Mounts a device: its mount number is then one higher, durably.
+/// Mounts a device: its mount number is then one higher, durably, and its numbers are those that block 0 was read as.
 #[tactic(auto, using(crate::proofs::OnBegin::Causes::unmounted_by))]
 pub(crate) fn mount<D: Disk + Drop>(alloc: Global, disk: D) -> Result<Mount<D>, Refused<D>>
     ensures mount { IfOk result (λ m. (m.found.value ≡ disk) × (m.first ≡ 0) × (m.core.books.history.entries ≡ [])) }
+    ensures raised { IfOk result (λ m. IsRaisedFrom (D.state m.found.value) m.core.books.at) }
     ensures refused { IfErr result (λ r. IsUnmounted (D.state disk) (D.state r.disk) r.cause) }
 {
     match Mount::begin(alloc, disk, 0) {
@@ -100,6 +108,7 @@ pub(crate) fn format_and_mount<D: Disk + Drop>(
 ) -> Result<Mount<D>, Refused<D>>
     ensures mount { IfOk result (λ m. (m.first ≡ 0) × (m.core.books.history.entries ≡ [])
         × ((D.state disk).faults ≤ (D.state m.found.value).faults)) }
+    ensures raised { IfOk result (λ m. IsRaisedFrom (D.state m.found.value) m.core.books.at) }
     ensures formatted { IfOk result
         (λ m. IsFormatted numbers.blocks numbers.inodes (D.state disk) (D.state m.found.value)) }
     ensures met { IfOk result (λ m. IsTrue (D.state disk).tells → IsMet (D.state m.found.value)) }

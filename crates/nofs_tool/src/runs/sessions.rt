@@ -3,7 +3,7 @@
 ghost use Rattle.std.specs.Prelude.{◌≡◌, ◌≢◌, ◌⊎◌, ◌+◌, [], None, Some, IfSome};
 ghost use Rattle.nofs_script.specs.Session.{IsSession};
 ghost use Rattle.nofs_io.specs.Texts.{AppendsAll, TakesAtMost};
-ghost use Rattle.nofs_tool.specs.Begin.Mounts.{HasNoMount};
+ghost use Rattle.nofs_tool.specs.Begin.Mounts.{HasNoMount, IsRaisedFrom};
 ghost use Rattle.nofs_tool.specs.Runs.Said.{IsUnread, Said, SaysCause, SaysFault, SaysSession};
 ghost use Rattle.nofs_tool.specs.Runs.Headline.{HeadlineOf, IsHeadline};
 ghost use Rattle.nofs_tool.specs.Runs.Statuses.{IsExplained, KeepsDevice};
@@ -34,6 +34,7 @@ fn mounted<R: Threads + Wait + Sync, K: Sink, D: Disk + Drop + Send>(
     requires session { IsSession session }
     requires new { mount.core.books.history.entries ≡ [] }
     requires first { mount.first ≡ 0 }
+    requires raised { IsRaisedFrom (D.state mount.found.value) mount.core.books.at }
     ensures headline { IfSome result.history
         (λ h. ∥ IsHeadline session (D.state mount.found.value) (D.state result.disk) result.status h ∥₁) }
     ensures ends { MountEnds (D.state mount.found.value) (D.state result.disk) (K.state sink.old)

@@ -7,7 +7,7 @@ ghost use Rattle.std.specs.Prelude.{◌≡◌, ◌≢◌, ◌+◌, [], None, Som
 ghost use Rattle.nofs_disk.specs.Disk.{Rose};
 ghost use Rattle.nofs_io.specs.Texts.{TakesAtMost};
 ghost use Rattle.nofs_wire.specs.Server.Serve.{Serves};
-ghost use Rattle.nofs_tool.specs.Begin.Mounts.{HasNoMount};
+ghost use Rattle.nofs_tool.specs.Begin.Mounts.{HasNoMount, IsRaisedFrom};
 ghost use Rattle.nofs_tool.specs.Visits.Visit.{FollowsVisit, IsVisitRun};
 ghost use Rattle.nofs_tool.specs.Session.Serve.{IsClosed};
 ghost use Rattle.nofs_tool.specs.Session.Whole.{Finished};
@@ -155,6 +155,7 @@ fn mounted<R: Threads + Wait + Sync, Q: Source, K: Sink, D: Disk + Drop + Send>(
 ) -> Outcome<D>
     requires new { mount.core.books.history.entries ≡ [] }
     requires first { mount.first ≡ 0 }
+    requires raised { IsRaisedFrom (D.state mount.found.value) mount.core.books.at }
     ensures headline { IfSome result.history
         (λ h. ∥ IsHeadlineOf (FollowsVisit (IsWired (Q.state source.old).left (Q.state source.new).left))
         (D.state mount.found.value) (D.state result.disk) result.status h ∥₁) }

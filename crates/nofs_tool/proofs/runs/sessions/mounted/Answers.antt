@@ -29,7 +29,8 @@ returns-clause-headline g c =
     (λ h. ∥ IsHeadline c.args.session found (S d) w.result.status h ∥₁)) (sym e.disk.0)
     (headline-of c.args.session found (S m.core.disk)
     (S ran.disk) m.first w.result.status m.core.books ran.text ran.history w.result.history c.requires.first
-    e.disk.1 m.stands c.run_session.ensures.ends c.run_session.ensures.follows c.run_session.ensures.closed e.unsaid
+    e.disk.1 m.stands c.requires.raised c.run_session.ensures.ends c.run_session.ensures.follows
+    c.run_session.ensures.closed e.unsaid
     (λ d. (e.done d).0))
 
 pub returns-clause-part : goal.returns-clause-part

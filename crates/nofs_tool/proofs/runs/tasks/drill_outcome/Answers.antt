@@ -30,7 +30,8 @@ returns-in-Ok-clause-headline g c =
     (drill-of c.args.start c.args.steps (S m.found.value) (S m.core.disk) (S c.run_drill.result.disk)
     m.first w.result.status m.core.books c.run_drill.result.text c.run_drill.result.history w.result.history
     c.in-Ok.ensures.mount.0
-    w.ensures.disk.1 m.stands c.run_drill.ensures.ends c.run_drill.ensures.follows c.run_drill.ensures.closed
+    w.ensures.disk.1 m.stands c.in-Ok.ensures.raised c.run_drill.ensures.ends c.run_drill.ensures.follows
+    c.run_drill.ensures.closed
     w.ensures.unsaid (λ d. (w.ensures.done d).0)))
 
 pub returns-in-Ok-clause-done : goal.returns-in-Ok-clause-done

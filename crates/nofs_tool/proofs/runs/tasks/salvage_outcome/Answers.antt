@@ -23,6 +23,7 @@ returns-in-Ok-clause-headline g c =
     (visit-of AreReads (S m.found.value) (S m.core.disk)
     (S c.run_salvage.result.disk) m.first w.result.status m.core.books c.run_salvage.result.text
     c.run_salvage.result.history w.result.history c.in-Ok.ensures.mount.1 w.ensures.disk.1 m.stands
+    c.in-Ok.ensures.raised
     c.run_salvage.ensures.ends c.run_salvage.ensures.follows
     c.run_salvage.ensures.closed w.ensures.unsaid (λ d. (w.ensures.done d).0)))
 

@@ -27,7 +27,8 @@ returns-in-Ok-clause-headline g c =
     (λ h. ∥ IsHeadline [] (S m.found.value) (S d) w.result.status h ∥₁)) (sym w.ensures.disk.0)
     (headline-of [] (S m.found.value) (S m.core.disk)
     (S c.run_scan.result.disk) m.first w.result.status m.core.books c.run_scan.result.text
-    c.run_scan.result.history w.result.history c.in-Ok.ensures.mount.1 w.ensures.disk.1 m.stands c.run_scan.ensures.ends
+    c.run_scan.result.history w.result.history c.in-Ok.ensures.mount.1 w.ensures.disk.1 m.stands c.in-Ok.ensures.raised
+    c.run_scan.ensures.ends
     c.run_scan.ensures.follows
     c.run_scan.ensures.closed w.ensures.unsaid (λ d. (w.ensures.done d).0)))
 

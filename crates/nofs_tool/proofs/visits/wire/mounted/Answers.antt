@@ -23,7 +23,8 @@ returns-clause-headline g c =
     let is : c.wire_status-status.result ≡ wire_status r.out_of_memory r.end f =
     c.wire_status-status.ensures ∙ ap (wire_status r.out_of_memory r.end) c.has_fault_in.ensures in
     wire-headline _ (S m.found.value) (S m.core.disk) (S r.disk)
-    m.first c.wire_status-status.result m.core.books r.out_of_memory r.history c.requires.first m.stands e.ends
+    m.first c.wire_status-status.result m.core.books r.out_of_memory r.history c.requires.first m.stands
+    c.requires.raised e.ends
     e.ran e.closed (λ h. is ∙ short-seven r.out_of_memory r.end f h)
     (λ h. (zero-end r.out_of_memory r.end f (sym is ∙ h)).1)
 
