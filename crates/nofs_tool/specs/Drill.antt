@@ -30,6 +30,7 @@ use Rattle.nofs_io.specs.Texts.{AppendsAll}
 use Rattle.nofs_shared.specs.Mount.Entries.{AddsStep}
 use Rattle.nofs_serve.specs.Session.{TeamMade}
 use Rattle.nofs_tool.specs.Session.Entries.{has_fault, session_lines}
+use Rattle.nofs_tool.specs.Session.Serve.{AreSwept}
 use Rattle.nofs_tool.specs.declared.drill.reads.FileRead.{FileRead}
 
 -- the scripts of the four users
@@ -276,11 +277,12 @@ pub record IsReadRun (short : Bool) (served H : List Entry1) : Type 0 where
 
 -- What a drill adds to the history of a new mount, whatever comes of it: the steps of the drawn users and of the
 -- sweeps, which are as those of every session; and behind them those of PROGRAM. Where memory was wanting (`short`),
--- each may have ended early
+-- each user may have ended early, or nobody was served
 pub record IsDrillRun (start steps inodes blocks : ℕ) (short : Bool) (H : List Entry1) : Type 0 where
   pub served : List Entry1
   pub lines : List (List Line)
   pub team : TeamMade (drill_session start steps) inodes blocks short lines (λ c. steps_by c served)
+  pub swept : AreSwept inodes blocks [] served
   pub reads : IsReadRun short served H
 
 -- what a drill leaves: its history, and whether there is a text of it

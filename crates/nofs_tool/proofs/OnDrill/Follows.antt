@@ -1,5 +1,5 @@
 -- What a drill leaves in the history, whatever comes of it.
-use Rattle.std.proofs.Common.{◌≡◌, ℕ, Bool, true, false, not, List, [], length, drop, Result, Ok, None, refl, sym}
+use Rattle.std.proofs.Common.{◌≡◌, inl, ℕ, Bool, true, false, not, List, [], length, drop, Result, Ok, None, refl, sym}
 use Rattle.std.proofs.Common.{ap, ◌∙◌, subst, arith}
 use Rattle.std.specs.declared.option.Option.{Option}
 use Rattle.nofs_super.specs.declared.superblock.SuperBlock.{SuperBlock}
@@ -17,6 +17,7 @@ use Rattle.nofs_serve.specs.Session.{TeamMade, TeamServed}
 use Rattle.nofs_serve.proofs.OnSession.{team-unserved}
 use Rattle.nofs_tool.specs.declared.drill.reads.FileRead.{FileRead}
 use Rattle.nofs_tool.specs.Drill.{AreFourBegun, AreFourRead, IsDrillFollowed, IsReadFollowed, ReadsBy, drill_session}
+use Rattle.nofs_tool.specs.Session.Serve.{AreSwept}
 use Rattle.nofs_tool.proofs.OnSession.Serve.{sweeps-shorter}
 use Rattle.nofs_tool.proofs.OnDrill.Reads.{BeginsBy, none-begun}
 
@@ -86,8 +87,9 @@ pub drill-follows : (start steps : ℕ) (at : SuperBlock) (out : Bool) (lines : 
     (scripts : List (List Command)) (before served H : List Entry1)
     (text : Option (List ℕ)) → scripts ≡ drill_session start steps
     → before ≡ [] → TeamServed scripts at.inodes at.blocks out lines before served
+    → AreSwept at.inodes at.blocks before served
     → IsReadFollowed out served text H → IsDrillFollowed start steps at text H
-drill-follows start steps at out lines scripts before served H text same empty t r =
+drill-follows start steps at out lines scripts before served H text same empty t swept r =
     let first : TeamMade scripts at.inodes at.blocks out lines (λ c. steps_by c served) = subst
     (λ (h : List Entry1). TeamMade scripts at.inodes at.blocks out lines
     (λ c. steps_by c (drop (length h) served))) empty t.made in
@@ -106,6 +108,7 @@ drill-follows start steps at out lines scripts before served H text same empty t
           blocks_seen = sweeps-shorter _ _ at.blocks out r.short _ r.less named.blocks_seen;
           others = named.others;
         };
+        swept = subst (λ (h : List Entry1). AreSwept at.inodes at.blocks h served) empty swept;
         reads = r.reads;
       };
     }
@@ -116,6 +119,6 @@ pub drill-unserved : (start steps : ℕ) (at : SuperBlock) (text : Option (List 
     → IsDrillFollowed start steps at text H
 drill-unserved start steps at text H none said =
     drill-follows start steps at true [] (drill_session start steps) [] [] H text refl refl
-    (team-unserved (drill_session start steps) at.inodes at.blocks true [] [] [] refl refl)
+    (team-unserved (drill_session start steps) at.inodes at.blocks true [] [] [] refl refl) (inl refl)
     (read-cut true [] [] H text none said
     (none-begun AreFourBegun [] [] refl ([], [], [], refl, omega arith, refl, tt)))

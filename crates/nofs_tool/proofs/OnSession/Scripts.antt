@@ -1,5 +1,5 @@
 -- What a serving leaves follows the scripts, also where nobody was served.
-use Rattle.std.proofs.Common.{◌≡◌, ℕ, Bool, true, false, List, [], Option, None, refl, sym, subst}
+use Rattle.std.proofs.Common.{◌≡◌, inl, ℕ, Bool, true, false, List, [], Option, None, refl, sym, subst}
 use Rattle.nofs_super.specs.declared.superblock.SuperBlock.{SuperBlock}
 use Rattle.nofs_history.specs.declared.machine.history.Entry1.{Entry1}
 use Rattle.nofs_history.specs.declared.machine.replies.Reply.TheVariants as reply
@@ -20,7 +20,7 @@ unserved-follows scripts at text H none said = record {
   follows = (
     [],
     run-closed scripts at.inodes at.blocks true false [] [] [] H (reply.Refused refusal.OutOfMemory) refl
-        (team-unserved scripts at.inodes at.blocks true [] [] [] refl refl)
+        (team-unserved scripts at.inodes at.blocks true [] [] [] refl refl) (inl refl)
         (record { none = λ e. none; one = λ e. cc }) refl,
   );
 }

@@ -1,6 +1,6 @@
 -- Plans of a session, what its run leaves, and its text by the lines that its users came to.
-use Rattle.std.proofs.Common.{◌≡◌, ◌≢◌, ℕ, ◌+◌, ◌<◌, ◌≤◌, Bool, true, false, ◌||◌, not, List, [], ◌∷◌, ◌++◌, length}
-use Rattle.std.proofs.Common.{drop, get_or, map, flat_map, Result, Ok}
+use Rattle.std.proofs.Common.{◌≡◌, ◌≢◌, ◌⊎◌, inl, inr, ℕ, ◌+◌, ◌<◌, ◌≤◌, Bool, true, false, ◌||◌, not, List, [], ◌∷◌}
+use Rattle.std.proofs.Common.{◌++◌, length, drop, get_or, map, flat_map, Result, Ok}
 use Rattle.std.proofs.Common.{Err, cond, ne_eqb, refl, sym, ap, ◌∙◌, subst, arith, append_assoc}
 use Rattle.std.specs.Prelude.{filter, All, IfOk, IfSome}
 use Rattle.std.specs.Result.{result_ok}
@@ -9,6 +9,7 @@ use Rattle.std.specs.List.{AllByRecursion, remove}
 use Rattle.std.proofs.lemmas.List.{map_push}
 use Rattle.std.proofs.lemmas.List.Elements.{All-from_recursion}
 use Rattle.nofs_history.specs.declared.machine.callers.TheConstants.{MOST_USERS}
+use Rattle.nofs_super.specs.declared.superblock.SuperBlock.{SuperBlock}
 use Rattle.nofs_history.specs.Steps.{Made, is_out_of_memory}
 use Rattle.nofs_history.specs.declared.machine.history.Entry1.{Entry1}
 use Rattle.nofs_history.specs.declared.machine.steps.Step.{Step}
@@ -21,14 +22,16 @@ use Rattle.nofs_client.specs.Task.Commands.{AreWellFormed}
 use Rattle.nofs_client.specs.declared.task.lines.Line.{Line}
 use Rattle.nofs_client.specs.Driver.{LinesFollow, lines_of, made_reply}
 use Rattle.nofs_script.specs.Text.{text_of}
+use Rattle.nofs_shared.specs.Acts.Sees.{sweep_entries}
 use Rattle.nofs_shared.specs.Mount.Entries.{AddsStep}
 use Rattle.nofs_serve.specs.Teams.Users.{UsersServed}
-use Rattle.nofs_serve.specs.Session.{TeamMade, TeamServed}
+use Rattle.nofs_serve.specs.Session.{IsUnserved, TeamEnded, TeamMade, TeamServed}
+use Rattle.nofs_serve.specs.Teams.Beside.{SweepsMade}
 use Rattle.nofs_script.specs.Session.{IsSession}
 use Rattle.nofs_workers.specs.Sweep.{Sweeps}
 use Rattle.nofs_serve.proofs.OnTeams.Gathered.{length-scripts, neither}
 use Rattle.nofs_tool.specs.Session.Entries.{session_lines, session_text}
-use Rattle.nofs_tool.specs.Session.Serve.{IsSessionRun}
+use Rattle.nofs_tool.specs.Session.Serve.{AreSwept, IsSessionRun}
 
 module _ {W : Type 0} (f : W → List Command) where
   -- one more plan, for the first of the scripts that are left
@@ -70,13 +73,31 @@ pub twice : (b : Bool) → not (not b) ≡ false → b ≡ false
 twice true e = e
 twice false e = refl
 
+room-enough : (n i b j c room : ℕ) → n ≡ 0 → i ≡ j → b ≡ c → room ≡ j + c → n + i + b ≤ room
+room-enough n i b j c room none is bs enough = omega (arith, none, is, bs, enough)
+
+-- the mount took memory for an entry of each element
+pub swept-of : (scripts : List (List Command)) (it at : SuperBlock) (room : ℕ) (short : Bool) (early : List Bool)
+    (lines : List (List Line)) (H K : List Entry1) → it ≡ at → H ≡ [] → room ≡ at.inodes + at.blocks
+    → IsUnserved short early lines H K ⊎ TeamEnded scripts room it.inodes it.blocks early lines H K
+    → AreSwept at.inodes at.blocks H K
+swept-of scripts it at room short early lines H K same empty is (inl u) = inl u.stays
+swept-of scripts it at room short early lines H K same empty is (inr t) =
+    let none : sweep_entries H ≡ 0 = ap sweep_entries empty in
+    let enough : sweep_entries H + it.inodes + it.blocks ≤ room =
+    room-enough (sweep_entries H) it.inodes it.blocks at.inodes at.blocks room none
+    (ap (λ (s : SuperBlock). s.inodes) same) (ap (λ (s : SuperBlock). s.blocks) same) is in
+    inr (subst (λ (s : SuperBlock). SweepsMade s.inodes s.blocks false (λ c. steps_by c (drop (length H) K))) same
+    (t.sweeps enough))
+
 -- a team's steps, and then the flush
 pub run-closed : (scripts : List (List Command)) (inodes blocks : ℕ) (out closed : Bool) (lines : List (List Line))
     (before served all : List Entry1)
     (flush : Reply) → before ≡ [] → TeamServed scripts inodes blocks out lines before served
+    → AreSwept inodes blocks before served
     → AddsStep 0 (step.Flush 0 0) flush served all
     → closed ≡ not (is_out_of_memory flush) → IsSessionRun scripts inodes blocks (out || not closed) lines all
-run-closed scripts inodes blocks out closed lines before served all flush empty t adds is =
+run-closed scripts inodes blocks out closed lines before served all flush empty t swept adds is =
     let made : TeamMade scripts inodes blocks out lines (λ c. steps_by c served) = subst
     (λ (h : List Entry1). TeamMade scripts inodes blocks out lines
     (λ c. steps_by c (drop (length h) served))) empty t.made in
@@ -95,6 +116,7 @@ run-closed scripts inodes blocks out closed lines before served all flush empty 
       closes = adds;
       closed = λ e. twice (is_out_of_memory flush) (ap not (sym is) ∙ (neither out (not closed) e).1);
       team = team;
+      swept = subst (λ (h : List Entry1). AreSwept inodes blocks h served) empty swept;
     }
 
 -- an entry of another caller leaves a caller's steps

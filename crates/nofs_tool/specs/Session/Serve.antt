@@ -1,5 +1,5 @@
 -- What a session leaves in the history of a mount.
-use Rattle.std.specs.Prelude.{◌≡◌, ℕ, Bool, false, List, true, None}
+use Rattle.std.specs.Prelude.{◌≡◌, ◌⊎◌, ℕ, Bool, false, List, [], true, None, length, drop}
 use Rattle.nofs_disk.specs.Disk.{DiskState, IsSettled}
 use Rattle.nofs_history.specs.declared.machine.callers.TheConstants.{PROGRAM}
 use Rattle.nofs_history.specs.Steps.{is_out_of_memory}
@@ -12,11 +12,18 @@ use Rattle.nofs_client.specs.declared.task.commands.Command.{Command}
 use Rattle.nofs_client.specs.declared.task.lines.Line.{Line}
 use Rattle.nofs_shared.specs.Mount.Entries.{AddsStep}
 use Rattle.nofs_serve.specs.Session.{TeamMade}
+use Rattle.nofs_serve.specs.Teams.Beside.{SweepsMade}
 use Rattle.std.specs.declared.option.Option.{Option}
 use Rattle.nofs_super.specs.declared.superblock.SuperBlock.{SuperBlock}
 
+-- behind these entries nobody was served, so that no step was made; or both sweeps examined each element
+abbrev pub AreSwept : ℕ → ℕ → List Entry1 → List Entry1 → Type 0
+AreSwept inodes blocks H K = (K ≡ H) ⊎ SweepsMade inodes blocks false (λ c. steps_by c (drop (length H) K))
+
 -- Each user is a caller of its own and made just the steps that its commands ask for, in order; each element was
--- examined once; and then PROGRAM made all durable. Where memory was wanting, each may have ended early
+-- examined once; and then PROGRAM made all durable. Where memory was wanting, each user may have ended early, and the
+-- flush may not have been made; no sweep ends early, for whose entries the mount took memory. Where it was wanting
+-- before the first step nobody was served, and there is no entry but that flush's
 pub record IsSessionRun (scripts : List (List Command)) (inodes blocks : ℕ) (short : Bool) (lines : List (List Line))
     (H : List Entry1) : Type 0 where
   pub served : List Entry1
@@ -24,6 +31,7 @@ pub record IsSessionRun (scripts : List (List Command)) (inodes blocks : ℕ) (s
   pub closes : AddsStep PROGRAM (step.Flush 0 0) flush served H
   pub closed : short ≡ false → is_out_of_memory flush ≡ false
   pub team : TeamMade scripts inodes blocks short lines (λ c. steps_by c served)
+  pub swept : AreSwept inodes blocks [] served
 
 -- PROGRAM's last flush, of the whole disk: what came before it, and what is left on the device where it was made
 pub record IsClosed (d : DiskState) (H : List Entry1) : Type 0 where
@@ -35,7 +43,8 @@ pub record IsClosed (d : DiskState) (H : List Entry1) : Type 0 where
 
 -- The entries of a history are just the steps that a session asks for: of each user those of its commands, in order, by
 -- the replies before; of the sweeps one for each element, the inodes upwards and the blocks downwards; then PROGRAM's
--- flush of the whole disk; and no other caller has any. Where memory was wanting (`short`), each may have ended early
+-- flush of the whole disk; and no other caller has any. Where memory was wanting (`short`), each user may have ended
+-- early, or nobody was served
 abbrev pub FollowsScripts : List (List Command) → SuperBlock → Bool → List Entry1 → Type 0
 FollowsScripts scripts at short H = (lines : List (List Line)) × IsSessionRun scripts at.inodes at.blocks short lines H
 

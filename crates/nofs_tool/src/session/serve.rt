@@ -20,7 +20,7 @@ ghost use Rattle.nofs_shared.specs.Mount.Entries.{AddsStep};
 ghost use Rattle.nofs_state.specs.declared.books.maps.Counts.{Counts};
 ghost use Rattle.nofs_tool.specs.Session.Entries.{has_fault, session_text};
 ghost use Rattle.nofs_tool.specs.Session.Counts.{IsCounted, counts_line};
-ghost use Rattle.nofs_tool.specs.Session.Serve.{IsFollowed, IsClosed, IsSessionRun};
+ghost use Rattle.nofs_tool.specs.Session.Serve.{AreSwept, IsClosed, IsFollowed, IsSessionRun};
 ghost use Rattle.nofs_tool.specs.Session.Whole.{Finished};
 
 use crate::session::counts::counts_text;
@@ -131,7 +131,8 @@ pub(crate) fn has_fault_in(history: &History) -> bool
     false
 }
 
-/// Serves users, each beside the sweeps and the flusher, which writes out as often as the disk has blocks.
+/// Serves users, each beside the sweeps and the flusher, which writes out as often as the disk has blocks. At a
+/// new mount both sweeps examine each element, since it took memory for their entries; or nobody is served.
 pub(crate) fn serve_users<R: Threads + Wait + Sync, D: Disk + Drop + Send>(
     rt: &R,
     alloc: Global,
@@ -141,6 +142,9 @@ pub(crate) fn serve_users<R: Threads + Wait + Sync, D: Disk + Drop + Send>(
     requires few { vec_len plans ≤ MOST_USERS }
     requires formed { All (λ p. AreWellFormed p.commands) plans.items }
     ensures same { (result.mount.found.value ≡ mount.found.value) × (result.mount.first ≡ mount.first) }
+    ensures swept { mount.core.books.history.entries ≡ []
+        → AreSwept mount.core.books.at.inodes mount.core.books.at.blocks mount.core.books.history.entries
+        result.mount.core.books.history.entries }
     ensures served { TeamServed (map (λ p. p.commands) plans.items) mount.core.books.at.inodes
         mount.core.books.at.blocks result.out_of_memory
         result.lines.items mount.core.books.history.entries result.mount.core.books.history.entries }

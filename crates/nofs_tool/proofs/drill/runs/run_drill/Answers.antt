@@ -23,8 +23,9 @@ returns-in-Ok-clause-follows g c =
     drill-follows c.args.start c.args.steps c.args.mount.core.books.at served.out_of_memory served.lines.items
     (map (λ p. p.commands) c.in-Ok.plans.items)
     c.args.mount.core.books.history.entries served.mount.core.books.history.entries ran.history.entries ran.text
-    c.in-Ok.ensures.scripts c.requires.new
-    c.serve_users.ensures.served c.read_and_close.ensures.follows
+    c.in-Ok.ensures.scripts c.requires.new c.serve_users.ensures.served
+    (c.serve_users.ensures.swept c.requires.new)
+    c.read_and_close.ensures.follows
 
 pub returns-in-Err-clause-follows : goal.returns-in-Err-clause-follows
 returns-in-Err-clause-follows g c =

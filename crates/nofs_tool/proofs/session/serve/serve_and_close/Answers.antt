@@ -22,4 +22,4 @@ returns-clause-ran g c =
     ] in
     subst (λ b. IsSessionRun scripts at.inodes at.blocks b lines all) short
     (run-closed scripts at.inodes at.blocks out closed lines before served all adds.0 c.requires.new
-    c.serve_users-mount.ensures.served adds.1 adds.2)
+    c.serve_users-mount.ensures.served (c.serve_users-mount.ensures.swept c.requires.new) adds.1 adds.2)
