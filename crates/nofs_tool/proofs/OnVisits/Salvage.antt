@@ -113,14 +113,8 @@ none-stopped (e ∷ es) moment end stopped last f going ok (inr later) =
 
 same-file : (o : Option FileState) → SameFile o o
 same-file None = tt
-same-file (Some f) = record {
-  generation = refl;
-  kind = refl;
-  size = refl;
-  links = refl;
-  values = λ k low. refl;
-  nodes = λ path slot held. refl;
-}
+same-file (Some f) =
+    record { generation = refl; kind = refl; size = refl; links = refl; values = λ k h. refl; nodes = λ p k h. refl }
 
 base-roots : (B : Image) (first : ℕ) → HasRoots (world_of B first).files
 unfolding world_of

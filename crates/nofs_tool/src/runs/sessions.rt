@@ -112,11 +112,11 @@ fn session_outcome<R: Threads + Wait + Sync, K: Sink, D: Disk + Drop + Send>(
     session: Session,
 ) -> Outcome<D>
     requires { IsSession session }
-    ensures headline { IfSome result.history
-        (HeadlineOf D.state numbers session disk (D.state result.disk) result.status) }
     ensures ends { SessionEnds (IsRefusedBy numbers (D.state disk) (D.state result.disk)) (D.state disk)
         (D.state result.disk)
         (K.state sink.old) (K.state sink.new) result.status result.history }
+    ensures headline { IfSome result.history
+        (HeadlineOf D.state numbers session disk (D.state result.disk) result.status) }
     ensures unserved { result.history ≡ None → SaysCause (HasNoMount D.state numbers disk result.disk)
         (K.state sink.old) (K.state sink.new) result.status }
     ensures silent { result.status ≡ 7 → AppendsAll (K.state sink.old) (K.state sink.new) [] }

@@ -120,11 +120,11 @@ fn run_walk<R: Threads + Wait + Sync, D: Disk + Drop + Send, P: Fn(&[u8]) -> boo
     mount: Mount<D>,
     filter: &NameFilter<P, N>,
 ) -> Ran<D>
+    requires new { mount.core.books.history.entries ≡ [] }
+    requires first { mount.first ≡ 0 }
     requires may { P.IsAlwaysCallable filter.now.keep }
     requires decides { (name : List ℕ) (yes : Bool) → FnReturnsAt P.Fn filter.now.keep name yes
         → yes ≡ N.picks filter.now.rule name }
-    requires new { mount.core.books.history.entries ≡ [] }
-    requires first { mount.first ≡ 0 }
     ensures ends { ∥ Finished (D.state mount.found.value) (D.state result.disk) mount.first result.history ∥₁ }
     ensures follows { IsVisitFollowed AreReads mount.core.books.at result.text result.history.entries }
     ensures closed { IfSome result.text (λ _. IsClosed (D.state result.disk) result.history.entries) }

@@ -21,12 +21,11 @@ returns-in-Ok-clause-met g c =
 pub returns-in-Ok-clause-refused : goal.returns-in-Ok-clause-refused
 returns-in-Ok-clause-refused g c =
     let S = g.D.Disk.state in
-    let e = c.in-Ok.ensures in
     let n = c.args.numbers in
     if-err c.mount.result (λ r. IsUnmounted (S c.format.new.disk) (S r.disk) r.cause)
     (λ r. IsUnformatted (S c.args.disk) (S r.disk) n.blocks n.inodes r.cause)
     c.mount.ensures.refused (λ r u. refused-later n.blocks n.inodes (S c.args.disk) (S c.format.new.disk)
-    (S r.disk) r.cause e.ends e.adds e.cells u)
+    (S r.disk) r.cause c.in-Ok.ensures.ends c.in-Ok.ensures.adds c.in-Ok.ensures.cells u)
 
 pub returns-in-Err-clause-refused : goal.returns-in-Err-clause-refused
 returns-in-Err-clause-refused g c =

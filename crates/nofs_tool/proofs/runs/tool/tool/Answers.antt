@@ -71,9 +71,9 @@ pub returns-in-Some-Wire-clause-said : goal.returns-in-Some-Wire-clause-said
 returns-in-Some-Wire-clause-said g c =
     let task : task_in (map string_bytes c.args.words.now) ≡ Some Wire =
     sym c.task_of.ensures ∙ (c.in-Some-Wire.is ∙ ap Some c.in-Some-Wire.field-0-is) in
+    let w = c.wire_outcome in
     let S = g.S.Source.state in
     let K = g.K.Sink.state in
-    let w = c.wire_outcome in
     subst (λ (t : Option Request). Said t (S c.args.source.now) (S w.new.source) TEXT_LIMIT
     (K c.args.sink.now) (K w.new.sink)
     w.result.status w.result.history) (sym task) (record {
