@@ -2,7 +2,7 @@
  *
  *     limit FILE LIST
  *
- * A line of the list is `w OFFSET LENGTH` (one pwrite), `r OFFSET LENGTH` (one pread) or `s 0 0` (one fsync). What is written are zeros;
+ * A line of the list is `w OFFSET LENGTH` (one pwrite), `r OFFSET LENGTH` (one pread) or `s 0 0` (one fdatasync). What is written are zeros;
  * a read may end at the end of the file. Status: 0 done, 1 a call failed, 2 wrong words.
  */
 #define _FILE_OFFSET_BITS 64
@@ -23,7 +23,7 @@ static int call(int file, char kind, long long offset, long length)
     case 'r':
         return pread(file, bytes, length, offset) >= 0;
     case 's':
-        return fsync(file) == 0;
+        return fdatasync(file) == 0;
     }
     return 0;
 }
