@@ -1,11 +1,13 @@
-use Rattle.std.proofs.Common.{sym, subst, Some}
+use Rattle.std.proofs.Common.{ℕ, List, sym, subst, Some}
 use Rattle.std.specs.Prelude.{IfSome}
+use Rattle.nofs_tool.specs.Drill.{IsDrilled}
 use Rattle.nofs_tool.specs.Runs.Headline.{FollowsDrill, IsHeadlineOf}
+use Rattle.nofs_tool.specs.Runs.Says.{Prints}
 use Rattle.nofs_tool.proofs.OnDrill.Ends.{drill-taken}
 use Rattle.nofs_tool.proofs.OnRuns.Headline.{drill-headline, drill-of}
 use Rattle.nofs_tool.proofs.OnRuns.Outcomes.{mounted-ends, run-ends}
 use Rattle.nofs_tool.specs.Begin.Mounts.{HasNoMount}
-use Rattle.nofs_tool.proofs.OnRuns.Said.{says-cause}
+use Rattle.nofs_tool.proofs.OnRuns.Said.{says-cause, told-text}
 use Rattle.nofs_tool.proofs.runs.tasks.drill_outcome.Goals as goal
 
 pub returns-in-Ok-clause-ends : goal.returns-in-Ok-clause-ends
@@ -46,3 +48,14 @@ returns-in-Err-clause-unserved g c = λ none. let e = c.refused.ensures in
     says-cause (HasNoMount g.D.Disk.state (Some (record { blocks = 4096; inodes = 256 })) c.args.disk) _ _
     c.in-Err.why.cause _ _ _ e.is.1 e.is.0
     c.in-Err.ensures.unmounted e.says
+
+pub returns-in-Ok-clause-part : goal.returns-in-Ok-clause-part
+returns-in-Ok-clause-part g c = λ ended.
+    let sink = g.K.Sink.state in
+    let w = c.written in
+    let ran = c.run_drill.result.history in
+    told-text (sink c.args.sink.now) (sink w.new.sink) (IsDrilled c.args.start c.args.steps ran.entries)
+    (λ x. (text : List ℕ) × IsDrilled c.args.start c.args.steps x.entries text
+    × Prints (sink c.args.sink.now) (sink w.new.sink) text)
+    c.run_drill.result.text ran w.result.history w.result.status w.ensures.disk.1 w.ensures.unsaid w.ensures.says
+    c.run_drill.ensures.drilled (λ t has said. (t, has, said)) ended
