@@ -61,16 +61,6 @@ pub fn user_worker_new<S: Steps, T: Gate>(
     UserWorker::new(alloc, steps, commands, gate)
 }
 
-/// `nofs_workers::UserWorker::work`
-pub fn user_worker_work<S: Steps, T: Gate>(this: &mut UserWorker<S, T>) {
-    this.work();
-}
-
-/// `nofs_workers::UserWorker::into_inner`
-pub fn user_worker_into_inner<S: Steps, T: Gate + Drop>(this: UserWorker<S, T>) -> UserEnd<S> {
-    this.into_inner()
-}
-
 /// `nofs_workers::InodeSweeper::new`
 pub fn inode_sweeper_new<S: Batches, O: Course, T: Gate>(
     steps: S,
@@ -82,18 +72,6 @@ pub fn inode_sweeper_new<S: Batches, O: Course, T: Gate>(
     InodeSweeper::new(steps, order, gate)
 }
 
-/// `nofs_workers::InodeSweeper::work`
-pub fn inode_sweeper_work<S: Batches, O: Course, T: Gate>(this: &mut InodeSweeper<S, O, T>) {
-    this.work();
-}
-
-/// `nofs_workers::InodeSweeper::into_inner`
-pub fn inode_sweeper_into_inner<S: Batches, O: Course + Drop, T: Gate + Drop>(
-    this: InodeSweeper<S, O, T>,
-) -> S {
-    this.into_inner()
-}
-
 /// `nofs_workers::BlockSweeper::new`
 pub fn block_sweeper_new<S: Batches, O: Course, T: Gate>(
     steps: S,
@@ -103,9 +81,41 @@ pub fn block_sweeper_new<S: Batches, O: Course, T: Gate>(
     BlockSweeper::new(steps, order, gate)
 }
 
+/// `nofs_workers::Flusher::new`
+pub fn flusher_new<S: WritesOut, T: Gate>(steps: S, gate: T, turns: u64) -> Flusher<S, T> {
+    Flusher::new(steps, gate, turns)
+}
+
+/// `nofs_workers::UserWorker::work`
+pub fn user_worker_work<S: Steps, T: Gate>(this: &mut UserWorker<S, T>) {
+    this.work();
+}
+
+/// `nofs_workers::InodeSweeper::work`
+pub fn inode_sweeper_work<S: Batches, O: Course, T: Gate>(this: &mut InodeSweeper<S, O, T>) {
+    this.work();
+}
+
 /// `nofs_workers::BlockSweeper::work`
 pub fn block_sweeper_work<S: Batches, O: Course, T: Gate>(this: &mut BlockSweeper<S, O, T>) {
     this.work();
+}
+
+/// `nofs_workers::Flusher::work`
+pub fn flusher_work<S: WritesOut, T: Gate>(this: &mut Flusher<S, T>) {
+    this.work();
+}
+
+/// `nofs_workers::UserWorker::into_inner`
+pub fn user_worker_into_inner<S: Steps, T: Gate + Drop>(this: UserWorker<S, T>) -> UserEnd<S> {
+    this.into_inner()
+}
+
+/// `nofs_workers::InodeSweeper::into_inner`
+pub fn inode_sweeper_into_inner<S: Batches, O: Course + Drop, T: Gate + Drop>(
+    this: InodeSweeper<S, O, T>,
+) -> S {
+    this.into_inner()
 }
 
 /// `nofs_workers::BlockSweeper::into_inner`
@@ -113,16 +123,6 @@ pub fn block_sweeper_into_inner<S: Batches, O: Course + Drop, T: Gate + Drop>(
     this: BlockSweeper<S, O, T>,
 ) -> S {
     this.into_inner()
-}
-
-/// `nofs_workers::Flusher::new`
-pub fn flusher_new<S: WritesOut, T: Gate>(steps: S, gate: T, turns: u64) -> Flusher<S, T> {
-    Flusher::new(steps, gate, turns)
-}
-
-/// `nofs_workers::Flusher::work`
-pub fn flusher_work<S: WritesOut, T: Gate>(this: &mut Flusher<S, T>) {
-    this.work();
 }
 
 /// `nofs_workers::Flusher::into_inner`
@@ -136,9 +136,9 @@ pub fn salvage_salvage<S: Steps, P: Fn(&[u8]) -> bool, R: NameRule>(
     steps: &mut S,
     filter: &NameFilter<P, R>,
 ) -> Result<Report, SalvageFault>
-    requires may { P.IsAlwaysCallable filter.now.keep }
     requires decides { (name : List ℕ) (yes : Bool) → FnReturnsAt P.Fn filter.now.keep name yes
         → yes ≡ R.picks filter.now.rule name }
+    requires may { P.IsAlwaysCallable filter.now.keep }
 {
     nofs_salvage::salvage(alloc, steps, filter)
 }

@@ -22,7 +22,7 @@ pub fn core_fields<D: Disk + Drop>(it: Core<D>) -> (D, Books) {
 }
 
 /// `nofs_state::Counts`
-pub fn counts_fields(it: Counts) -> (u64, u64, u64, u64, u64, u64) {
+pub fn counts_fields(it: Counts) -> ([u64; 3], [u64; 3]) {
     let Counts {
         inodes_used,
         inodes_free,
@@ -31,18 +31,12 @@ pub fn counts_fields(it: Counts) -> (u64, u64, u64, u64, u64, u64) {
         blocks_free,
         blocks_unchecked,
     } = it;
-    (
-        inodes_used,
-        inodes_free,
-        inodes_unchecked,
-        blocks_used,
-        blocks_free,
-        blocks_unchecked,
-    )
+    let inodes = [inodes_used, inodes_free, inodes_unchecked];
+    (inodes, [blocks_used, blocks_free, blocks_unchecked])
 }
 
 /// `nofs_state::Room`
-pub fn room_fields(it: Room) -> (Bits, Bits, Known, Bits, Bits, History) {
+pub fn room_fields(it: Room) -> ([Bits; 2], Known, [Bits; 2], History) {
     let Room {
         unknown_inodes,
         free_inodes,
@@ -51,14 +45,8 @@ pub fn room_fields(it: Room) -> (Bits, Bits, Known, Bits, Bits, History) {
         free_blocks,
         history,
     } = it;
-    (
-        unknown_inodes,
-        free_inodes,
-        agreement,
-        unknown_blocks,
-        free_blocks,
-        history,
-    )
+    let inodes = [unknown_inodes, free_inodes];
+    (inodes, agreement, [unknown_blocks, free_blocks], history)
 }
 
 /// `nofs_state::InodeClaim`
@@ -120,10 +108,10 @@ pub fn core_set_pointer<D: Disk + Drop>(
     slot: u64,
     to: Pointer,
 ) -> Result<(), Failed>
+    requires spare { 1 ≤ (D.state this.old.disk).spare }
     requires inode { 1 ≤ inode }
     requires slot { IsTrue (is_slot slot) }
     requires block { (spot_at cells.now inode (path_of slot)).block < (D.state this.old.disk).blocks }
-    requires spare { 1 ≤ (D.state this.old.disk).spare }
     requires told { IsTrue (D.state this.old.disk).tells
         → (spot_at cells.now inode (path_of slot)).cell
         ≡ cell_at (D.state this.old.disk).now (spot_at cells.now inode (path_of slot)).block }

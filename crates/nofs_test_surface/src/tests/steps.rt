@@ -206,7 +206,7 @@ pub fn scan_commit<D: Disk + Drop>(
     at: u32,
     used: bool,
 ) -> bool
-    requires { MayCommit (D.state core.old.disk) core.old.books evidence.now.core.value.books
+    requires may { MayCommit (D.state core.old.disk) core.old.books evidence.now.core.value.books
         evidence.now.verdicts at used }
 {
     nofs_scan::commit(core, evidence, at, used)
