@@ -176,11 +176,11 @@ pub fn wire_serve<S: Steps, Q: Source, K: Sink>(
 pub fn wire_end_variant(it: &WireEnd) -> u8 {
     match it {
         WireEnd::End => 0,
-        WireEnd::Cut { at } => typed::<u64>(at, 1),
-        WireEnd::Bad { at } => typed::<u64>(at, 2),
         WireEnd::TooLong => 3,
+        WireEnd::Cut { at } => typed::<u64>(at, 1),
         WireEnd::SourceFault => 4,
         WireEnd::SinkFault => 5,
+        WireEnd::Bad { at } => typed::<u64>(at, 2),
         WireEnd::OutOfMemory => 6,
     }
 }
