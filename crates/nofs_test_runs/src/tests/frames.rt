@@ -73,8 +73,9 @@ fn a_source_of_single_bytes_is_served_the_same(rt: HostRuntime) -> Result<(), Fa
 #[test]
 fn a_call_that_fails_ends_the_frames(rt: HostRuntime) -> Result<(), Fail> {
     let alloc = rt.alloc();
+    // Each frame, of 17 bytes, comes in a piece of its own: so its reply is given before the next one is taken.
     for (source_call, sink_call, status) in [(2, 0, 6), (0, 2, 5), (0, 0, 0)] {
-        let mut source = MemSource::new(alloc, &stats(alloc, 3)?, 65_536, &[source_call])?;
+        let mut source = MemSource::new(alloc, &stats(alloc, 3)?, 17, &[source_call])?;
         let mut sink = MemSink::new(alloc, 65_536, &[sink_call])?;
         let disk = empty_disk(alloc)?;
         let (ended, _) = run_with(&rt, alloc, "wire", &mut source, &mut sink, disk)?;
