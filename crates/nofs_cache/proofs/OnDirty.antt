@@ -1,29 +1,25 @@
--- Entries of dirty blocks in another order.
-use Rattle.std.proofs.Common.{◌≡◌, ◌≢◌, ◌⊎◌, ℕ, ◌<◌, ◌≤◌, Bool, false, true≢false, List, length, map, take, get_or}
-use Rattle.std.proofs.Common.{arith, inl, inr, refl, sym, ap, subst}
-use Rattle.std.proofs.Common.{◌∙◌, Err}
-use Rattle.std.specs.Prelude.{Contains, IsPermutation}
+-- Entries of dirty blocks in another order, and the order in which they are written.
+use Rattle.std.proofs.Common.{◌≡◌, ℕ, ◌+◌, ◌-◌, ◌<◌, true≢false, List, length, map, take, drop, get_or}
+use Rattle.std.proofs.Common.{arith, inl, inr, sym, ap, subst, eqb, eq-eqb}
+use Rattle.std.proofs.Common.{◌∙◌, Option, Result, Ok, Err}
+use Rattle.std.specs.Prelude.{Contains, IsPermutation, slice_index}
 use Rattle.std.specs.List.{swap}
-use Rattle.std.specs.List.Sorted.{IsSortedBy}
-use Rattle.std.specs.Cmp.{IsStrictWeakOrder, ranks}
-use Rattle.std.specs.Ordering.{MatchOrdering, is_lt, nat_cmp}
-use Rattle.std.specs.declared.cmp.Ordering.{Ordering}
-use Rattle.std.specs.declared.cmp.Ordering.TheVariants.{Less, Equal, Greater}
-use Rattle.std.proofs.lemmas.Bool.{cases_eq, cases_lt}
-use Rattle.std.proofs.lemmas.Cmp.{nat_cmp_total}
-use Rattle.std.proofs.lemmas.List.{get_or_default, get_or-map, get_or-take, length-map, take-take}
+use Rattle.std.specs.List.Sorted.{IsNonDecreasing}
+use Rattle.std.proofs.lemmas.Bool.{cases_eq, cases_lt, ne_eqb}
+use Rattle.std.proofs.lemmas.Bool.Decides.{eqb_tells}
+use Rattle.std.proofs.lemmas.List.{get_or_default, get_or-drop, get_or-map}
+use Rattle.std.proofs.lemmas.List.{get_or-take, length-drop, length-map, length-take-le}
 use Rattle.std.proofs.lemmas.List.Edits.{length-swap, swapped_from_swap}
 use Rattle.std.proofs.lemmas.List.Elements.{Contains-get_or}
-use Rattle.std.proofs.lemmas.List.Sorted.{Contains-permutation, IsPermutation-keeps, IsPermutation-map}
-use Rattle.std.proofs.lemmas.List.Sorted.{IsPermutation-sym, IsStrictWeakOrder-flip, ranks_by}
-use Rattle.std.proofs.lemmas.List.Sorted.{sorted_far}
+use Rattle.std.proofs.lemmas.List.Sorted.{Contains-permutation, IsPermutation-map, IsPermutation-sym}
+use Rattle.std.proofs.lemmas.Map.Keys.{IsDistinct-from_apart, IsDistinct-IsPermutation, apart_from_distinct}
 use Rattle.nofs_disk.specs.declared.Failed.{Failed}
 use Rattle.nofs_disk.specs.Disk.{DiskState, Rose, cell_at}
 use Rattle.nofs_disk.specs.Chains.{IsSameDisk-refl, KeepsPast-refl}
 use Rattle.nofs_cache.specs.declared.dirty.cells.DirtyEntry.{DirtyEntry}
-use Rattle.nofs_cache.specs.Cached.{SettlesDirty, WritesRising, WrittenBack}
-use Rattle.nofs_cache.specs.Dirty.Entries.{AreBelow, AreSlotted, BlocksFall, HaveOwnBlocks, dirty_entry_at}
-use Rattle.nofs_cache.specs.Dirty.Entries.{no_dirty_entry}
+use Rattle.nofs_cache.specs.Cached.{SettlesDirty, TakesOut, WritesRising, WrittenBack}
+use Rattle.nofs_cache.specs.Dirty.Entries.{AreLeft, AreSlotted, HaveOwnBlocks, IsDirtyEntryOf, IsLast, IsOrder, Rises}
+use Rattle.nofs_cache.specs.Dirty.Entries.{dirty_entry_at, no_dirty_entry}
 
 -- where an entry stands in another order
 pub place_of : (xs ys : List DirtyEntry) → IsPermutation xs ys → (k : ℕ) → k < length xs
@@ -42,90 +38,183 @@ pub own_slotted : (slots : List ℕ) (entries : List DirtyEntry) → AreSlotted 
 own_slotted slots entries s =
     record { own = λ i j i_low j_low same. sym (s.at i i_low) ∙ ap (λ b. get_or slots b 0) same ∙ s.at j j_low }
 
--- where what is at a place stood before two were swapped
-abbrev Moved : ℕ → ℕ → ℕ → ℕ → Type 0
-Moved a b i k = ((i ≡ a) × (k ≡ b)) ⊎ (((i ≡ b) × (k ≡ a)) ⊎ ((i ≢ a) × (i ≢ b) × (k ≡ i)))
+-- the entry of a block after it changed places with the last one
+pub last_exchanged : (l new : List DirtyEntry) (at b : ℕ) → IsDirtyEntryOf l b at → new ≡ swap l at (length l - 1)
+    → IsLast new b
+last_exchanged l new at b entry is =
+    let low = entry.low in
+    let last = length l - 1 in
+    let len : length new ≡ length l = ap length is ∙ length-swap l at last in
+    let moved = swapped_from_swap l new at last no_dirty_entry low (omega arith) is in
+    let end : length new - 1 ≡ last = omega arith in
+    record {
+      some = omega arith;
+      block = ap (λ k. (dirty_entry_at new k).block) end ∙ ap (λ e. e.block) moved.1 ∙ entry.block;
+    }
 
-moved_apart : (a b i j k : ℕ) → Moved a b i k → Moved a b j k → i ≡ j
-moved_apart a b i j k (inl (p, q)) (inl (r, s)) = omega arith
-moved_apart a b i j k (inl (p, q)) (inr (inl (r, s))) = omega arith
-moved_apart a b i j k (inl (p, q)) (inr (inr (r, s, t))) = absurd (s (omega arith))
-moved_apart a b i j k (inr (inl (p, q))) (inl (r, s)) = omega arith
-moved_apart a b i j k (inr (inl (p, q))) (inr (inl (r, s))) = omega arith
-moved_apart a b i j k (inr (inl (p, q))) (inr (inr (r, s, t))) = absurd (r (omega arith))
-moved_apart a b i j k (inr (inr (p, q, t))) (inl (r, s)) = absurd (q (omega arith))
-moved_apart a b i j k (inr (inr (p, q, t))) (inr (inl (r, s))) = absurd (p (omega arith))
-moved_apart a b i j k (inr (inr (p, q, t))) (inr (inr (r, s, u))) = omega arith
+-- a write below that failed took nothing out
+pub stays_out : (before after : List DirtyEntry) (result : Result (Option ℕ) Failed) (failed : Failed)
+    → TakesOut before after result → result ≡ Err failed → after ≡ before
+stays_out before after (Err f) failed out is = out.1
+stays_out before after (Ok o) failed out is = cc
 
-moved_at : (l : List DirtyEntry) (a b i : ℕ) → a < length l → b < length l → i < length l
-    → (k : ℕ) × (k < length l) × (dirty_entry_at (swap l a b) i ≡ dirty_entry_at l k) × Moved a b i k
-moved_at l a b i a_low b_low low =
-    let s = swapped_from_swap l (swap l a b) a b no_dirty_entry a_low b_low refl in
-    elim (cases_eq i a) [
-      | inl at_a ↦ let F : ℕ → Type 0 = λ m. dirty_entry_at (swap l a b) m ≡ dirty_entry_at l b in
-          (b, b_low, subst F (sym at_a) s.0, inl (at_a, refl))
-      | inr not_a ↦ elim (cases_eq i b) [
-        | inl at_b ↦ let F : ℕ → Type 0 = λ m. dirty_entry_at (swap l a b) m ≡ dirty_entry_at l a in
-            (a, a_low, subst F (sym at_b) s.1, inr (inl (at_b, refl)))
-        | inr not_b ↦ (i, low, s.2 i not_a not_b, inr (inr (not_a, not_b, refl)))
+-- the block at a place
+block_at : (entries : List DirtyEntry) (k b : ℕ) → k < length entries
+    → get_or (map (λ e. e.block) entries) k b ≡ (dirty_entry_at entries k).block
+block_at entries k b low = get_or-map (λ e. e.block) entries k no_dirty_entry b low
+
+eqb_flips : (x y : ℕ) → eqb x y ≡ eqb y x
+eqb_flips x y = elim (eqb_tells x y) [
+  | inl same ↦ same.0 ∙ sym (eq-eqb y x (sym same.1))
+  | inr differ ↦ differ.0 ∙ sym (ne_eqb y x (λ e. differ.1 (sym e)))
+]
+
+-- the blocks of entries, sorted
+pub order_sorted : (entries : List DirtyEntry) (order : List ℕ) → HaveOwnBlocks entries
+    → IsPermutation (map (λ e. e.block) entries) order → IsNonDecreasing order → IsOrder entries order
+order_sorted entries order is same sorted =
+    let blocks = map (λ e. e.block) entries in
+    let long : length blocks ≡ length entries = length-map entries (λ e. e.block) in
+    let apart = IsDistinct-from_apart eqb blocks (λ i j d before low.
+    ne_eqb (get_or blocks i d) (get_or blocks j d)
+    (λ e. let i_at = block_at entries i d (omega arith) in
+    let j_at = block_at entries j d (omega arith) in
+    let one : i ≡ j = is.own i j (omega arith) (omega arith) (sym i_at ∙ e ∙ j_at) in omega arith)) in
+    let distinct = IsDistinct-IsPermutation eqb eqb_flips blocks order same apart in
+    record {
+      same = same;
+      rises = record {
+        above = λ i j before low.
+            let most = sorted i j 0 (omega arith) low in
+            let differ = apart_from_distinct eqb order i j 0 distinct before low in
+            elim (cases_eq (get_or order i 0) (get_or order j 0)) [
+              | inl equal ↦ absurd (true≢false (sym (eq-eqb _ _ equal) ∙ differ))
+              | inr other ↦ omega arith
+            ];
+      };
+    }
+
+-- what stands behind a place of an order
+behind : (order : List ℕ) (k m b : ℕ) → k + m < length order → get_or order (k + m) b ≡ b → Contains (drop k order) b
+behind order k m b low is =
+    let len = length-drop k order in (m, omega arith, get_or-drop k order m b ∙ is)
+
+-- and what is behind a place stands in it
+pub from_behind : (order : List ℕ) (k b : ℕ) → Contains (drop k order) b
+    → (m : ℕ) × (k + m < length order) × (get_or order (k + m) b ≡ b)
+from_behind order k b (m, low, is) =
+    let len = length-drop k order in (m, omega arith, sym (get_or-drop k order m b) ∙ is)
+
+pub left_start : (entries : List DirtyEntry) (order : List ℕ) → IsOrder entries order → AreLeft entries order 0
+left_start entries order is = record {
+  listed = λ b has. Contains-permutation _ _ b is.same has;
+  dirty = λ b has. Contains-permutation _ _ b (IsPermutation-sym _ _ is.same) has;
+}
+
+-- another order of the entries leaves what is left
+pub left_reordered : (xs ys : List DirtyEntry) (order : List ℕ) (place : ℕ) → IsPermutation xs ys
+    → AreLeft xs order place → AreLeft ys order place
+left_reordered xs ys order place same left =
+    let blocks = IsPermutation-map (λ e. e.block) xs ys same in
+    record {
+      listed = λ b has. left.listed b (Contains-permutation _ _ b (IsPermutation-sym _ _ blocks) has);
+      dirty = λ b has. Contains-permutation _ _ b blocks (left.dirty b has);
+    }
+
+-- the block at a place is left
+pub left_here : (entries : List DirtyEntry) (order : List ℕ) (place b : ℕ) → place < length order
+    → b ≡ slice_index order place → AreLeft entries order place → Contains (map (λ e. e.block) entries) b
+left_here entries order place b low is left =
+    let F : ℕ → Type 0 = λ m. get_or order m b ≡ b in
+    let here : place ≡ place + 0 = omega arith in
+    left.dirty b (behind order place 0 b (omega arith) (subst F here (get_or_default order place b 0 low ∙ sym is)))
+
+-- what stands at a place stands at an equal one
+moves : (order : List ℕ) (i j b : ℕ) → i ≡ j → get_or order i b ≡ b → get_or order j b ≡ b
+moves order i j b same is = ap (λ m. get_or order m b) (sym same) ∙ is
+
+-- the last entry is taken, which is that of the block at the place
+module _ (entries after : List DirtyEntry) (order : List ℕ) (place b : ℕ) (own : HaveOwnBlocks entries)
+    (rises : Rises order) (low : place < length order) (is : b ≡ slice_index order place) (last : IsLast entries b)
+    (left : AreLeft entries order place) (cut : after ≡ take (length entries - 1) entries) where
+  taken_long : length after ≡ length entries - 1
+  taken_long = ap length cut ∙ length-take-le (length entries - 1) entries (omega arith)
+
+  all_long : length (map (λ e. e.block) entries) ≡ length entries
+  all_long = length-map entries (λ e. e.block)
+
+  -- the block at a place that is left
+  taken_at : (k x : ℕ) → k < length after → get_or (map (λ e. e.block) after) k x ≡ (dirty_entry_at entries k).block
+  taken_at k x in_range = block_at after k x in_range
+      ∙ ap (λ l. (dirty_entry_at l k).block) cut
+      ∙ ap (λ e. e.block)
+      (get_or-take (length entries - 1) entries k no_dirty_entry (let len = taken_long in omega arith))
+
+  next_listed : (x : ℕ) → Contains (map (λ e. e.block) after) x → Contains (drop (place + 1) order) x
+  next_listed x (i, in_range, here) =
+      let some = last.some in
+      let len = taken_long in
+      let all = all_long in
+      let fewer = length-map after (λ e. e.block) in
+      let at : (dirty_entry_at entries i).block ≡ x = sym (taken_at i x (omega arith)) ∙ here in
+      let h = from_behind order place x
+      (left.listed x (i, omega arith, block_at entries i x (omega arith) ∙ at)) in
+      elim (cases_eq h.0 0) [
+        | inl none ↦
+            let same : x ≡ b = sym (moves order (place + h.0) place x (omega arith) h.2)
+            ∙ get_or_default order place x 0 low ∙ sym is in
+            let one : i ≡ length entries - 1 = own.own i (length entries - 1) (omega arith) (omega arith)
+            (at ∙ same ∙ sym last.block) in
+            absurd (omega arith)
+        | inr more ↦
+            let in_order = h.1 in
+            behind order (place + 1) (h.0 - 1) x (omega arith)
+            (moves order (place + h.0) (place + 1 + (h.0 - 1)) x (omega arith) h.2)
       ]
-    ]
 
-swap_own : (l : List DirtyEntry) (a b : ℕ) → a < length l → b < length l → HaveOwnBlocks l → HaveOwnBlocks (swap l a b)
-swap_own l a b a_low b_low is = record {
-  own = λ i j i_low j_low same.
-      let len = length-swap l a b in
-      let p = moved_at l a b i a_low b_low (omega arith) in
-      let q = moved_at l a b j a_low b_low (omega arith) in
-      let block : DirtyEntry → ℕ = λ e. e.block in
-      let one : p.0 ≡ q.0 = is.own p.0 q.0 p.1 q.1 (sym (ap block p.2) ∙ same ∙ ap block q.2) in
-      let F : ℕ → Type 0 = λ m. Moved a b i m in
-      moved_apart a b i j q.0 (subst F one p.3) q.3;
-}
+  next_dirty : (x : ℕ) → Contains (drop (place + 1) order) x → Contains (map (λ e. e.block) after) x
+  next_dirty x has =
+      let len = taken_long in
+      let all = all_long in
+      let fewer = length-map after (λ e. e.block) in
+      let h = from_behind order (place + 1) x has in
+      let in_order = h.1 in
+      let there = left.dirty x (behind order place (h.0 + 1) x (omega arith)
+      (moves order (place + 1 + h.0) (place + (h.0 + 1)) x (omega arith) h.2)) in
+      let in_range = there.1 in
+      let at : (dirty_entry_at entries there.0).block ≡ x =
+      sym (block_at entries there.0 x (omega arith)) ∙ there.2 in
+      elim (cases_eq there.0 (length entries - 1)) [
+        | inl end ↦
+            let here : x ≡ slice_index order place = sym at ∙ ap (λ k. (dirty_entry_at entries k).block) end
+            ∙ last.block ∙ is in
+            let later : get_or order (place + 1 + h.0) 0 ≡ x =
+            get_or_default order (place + 1 + h.0) 0 x (omega arith) ∙ h.2 in
+            let above = rises.above place (place + 1 + h.0) (omega arith) (omega arith) in
+            absurd (omega arith)
+        | inr other ↦ (there.0, omega arith, taken_at there.0 x (omega arith) ∙ at)
+      ]
 
--- what another order keeps
-pub own_reordered : (xs ys : List DirtyEntry) → IsPermutation xs ys → HaveOwnBlocks xs → HaveOwnBlocks ys
-own_reordered xs ys same is =
-    IsPermutation-keeps xs (λ l. HaveOwnBlocks l) is (λ l i j i_low j_low own. swap_own l i j i_low j_low own) ys same
+  pub left_next : AreLeft after order (place + 1)
+  left_next = record { listed = next_listed; dirty = next_dirty }
 
-pub below_reordered : (xs ys : List DirtyEntry) (slots : List ℕ) → IsPermutation xs ys → AreSlotted slots xs
-    → AreBelow ys (length slots)
-below_reordered xs ys slots same s = record {
-  low = λ i low.
-      let h = place_before xs ys same i low in
-      let F : DirtyEntry → Type 0 = λ e. e.block < length slots in
-      subst F h.2 (s.low h.0 h.1);
-}
-
--- the order in which the sort leaves the entries
-abbrev pub is_above : DirtyEntry → DirtyEntry → Bool
-is_above one other = is_lt (nat_cmp other.block one.block)
-
-pub above_order : IsStrictWeakOrder is_above
-above_order =
-    let block : DirtyEntry → ℕ = λ e. e.block in
-    let lt : DirtyEntry → DirtyEntry → Bool = λ one other. is_lt (nat_cmp one.block other.block) in
-    IsStrictWeakOrder-flip lt (ranks_by nat_cmp_total block)
-
-not_less : (x y : ℕ) → is_lt (nat_cmp x y) ≡ false → y ≤ x
-not_less x y = go (nat_cmp x y) (ranks x y)
-  where
-    go : (r : Ordering) → MatchOrdering r (x < y) (x ≡ y) (y < x) → is_lt r ≡ false → y ≤ x
-    go Less is none = absurd (true≢false none)
-    go Equal is none = omega arith
-    go Greater is none = omega arith
-
-pub falls_sorted : (entries : List DirtyEntry) → HaveOwnBlocks entries → IsSortedBy is_above entries
-    → BlocksFall entries
-falls_sorted entries is sorted = record {
-  falls = λ i j before low.
-      let one = (dirty_entry_at entries i).block in
-      let other = (dirty_entry_at entries j).block in
-      let at_most : other ≤ one =
-      not_less one other (sorted_far is_above above_order entries sorted i j no_dirty_entry (omega arith) low) in
-      elim (cases_eq other one) [
-        | inl same ↦ let e : j ≡ i = is.own j i low (omega arith) same in absurd (omega arith)
-        | inr differ ↦ omega arith
+-- what was written is below what is left
+pub rising_left : (before after : List DirtyEntry) (order : List ℕ) (place : ℕ) → IsOrder before order
+    → AreLeft after order place → WritesRising (map (λ e. e.block) before) (map (λ e. e.block) after)
+rising_left before after order place is left = record {
+  above = λ b c has had gone.
+      let p = Contains-permutation _ _ c is.same had in
+      let h = from_behind order place b (left.listed b has) in
+      let j_low = p.1 in
+      let i_low = h.1 in
+      let at_c : get_or order p.0 0 ≡ c = get_or_default order p.0 0 c p.1 ∙ p.2 in
+      let at_b : get_or order (place + h.0) 0 ≡ b = get_or_default order (place + h.0) 0 b h.1 ∙ h.2 in
+      elim (cases_lt p.0 place) [
+        | inl early ↦ let less = is.rises.above p.0 (place + h.0) (omega arith) (omega arith) in omega arith
+        | inr late ↦
+            let F : ℕ → Type 0 = λ m. get_or order m c ≡ c in
+            let same : p.0 ≡ place + (p.0 - place) = omega arith in
+            absurd (gone (left.dirty c (behind order place (p.0 - place) c (omega arith) (subst F same p.2))))
       ];
 }
 
@@ -171,44 +260,4 @@ settles_no_more old new before after failed writes_back rose = record {
   was = λ now ag. tt;
   cause = rose;
   no_fault = tt;
-}
-
--- what stands at a place of a front
-front_at : (mid new : List DirtyEntry) → new ≡ take (length new) mid → (k : ℕ) → k < length new
-    → dirty_entry_at new k ≡ dirty_entry_at mid k
-front_at mid new front k low = ap (λ l. get_or l k no_dirty_entry) front
-    ∙ get_or-take (length new) mid k no_dirty_entry low
-
--- the block at a place
-block_at : (entries : List DirtyEntry) (k b : ℕ) → k < length entries
-    → get_or (map (λ e. e.block) entries) k b ≡ (dirty_entry_at entries k).block
-block_at entries k b low = get_or-map (λ e. e.block) entries k no_dirty_entry b low
-
--- a front of a front
-pub front-trans : (a b c : List DirtyEntry) → length c ≤ length b → b ≡ take (length b) a → c ≡ take (length c) b
-    → c ≡ take (length c) a
-front-trans a b c le p q = q ∙ ap (λ l. take (length c) l) p ∙ take-take (length c) (length b) a le
-
--- where the blocks fell, and entries were taken from the end
-pub rising_front : (old mid new : List DirtyEntry) → IsPermutation old mid → BlocksFall mid → length new ≤ length mid
-    → new ≡ take (length new) mid
-    → WritesRising (map (λ e. e.block) old) (map (λ e. e.block) new)
-rising_front old mid new same fall le front = record {
-  above = λ b c has had gone.
-      let p = Contains-permutation (map (λ e. e.block) old) (map (λ e. e.block) mid) c
-      (IsPermutation-map (λ e. e.block) old mid same) had in
-      let new_len : length (map (λ e. e.block) new) ≡ length new = length-map new (λ e. e.block) in
-      let mid_len : length (map (λ e. e.block) mid) ≡ length mid = length-map mid (λ e. e.block) in
-      let i = has.0 in
-      let i_low : i < length new = let l = has.1 in omega arith in
-      let j = p.0 in
-      let j_low : j < length mid = let l = p.1 in omega arith in
-      let is_b : (dirty_entry_at mid i).block ≡ b = ap (λ e. e.block) (sym (front_at mid new front i i_low))
-      ∙ sym (block_at new i b i_low) ∙ has.2 in
-      let is_c : (dirty_entry_at mid j).block ≡ c = sym (block_at mid j c j_low) ∙ p.2 in
-      elim (cases_lt j (length new)) [
-        | inl early ↦ absurd
-            (gone (j, omega arith, block_at new j c early ∙ ap (λ e. e.block) (front_at mid new front j early) ∙ is_c))
-        | inr late ↦ let less = fall.falls i j (omega arith) j_low in omega arith
-      ];
 }

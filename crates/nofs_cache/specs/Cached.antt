@@ -12,7 +12,7 @@ use Rattle.nofs_cache.specs.declared.dirty.past.CacheCall.{CacheCall}
 use Rattle.nofs_cache.specs.declared.dirty.past.CacheCall.TheVariants.{Write, Flush}
 use Rattle.nofs_cache.specs.declared.dirty.cells.DirtyEntry.{DirtyEntry}
 use Rattle.nofs_cache.specs.declared.dirty.cells.DirtyBlocks.{DirtyBlocks}
-use Rattle.nofs_cache.specs.Dirty.Blocks.{block_count, entries_of, room_of}
+use Rattle.nofs_cache.specs.Dirty.Blocks.{block_count, entries_of, order_of, room_of}
 use Rattle.nofs_cache.specs.Dirty.Entries.{IsClean, dirty_entry_at}
 
 -- this cell, where it may be there
@@ -138,12 +138,17 @@ TakesOut before after (Ok (Some block)) = (0 < length before)
     × IsPermutation (block ∷ map (λ e. e.block) after) (map (λ e. e.block) before)
 TakesOut before after (Err failed) = (0 < length before) × (after ≡ before)
 
+-- the order of the blocks is kept, their number, and the room
+pub record KeepsOrder (before after : DirtyBlocks) : Type 0 where
+  pub order : order_of after ≡ order_of before
+  pub blocks : block_count after ≡ block_count before
+  pub room : room_of before ≤ room_of after
+
 -- the dirty blocks became a front of what they were, of as many blocks and with as much room
 pub record Shrinks (before after : DirtyBlocks) : Type 0 where
   pub front : entries_of after ≡ take (length (entries_of after)) (entries_of before)
   pub no_more : length (entries_of after) ≤ length (entries_of before)
-  pub blocks : block_count after ≡ block_count before
-  pub room : room_of before ≤ room_of after
+  pub keeps : KeepsOrder before after
 
 -- at most one call was made below
 pub record SpendsOne (old new : DiskState) (before after : List DirtyEntry) : Type 0 where

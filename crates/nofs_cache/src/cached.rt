@@ -74,7 +74,7 @@ fn add(call: CacheCall, past: &mut Snapshot<CachePast>)
     *past = Snapshot::of(&next);
 }
 
-/// There is no memory for the slots of a cache. The disk that was given comes back as it was.
+/// There is no memory for the room that a cache takes. The disk that was given comes back as it was.
 #[derive(Drop)]
 pub struct CacheFault<D: Disk + Drop> {
     /// The disk that was given.
@@ -83,7 +83,7 @@ pub struct CacheFault<D: Disk + Drop> {
 
 impl<D: Disk + Drop> Cached<D> {
     /// A cache over a disk. No block is dirty, and it holds and may leave what the disk below does.
-    /// It takes four bytes a block.
+    /// It takes room of four bytes a block, and writes to none of it.
     pub fn new(alloc: Global, under: D) -> Result<Cached<D>, CacheFault<D>>
         ensures moment { IfOk result (λ c. (⟦<Cached<D> as Disk>⟧.state c).moment ≡ 0) }
         ensures now { IfOk result (λ c. (⟦<Cached<D> as Disk>⟧.state c).now ≡ (D.state under).now) }

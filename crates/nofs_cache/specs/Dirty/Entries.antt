@@ -1,6 +1,6 @@
 -- The entries of dirty blocks.
 use Rattle.std.specs.Prelude.{◌≡◌, ◌≢◌, ◌⊎◌, ℕ, ◌-◌, ◌<◌, List, [], ◌∷◌, ◌++◌, length, slice_index, slice_index_or}
-use Rattle.std.specs.Prelude.{slice_set}
+use Rattle.std.specs.Prelude.{slice_set, Contains, IsPermutation, drop, map}
 use Rattle.nofs_cache.specs.declared.dirty.cells.DirtyEntry.{DirtyEntry}
 use Rattle.nofs_disk.specs.declared.tag.Cell.{Cell}
 use Rattle.nofs_disk.specs.Disk.{no_cell}
@@ -18,24 +18,38 @@ pub record AreSlotted (slots : List ℕ) (entries : List DirtyEntry) : Type 0 wh
   pub low : (i : ℕ) → i < length entries → (dirty_entry_at entries i).block < length slots
   pub at : (i : ℕ) → i < length entries → slice_index slots (dirty_entry_at entries i).block ≡ i
 
--- the block of each entry is less than this
-pub record AreBelow (entries : List DirtyEntry) (blocks : ℕ) : Type 0 where
-  pub low : (i : ℕ) → i < length entries → (dirty_entry_at entries i).block < blocks
+-- the slots that were there are as they were
+pub record KeepsSlots (old new : List ℕ) : Type 0 where
+  pub kept : (b : ℕ) → b < length old → slice_index new b ≡ slice_index old b
 
 -- no two entries are of one block
 pub record HaveOwnBlocks (entries : List DirtyEntry) : Type 0 where
   pub own : (i j : ℕ) → i < length entries → j < length entries
       → (dirty_entry_at entries i).block ≡ (dirty_entry_at entries j).block → i ≡ j
 
--- each entry's block is less than those of the entries before it
-pub record BlocksFall (entries : List DirtyEntry) : Type 0 where
-  pub falls : (i j : ℕ) → i < j → j < length entries
-      → (dirty_entry_at entries j).block < (dirty_entry_at entries i).block
+-- each block is above those before it
+pub record Rises (order : List ℕ) : Type 0 where
+  pub above : (i j : ℕ) → i < j → j < length order → slice_index order i < slice_index order j
+
+-- the blocks of the entries in rising order
+pub record IsOrder (entries : List DirtyEntry) (order : List ℕ) : Type 0 where
+  pub same : IsPermutation (map (λ e. e.block) entries) order
+  pub rises : Rises order
+
+-- the blocks of the entries are those of an order from a place on
+pub record AreLeft (entries : List DirtyEntry) (order : List ℕ) (place : ℕ) : Type 0 where
+  pub listed : (b : ℕ) → Contains (map (λ e. e.block) entries) b → Contains (drop place order) b
+  pub dirty : (b : ℕ) → Contains (drop place order) b → Contains (map (λ e. e.block) entries) b
 
 -- the entry at a place is that of a block
 pub record IsDirtyEntryOf (entries : List DirtyEntry) (b : ℕ) (i : ℕ) : Type 0 where
   pub low : i < length entries
   pub block : (dirty_entry_at entries i).block ≡ b
+
+-- the last entry is that of a block
+pub record IsLast (entries : List DirtyEntry) (b : ℕ) : Type 0 where
+  pub some : 0 < length entries
+  pub block : (dirty_entry_at entries (length entries - 1)).block ≡ b
 
 -- a block has no entry
 pub record IsClean (entries : List DirtyEntry) (block : ℕ) : Type 0 where

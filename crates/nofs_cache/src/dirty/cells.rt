@@ -2,12 +2,13 @@
 //! (Briggs and Torczon, 1993).
 //!
 //! Promise: each dirty block has one cell, the last that was put. It is found in constant time by
-//! the block's number, and a clean block takes the four bytes of its slot.
-ghost use Rattle.std.specs.Prelude.{◌≡◌, ◌+◌, ◌^◌, IsPermutation, ◌<◌, ◌≤◌, ◌∷◌, [], ◌++◌, ◌-◌, take, IfOk, IfSome};
-ghost use Rattle.std.specs.Prelude.{IfNone, length, slice_set, OnOk};
-ghost use Rattle.nofs_cache.specs.Dirty.Entries.{HasCell, HasLast, HaveOwnBlocks, IsClean, IsDirtyEntryOf, AreBelow};
-ghost use Rattle.nofs_cache.specs.Dirty.Entries.{AreSlotted, BlocksFall};
-ghost use Rattle.nofs_cache.specs.Dirty.Entries.{PutsDirtyEntry, dirty_entry};
+//! the block's number. Room for a slot of each block, four bytes, is taken at the start; slots are
+//! there as far as the greatest block that was put, and behind them nothing is written.
+ghost use Rattle.std.specs.Prelude.{◌≡◌, ◌+◌, ◌^◌, ◌<◌, ◌≤◌, ◌∷◌, [], ◌++◌, ◌-◌, take, IfOk, IfSome, IfNone, OnOk};
+ghost use Rattle.std.specs.Prelude.{Contains, IsPermutation, length, map, max, slice_index, slice_set, swap};
+ghost use Rattle.std.specs.Prelude.{vec_capacity};
+ghost use Rattle.nofs_cache.specs.Dirty.Entries.{AreSlotted, HasCell, HasLast, IsClean, IsDirtyEntryOf, IsLast};
+ghost use Rattle.nofs_cache.specs.Dirty.Entries.{IsOrder, KeepsSlots, PutsDirtyEntry, dirty_entry};
 
 use nofs_disk::Cell;
 use std::alloc::{AllocError, Global};
@@ -20,40 +21,62 @@ pub struct DirtyEntry {
 }
 
 /// The dirty blocks of a disk. A slot names the place of its block's entry; one that names no
-/// entry of its block says that the block is clean.
+/// entry of its block says that the block is clean, and so does one that is not there yet.
 #[derive(Drop)]
 pub struct DirtyBlocks {
+    /// How many blocks the disk has. There is room for a slot of each.
+    blocks: u64,
     slots: Vec<u32>,
     entries: Vec<DirtyEntry>,
+    /// The dirty blocks as the last flush found them, in rising order. Numbers are sorted, and not
+    /// the entries, which have 1,064 bytes each.
+    order: Vec<u64>,
+    ghost reserved: { blocks ≤ vec_capacity slots },
+    ghost within: { length slots.items ≤ blocks },
     ghost few: { length entries.items ≤ 2 ^ 32 },
+    ghost listed: { length entries.items ≤ vec_capacity order },
     ghost placed: { AreSlotted slots.items entries.items },
 }
 
-// Lets the slot of each entry's block name that entry.
-fn number(slots: &mut Vec<u32>, entries: &[DirtyEntry])
-    requires few { length entries.now ≤ 2 ^ 32 }
-    requires low { AreBelow entries.now (length slots.old.items) }
-    requires own { HaveOwnBlocks entries.now }
-    ensures slotted { AreSlotted slots.new.items entries.now }
-    ensures blocks { length slots.new.items ≡ length slots.old.items }
+// Adds slots up to that of a block, where there is room.
+fn reach(slots: &mut Vec<u32>, block: u64)
+    requires { block < vec_capacity slots.old }
+    ensures reached { length slots.new.items ≡ max (length slots.old.items) (block + 1) }
+    ensures kept { KeepsSlots slots.old.items slots.new.items }
+    ensures room { vec_capacity slots.old ≤ vec_capacity slots.new }
 {
-    for at in 0..entries.len() {
-        slots[entries[at].block as usize] = at as u32;
+    let count = block as usize + 1;
+    if slots.len() < count {
+        slots.resize_with(count, || 0).unwrap();
+    }
+}
+
+// Lists the blocks of entries, where there is room.
+fn list_blocks(order: &mut Vec<u64>, entries: &[DirtyEntry])
+    requires { length entries.now ≤ vec_capacity order.old }
+    ensures blocks { order.new.items ≡ map (λ e. e.block) entries.now }
+    ensures room { vec_capacity order.old ≤ vec_capacity order.new }
+{
+    order.clear();
+    for entry in entries {
+        order.push(entry.block).unwrap();
     }
 }
 
 impl DirtyBlocks {
-    ghost use Rattle.nofs_cache.specs.Dirty.Blocks.{block_count, entries_of, room_of};
+    ghost use Rattle.nofs_cache.specs.Dirty.Blocks.{block_count, entries_of, order_of, room_of};
 
     /// No dirty block of a disk with this many blocks.
     pub fn new(alloc: Global, blocks: u64) -> Result<DirtyBlocks, AllocError>
         ensures blocks { IfOk result (λ d. block_count d ≡ blocks) }
         ensures entries { IfOk result (λ d. entries_of d ≡ []) }
     {
-        let slots = vec![in alloc; 0; blocks as usize]?;
+        let slots = Vec::with_capacity(alloc, blocks as usize)?;
         Ok(DirtyBlocks {
+            blocks,
             slots,
             entries: Vec::new(alloc),
+            order: Vec::new(alloc),
         })
     }
 
@@ -75,15 +98,19 @@ impl DirtyBlocks {
         if self.entries.len().saturating_add(more) > u32::MAX as usize {
             return Err(AllocError);
         }
-        self.entries.reserve(more)
+        self.entries.reserve(more)?;
+        self.order.clear();
+        self.order.reserve(self.entries.len() + more)
     }
 
     // The place of a dirty block's entry, which its slot names.
     fn find(&self, block: u64) -> Option<usize>
-        requires { block < block_count self.now }
         ensures some { IfSome result (IsDirtyEntryOf (entries_of self.now) block) }
         ensures none { IfNone result (IsClean (entries_of self.now) block) }
     {
+        if block as usize >= self.slots.len() {
+            return None;
+        }
         let at = self.slots[block as usize] as usize;
         if at < self.entries.len() && self.entries[at].block == block {
             Some(at)
@@ -113,6 +140,7 @@ impl DirtyBlocks {
         ensures blocks { block_count self.new ≡ block_count self.old }
         ensures room { room_of self.old ≤ room_of self.new }
     {
+        reach(&mut self.slots, block);
         self.slots[block as usize] = self.entries.len() as u32;
         self.entries
             .push(DirtyEntry { block, cell: *cell })
@@ -143,18 +171,51 @@ impl DirtyBlocks {
         }
     }
 
-    /// Puts the entries in falling order of blocks, so that the last one is of the least block. It
-    /// takes no memory.
-    pub fn sort_falling(&mut self)
-        ensures same { IsPermutation (entries_of self.old) (entries_of self.new) }
-        ensures len { length (entries_of self.new) ≡ length (entries_of self.old) }
-        ensures falls { BlocksFall (entries_of self.new) }
+    /// Lists the dirty blocks in rising order. It takes no memory.
+    pub fn set_order(&mut self)
+        ensures entries { entries_of self.new ≡ entries_of self.old }
+        ensures order { IsOrder (entries_of self.new) (order_of self.new) }
         ensures blocks { block_count self.new ≡ block_count self.old }
         ensures room { room_of self.old ≤ room_of self.new }
     {
-        self.entries
-            .sort_unstable_by(|one, other| other.block.cmp(&one.block));
-        number(&mut self.slots, self.entries.as_slice());
+        list_blocks(&mut self.order, self.entries.as_slice());
+        self.order.sort_unstable();
+    }
+
+    /// The block at a place of the order.
+    pub fn in_order(&self, place: usize) -> u64
+        requires { place < length (order_of self.now) }
+        ensures { result ≡ slice_index (order_of self.now) place }
+    {
+        self.order[place]
+    }
+
+    // Exchanges an entry with the last one.
+    fn exchange_with_last(&mut self, at: usize)
+        requires { at < length (entries_of self.old) }
+        ensures entries { entries_of self.new ≡ swap (entries_of self.old) at (length (entries_of self.old) - 1) }
+        ensures order { order_of self.new ≡ order_of self.old }
+        ensures blocks { block_count self.new ≡ block_count self.old }
+        ensures room { room_of self.old ≤ room_of self.new }
+    {
+        let last = self.entries.len() - 1;
+        self.slots[self.entries[at].block as usize] = last as u32;
+        self.slots[self.entries[last].block as usize] = at as u32;
+        self.entries.swap(at, last);
+    }
+
+    /// Lets the entry of a dirty block be the last one. Where the block is clean, nothing changes.
+    pub fn bring_last(&mut self, block: u64)
+        ensures same { IsPermutation (entries_of self.old) (entries_of self.new) }
+        ensures last { Contains (map (λ e. e.block) (entries_of self.old)) block → IsLast (entries_of self.new) block }
+        ensures order { order_of self.new ≡ order_of self.old }
+        ensures blocks { block_count self.new ≡ block_count self.old }
+        ensures room { room_of self.old ≤ room_of self.new }
+    {
+        match self.find(block) {
+            Some(at) => self.exchange_with_last(at),
+            None => {}
+        }
     }
 
     /// The last entry; `None` where no block is dirty.
@@ -172,6 +233,7 @@ impl DirtyBlocks {
     /// Removes the last entry, whose block is then clean.
     pub fn pop(&mut self)
         ensures entries { entries_of self.new ≡ take (length (entries_of self.old) - 1) (entries_of self.old) }
+        ensures order { order_of self.new ≡ order_of self.old }
         ensures blocks { block_count self.new ≡ block_count self.old }
         ensures room { room_of self.old ≤ room_of self.new }
     {

@@ -5,10 +5,10 @@
 //! gives. A flush writes in rising order, so that neighbouring cells follow one another.
 ghost use Rattle.std.specs.Prelude.{◌≡◌, ◌+◌, ◌<◌, ◌≤◌, OnOk, OnErr, length, map};
 ghost use Rattle.nofs_disk.specs.Disk.{Rose};
-ghost use Rattle.nofs_cache.specs.Dirty.Blocks.{block_count, entries_of, room_of};
-ghost use Rattle.nofs_cache.specs.Dirty.Entries.{BlocksFall};
+ghost use Rattle.nofs_cache.specs.Dirty.Blocks.{block_count, entries_of, order_of, room_of};
+ghost use Rattle.nofs_cache.specs.Dirty.Entries.{AreLeft, IsOrder, Rises};
 ghost use Rattle.nofs_cache.specs.Cached.{WrittenBack, WritesRising, SettlesDirty, TakesOut, Shrinks, SpendsOne};
-ghost use Rattle.nofs_cache.specs.Cached.{WroteBelow, WroteAllBelow, Stopped};
+ghost use Rattle.nofs_cache.specs.Cached.{KeepsOrder, WroteBelow, WroteAllBelow, Stopped};
 
 use crate::dirty::cells::DirtyBlocks;
 use nofs_disk::{Disk, Failed};
@@ -41,22 +41,55 @@ pub(crate) fn write_back<D: Disk>(
     }
 }
 
+// Writes the block at a place of the order below, where those before it are clean already.
+fn write_back_next<D: Disk>(
+    under: &mut D,
+    dirty: &mut DirtyBlocks,
+    place: usize,
+) -> Result<(), Failed>
+    requires blocks { block_count dirty.old ≡ (D.state under.old).blocks }
+    requires spare { 1 ≤ (D.state under.old).spare }
+    requires rises { Rises (order_of dirty.old) }
+    requires place { place < length (order_of dirty.old) }
+    requires left { AreLeft (entries_of dirty.old) (order_of dirty.old) place }
+    ensures writes_back { WrittenBack (D.state under.old) (D.state under.new) (entries_of dirty.old)
+        (entries_of dirty.new) }
+    ensures keeps { KeepsOrder dirty.old dirty.new }
+    ensures wrote { OnOk result
+        (WroteBelow (D.state under.old) (D.state under.new) (entries_of dirty.old) (entries_of dirty.new)) }
+    ensures next { OnOk result (AreLeft (entries_of dirty.new) (order_of dirty.new) (place + 1)) }
+    ensures stopped { OnErr result
+        (Stopped (D.state under.old) (D.state under.new) (entries_of dirty.old) (entries_of dirty.new)) }
+    ensures stays { OnErr result (AreLeft (entries_of dirty.new) (order_of dirty.new) place) }
+    ensures as_many { OnErr result (length (entries_of dirty.new) ≡ length (entries_of dirty.old)) }
+{
+    let block = dirty.in_order(place);
+    dirty.bring_last(block);
+    match write_back(under, dirty) {
+        Ok(_) => Ok(()),
+        Err(failed) => Err(failed),
+    }
+}
+
 /// Writes every dirty block below in rising order, up to the first call that fails.
 pub(crate) fn write_back_all<D: Disk>(under: &mut D, dirty: &mut DirtyBlocks) -> Result<(), Failed>
-    requires falls { BlocksFall (entries_of dirty.old) }
+    requires order { IsOrder (entries_of dirty.old) (order_of dirty.old) }
     requires blocks { block_count dirty.old ≡ (D.state under.old).blocks }
     requires spare { length (entries_of dirty.old) ≤ (D.state under.old).spare }
     ensures writes_back { WrittenBack (D.state under.old) (D.state under.new) (entries_of dirty.old)
         (entries_of dirty.new) }
-    ensures shrinks { Shrinks dirty.old dirty.new }
+    ensures keeps { KeepsOrder dirty.old dirty.new }
+    ensures no_more { length (entries_of dirty.new) ≤ length (entries_of dirty.old) }
+    ensures rising { WritesRising (map (λ e. e.block) (entries_of dirty.old))
+        (map (λ e. e.block) (entries_of dirty.new)) }
     ensures wrote { OnOk result
         (WroteAllBelow (D.state under.old) (D.state under.new) (entries_of dirty.old) (entries_of dirty.new)) }
     ensures stopped { OnErr result
         (Stopped (D.state under.old) (D.state under.new) (entries_of dirty.old) (entries_of dirty.new)) }
 {
-    for _ in 0..dirty.len() {
-        match write_back(under, dirty) {
-            Ok(_) => {}
+    for place in 0..dirty.len() {
+        match write_back_next(under, dirty, place) {
+            Ok(()) => {}
             Err(failed) => return Err(failed),
         }
     }
@@ -81,7 +114,7 @@ pub(crate) fn write_back_and_flush<D: Disk>(
     ensures spare { (D.state under.old).spare + length (entries_of dirty.new)
         ≤ (D.state under.new).spare + length (entries_of dirty.old) + 1 }
 {
-    dirty.sort_falling();
+    dirty.set_order();
     match write_back_all(under, dirty) {
         Ok(()) => under.flush(),
         Err(failed) => Err(failed),

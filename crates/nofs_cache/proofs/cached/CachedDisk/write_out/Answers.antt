@@ -8,10 +8,10 @@ invariant_of-self g c =
     let did = c.write_back.ensures in
     let kept_room = old.kept_room in
     let below_room = old.below_room in
-    let room = did.shrinks.room in
+    let room = did.shrinks.keeps.room in
     let no_more = did.shrinks.no_more in
     let spare = did.spends.all in
-    out_holds old c.write_back.new.dirty did.writes_back did.shrinks.blocks (omega arith) (omega arith)
+    out_holds old c.write_back.new.dirty did.writes_back did.shrinks.keeps.blocks (omega arith) (omega arith)
 
 pub returns-clause-writes_out : goal.returns-clause-writes_out
 returns-clause-writes_out g c =

@@ -1,40 +1,66 @@
-use Rattle.std.proofs.Common.{arith, ◌∙◌}
-use Rattle.nofs_cache.proofs.OnDirty.{front-trans}
-use Rattle.nofs_cache.proofs.OnCached.WritesBelow.{WrittenBack-trans}
+use Rattle.std.proofs.Common.{◌∙◌, arith, refl}
+use Rattle.std.proofs.lemmas.List.Sorted.{length_permutation}
+use Rattle.std.proofs.lemmas.List.{length-map}
+use Rattle.nofs_cache.specs.Dirty.Blocks.{entries_of, order_of}
+use Rattle.nofs_cache.proofs.OnDirty.{left_start, rising_left}
+use Rattle.nofs_cache.proofs.OnCached.WritesBelow.{WrittenBack-refl, WrittenBack-trans}
 use Rattle.nofs_cache.proofs.dirty.writes.write_back_all.Goals as goal
+
+pub loop-place-init : goal.loop-place-init
+loop-place-init g c = (
+  WrittenBack-refl _ _,
+  omega arith,
+  omega arith,
+  record { order = refl; blocks = refl; room = omega arith },
+  refl,
+  left_start _ _ c.requires.order,
+)
+
+pub write_back_next-requires-clause-place : goal.write_back_next-requires-clause-place
+write_back_next-requires-clause-place g c =
+    let loop = c.loop-place.invariant in
+    let same = loop.3.order in
+    let as_many = length_permutation _ _ c.requires.order.same in
+    let long = length-map (entries_of c.args.dirty.now) (λ e. e.block) in
+    let end = c.len-place-end.ensures in
+    let low = c.loop-place-test.true in
+    rw same (omega arith)
 
 pub returns-in-Err-clause-writes_back : goal.returns-in-Err-clause-writes_back
 returns-in-Err-clause-writes_back g c =
-    WrittenBack-trans _ _ _ _ _ _ c.loop.invariant.0 c.write_back.ensures.writes_back
+    WrittenBack-trans _ _ _ _ _ _ c.loop-place.invariant.0 c.write_back_next.ensures.writes_back
 
-pub loop-preserved : goal.loop-preserved
-loop-preserved g c =
-    let before = c.loop.invariant in
+pub returns-in-Err-clause-rising : goal.returns-in-Err-clause-rising
+returns-in-Err-clause-rising g c =
+    rising_left (entries_of c.args.dirty.now) _ (order_of c.args.dirty.now) c.loop-place.place c.requires.order
+    (rw (← c.loop-place.invariant.3.order, ← c.write_back_next.ensures.keeps.order) c.in-Err.ensures.stays)
+
+pub loop-place-preserved : goal.loop-place-preserved
+loop-place-preserved g c =
+    let before = c.loop-place.invariant in
+    let did = c.write_back_next.ensures in
+    let wrote = c.in-Ok.ensures.wrote in
     let len = before.1 in
-    let fewer = c.in-Ok.ensures.wrote.fewer in
+    let fewer = wrote.fewer in
     let room = before.2 in
-    let room_ok = c.in-Ok.ensures.wrote.spare in
-    let more = before.4 in
-    let more_room = c.write_back.ensures.shrinks.room in (
-      WrittenBack-trans _ _ _ _ _ _ before.0 c.write_back.ensures.writes_back,
+    let room_ok = wrote.spare in
+    let more = before.3.room in
+    let more_room = did.keeps.room in
+    let end = c.len-place-end.ensures in
+    let low = c.loop-place-test.true in (
+      WrittenBack-trans _ _ _ _ _ _ before.0 did.writes_back,
       omega arith,
       omega arith,
-      c.write_back.ensures.shrinks.blocks ∙ before.3,
-      omega arith,
-      c.in-Ok.ensures.wrote.no_fault ∙ before.5,
-      front-trans _ _ _ c.write_back.ensures.shrinks.no_more before.6 c.write_back.ensures.shrinks.front,
+      record {
+        order = did.keeps.order ∙ before.3.order;
+        blocks = did.keeps.blocks ∙ before.3.blocks;
+        room = omega arith;
+      },
+      wrote.no_fault ∙ before.4,
+      rw (← before.3.order, ← did.keeps.order) c.in-Ok.ensures.next,
     )
 
-pub returns-in-Err-clause-shrinks : goal.returns-in-Err-clause-shrinks
-returns-in-Err-clause-shrinks g c =
-    let before = c.loop.invariant in
-    let len = before.1 in
-    let more = before.4 in
-    let last = c.write_back.ensures.shrinks in
-    let no_more = last.no_more in
-    let more_room = last.room in record {
-      front = front-trans _ _ _ last.no_more before.6 last.front;
-      no_more = omega arith;
-      blocks = last.blocks ∙ before.3;
-      room = omega arith;
-    }
+pub returns-clause-rising : goal.returns-clause-rising
+returns-clause-rising g c =
+    rising_left (entries_of c.args.dirty.now) _ (order_of c.args.dirty.now) c.loop-place.place c.requires.order
+    c.loop-place.invariant.5
