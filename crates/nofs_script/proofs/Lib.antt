@@ -1,3 +1,4 @@
+mod OnDigits
 mod OnWords
 mod OnGrammar
 mod OnSession

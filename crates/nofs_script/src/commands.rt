@@ -8,6 +8,7 @@ ghost use Rattle.nofs_script.specs.Grammar.{one_path as one_path_in, on_path as 
 ghost use Rattle.nofs_script.specs.Grammar.{two_words as two_words_in, three_words as three_words_in, command_of};
 ghost use Rattle.nofs_script.specs.Grammar.{spelled_path, path_of_parts};
 
+use crate::digits::spelled_bytes;
 use crate::faults::{LineFault, ScriptKind};
 use crate::words::number_of;
 use nofs_client::{Command, Path};
@@ -160,11 +161,7 @@ fn hex_bytes(alloc: Global, word: &[u8]) -> Result<Content, LineFault>
     if word.is_empty() {
         return Err(LineFault::Wrong(ScriptKind::BadHex));
     }
-    match hex::decode(alloc, word) {
-        Ok(bytes) => Ok(Content::from_vec(bytes)),
-        Err(hex::FromHexError::OutOfMemory) => Err(LineFault::OutOfMemory),
-        Err(_) => Err(LineFault::Wrong(ScriptKind::BadHex)),
-    }
+    spelled_bytes(alloc, word)
 }
 
 // PATH, or NEWPATH where a name is made or dropped.

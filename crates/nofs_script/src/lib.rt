@@ -7,6 +7,7 @@
 //! The parts, from the lowest up:
 //!
 //! - `faults`: what can be wrong with a text.
+//! - `digits`: hexadecimal digits, read and written.
 //! - `words`: the words of a line, and the numbers among them.
 //! - `commands`: commands by their words.
 //! - `session`: the scripts of a text, read line by line.
@@ -14,6 +15,7 @@
 #![tactic(auto)]
 
 mod commands;
+mod digits;
 mod faults;
 mod session;
 mod text;

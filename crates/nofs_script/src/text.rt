@@ -6,6 +6,7 @@ ghost use Rattle.nofs_script.specs.Text.{got_text, name_text, listed_text, refus
 ghost use Rattle.nofs_script.specs.Text.{refusal_rest as rest_of_refusal};
 ghost use Rattle.nofs_script.specs.Text.{refused_text, stat_text, words_text, text_of};
 
+use crate::digits::push_digits;
 use nofs_client::{GotPart, GotParts, Line, ListPart, ListParts};
 use nofs_history::{NameLine, Refusal, Stat};
 use nofs_inode::inode::FileKind;
@@ -37,7 +38,7 @@ fn push_got(alloc: Global, text: &mut Vec<u8>, part: &GotPart) -> Result<(), All
     match part {
         GotPart::Bytes(bytes) => {
             push_words(text, " bytes:")?;
-            push_words(text, hex::encode(alloc, bytes.as_slice())?.as_str())
+            push_digits(text, bytes.as_slice())
         }
         GotPart::Hole(number) => push_number(alloc, text, " hole:", *number),
         GotPart::Lost(number) => push_number(alloc, text, " lost:", *number),

@@ -3,7 +3,7 @@
 //! - `standin`: the stand-in for a mount, which replies what it is told to
 //! - `commands`, `moves`, `salvage`, `frames`: the steps of each, and what becomes of the replies
 //! - `workers`: users, sweepers and flushers
-//! - `pieces`, `sessions`, `draws`: texts in pieces, sessions and lines, and drawn scripts
+//! - `pieces`, `sessions`, `digits`, `draws`: texts in pieces, sessions and lines, their digits, and drawn scripts
 //!
 //! Promise: worked cases come out as derived by hand; nothing is promised of all cases.
 #![tactic(auto)]

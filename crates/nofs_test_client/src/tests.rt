@@ -1,6 +1,7 @@
 //! The tests, by what they test, with what they share.
 
 mod commands;
+mod digits;
 mod draws;
 mod frames;
 mod moves;
