@@ -1,7 +1,8 @@
 use Rattle.std.proofs.Common.{◌∙◌, ap, arith, length, take}
 use Rattle.std.proofs.lemmas.List.Sorted.{length_permutation}
 use Rattle.nofs_cache.specs.Dirty.Blocks.{entries_of, order_of}
-use Rattle.nofs_cache.proofs.OnDirty.{WrittenBack-reordered, left_here, left_next, left_reordered, own_slotted, stays_out}
+use Rattle.nofs_cache.proofs.OnDirty.{WrittenBack-reordered, left_here, left_next, left_reordered, own_slotted}
+use Rattle.nofs_cache.proofs.OnDirty.{stays_out}
 use Rattle.nofs_cache.proofs.OnCached.WritesBelow.{WrittenBack-trans}
 use Rattle.nofs_cache.proofs.dirty.writes.write_back_next.Goals as goal
 
