@@ -8,11 +8,23 @@ use Rattle.nofs_model.specs.Files.{agreed, files_in}
 use Rattle.nofs_agree.specs.Chain.{AreTrue, LearnsAgreement}
 use Rattle.nofs_agree.proofs.OnChain.{told-on}
 use Rattle.nofs_agree.proofs.OnKnown.{learns-more, learns-none}
-use Rattle.nofs_scan.specs.Sights.Reads.{ReadsAnswer, Sees}
+use Rattle.nofs_state.proofs.OnInodes.Opened.{IsLast-on}
+use Rattle.nofs_scan.specs.Sights.Reads.{AreLast, ReadsAnswer, Sees}
+use Rattle.nofs_scan.specs.declared.sights.last_reads.LastReads.{LastReads}
 
 -- what a disk has after it stayed it had before
 same-on : {T : Type 0} (old mid : DiskState) (f : Image → T) → StaysButFaults old mid → f mid.now ≡ f old.now
 same-on old mid f s = ap f s.cells.now
+
+-- so the cells that were kept are those of their blocks still
+pub AreLast-on : (old new : DiskState) (reads : LastReads) → StaysButFaults old new → AreLast old reads
+    → AreLast new reads
+AreLast-on old new reads s last = record {
+  own = IsLast-on old new reads.own s last.own;
+  table = IsLast-on old new reads.table s last.table;
+  upper = IsLast-on old new reads.upper s last.upper;
+  lower = IsLast-on old new reads.lower s last.lower;
+}
 
 pub failed-on : (old mid new : DiskState) → StaysButFaults old mid → Rose mid.faults new.faults
     → Rose old.faults new.faults

@@ -4,6 +4,8 @@ use Rattle.nofs_disk.specs.declared.Failed.{Failed}
 use Rattle.nofs_disk.specs.Disk.{DiskState, StaysButFaults, Rose}
 use Rattle.nofs_model.specs.Geometry.{Image}
 use Rattle.nofs_agree.specs.Chain.{AreTrue, LearnsAgreement}
+use Rattle.nofs_agree.specs.Reads.{IsLast}
+use Rattle.nofs_scan.specs.declared.sights.last_reads.LastReads.{LastReads}
 
 -- what was read is this of the image, where the disk tells
 pub record ReadsAnswer {T : Type 0} (old new : DiskState) (answer : Image → T) (result : Result T Failed) : Type 0 where
@@ -20,3 +22,10 @@ pub record Sees {
   pub learns : LearnsAgreement old known more
   pub found : IfOk result (λ a. IsTrue old.tells → AreTrue old.now known → a ≡ answer old.now)
   pub cause : OnErr result (Rose old.faults new.faults)
+
+-- each cell that is kept is that of the block that was read last in its place
+pub record AreLast (d : DiskState) (reads : LastReads) : Type 0 where
+  pub own : IsLast d reads.own
+  pub table : IsLast d reads.table
+  pub upper : IsLast d reads.upper
+  pub lower : IsLast d reads.lower

@@ -2,7 +2,7 @@
 //!
 //! Promise: each sight is that of the disk's image, whatever the bytes are. A read changes no disk, takes no memory,
 //! and fails only where the disk's count of faults rose. What it finds of inodes on the ways up is known from then on.
-ghost use Rattle.std.specs.Prelude.{◌≡◌, ◌<◌, ◌^◌, IsTrue, length};
+ghost use Rattle.std.specs.Prelude.{◌≡◌, ◌<◌, ◌^◌, IsTrue, OnOk, length};
 ghost use Rattle.nofs_inode.specs.declared.inode.FileKind.TheVariants as kind;
 ghost use Rattle.nofs_dirent.specs.Entries.{entry_in};
 ghost use Rattle.nofs_ptrs.specs.Paths as paths;
@@ -14,9 +14,10 @@ ghost use Rattle.nofs_disk.specs.Tag.{tag_of};
 ghost use Rattle.nofs_agree.specs.Reads.{IsAt, IsLast, KnowsDirectory};
 ghost use Rattle.nofs_scan.specs.Steps.Elements.{HasElement};
 ghost use Rattle.nofs_scan.specs.Steps.Looks.{LooksAt};
-ghost use Rattle.nofs_scan.specs.Sights.Reads.{ReadsAnswer, Sees};
+ghost use Rattle.nofs_scan.specs.Sights.Reads.{AreLast, ReadsAnswer, Sees};
 ghost use Rattle.nofs_scan.specs.Sights.Verdicts as sights;
 
+use crate::sights::last_reads::LastReads;
 use crate::sights::sights::{
     Above, BlockSight, BlocksAbove, EntryTarget, InodeSight, LinkSight, Sight, TagSight,
 };
@@ -42,17 +43,20 @@ pub(crate) fn read_sight<D: Disk>(
     known: &mut Known,
     kind: ElementKind,
     item: u64,
+    reads: &mut LastReads,
 ) -> Result<Sight, Failed>
     requires numbers { IsAt (D.state disk.old) at.now }
     requires known { length known.old ≡ at.now.inodes }
     requires range { HasElement kind at.now item }
     requires small { at.now.inodes < 2 ^ 32 }
-    ensures { LooksAt (D.state disk.old) at.now known.old known.new (D.state disk.new) kind item result }
+    requires last { AreLast (D.state disk.old) reads.old }
+    ensures looks { LooksAt (D.state disk.old) at.now known.old known.new (D.state disk.new) kind item result }
+    ensures kept { OnOk result (AreLast (D.state disk.new) reads.new) }
 {
     match kind {
         ElementKind::Inode => {
             let inode = item as u32;
-            let in_table = read_record(disk, at, inode)?;
+            let in_table = read_record(disk, at, inode, &mut reads.table)?;
             let links = read_links(disk, at, known, &in_table.links)?;
             Ok(Sight::Inode(InodeSight {
                 inode,
@@ -64,8 +68,8 @@ pub(crate) fn read_sight<D: Disk>(
             if item <= at.inodes / 4 {
                 return Ok(Sight::Fixed(item));
             }
-            let tag = read_own_tag(disk, at, item)?;
-            let tagged = read_tagged(disk, at, known, tag)?;
+            let tag = read_own_tag(disk, at, item, &mut reads.own)?;
+            let tagged = read_tagged(disk, at, known, tag, reads)?;
             Ok(Sight::Block(BlockSight {
                 block: item,
                 tagged,
@@ -74,12 +78,18 @@ pub(crate) fn read_sight<D: Disk>(
     }
 }
 
-fn read_record<D: Disk>(disk: &mut D, at: &SuperBlock, inode: u32) -> Result<Record, Failed>
-    requires { IsAt (D.state disk.old) at.now }
-    ensures { ReadsAnswer (D.state disk.old) (D.state disk.new) (λ X. image.inode X inode) result }
+fn read_record<D: Disk>(
+    disk: &mut D,
+    at: &SuperBlock,
+    inode: u32,
+    last: &mut LastRead,
+) -> Result<Record, Failed>
+    requires numbers { IsAt (D.state disk.old) at.now }
+    requires last { IsLast (D.state disk.old) last.old }
+    ensures answers { ReadsAnswer (D.state disk.old) (D.state disk.new) (λ X. image.inode X inode) result }
+    ensures kept { OnOk result (IsLast (D.state disk.new) last.new) }
 {
-    let mut last = LastRead::NONE;
-    read_inode(disk, at, inode, &mut last)
+    read_inode(disk, at, inode, last)
 }
 
 // What four back links lead to.
@@ -198,13 +208,19 @@ fn named_at(payload: &[u8; 1024], at: u32) -> Option<EntryTarget>
 }
 
 // The tag of a block.
-fn read_own_tag<D: Disk>(disk: &mut D, at: &SuperBlock, block: u64) -> Result<Option<Tag>, Failed>
+fn read_own_tag<D: Disk>(
+    disk: &mut D,
+    at: &SuperBlock,
+    block: u64,
+    last: &mut LastRead,
+) -> Result<Option<Tag>, Failed>
     requires numbers { IsAt (D.state disk.old) at.now }
     requires block { block < at.now.blocks }
-    ensures { ReadsAnswer (D.state disk.old) (D.state disk.new) (λ X. tag_of (cell_at X block).tag) result }
+    requires last { IsLast (D.state disk.old) last.old }
+    ensures answers { ReadsAnswer (D.state disk.old) (D.state disk.new) (λ X. tag_of (cell_at X block).tag) result }
+    ensures kept { OnOk result (IsLast (D.state disk.new) last.new) }
 {
-    let mut last = LastRead::NONE;
-    read_block(disk, block, &mut last)?;
+    read_block(disk, block, last)?;
     Ok(read_tag(&last.cell.tag))
 }
 
@@ -213,16 +229,19 @@ fn read_tagged<D: Disk>(
     at: &SuperBlock,
     known: &mut Known,
     tag: Option<Tag>,
+    reads: &mut LastReads,
 ) -> Result<Option<TagSight>, Failed>
     requires numbers { IsAt (D.state disk.old) at.now }
     requires known { length known.old ≡ at.now.inodes }
-    ensures { Sees (D.state disk.old) (D.state disk.new) known.old known.new (λ X. sights.tagged_in X tag) result }
+    requires last { AreLast (D.state disk.old) reads.old }
+    ensures sees { Sees (D.state disk.old) (D.state disk.new) known.old known.new (λ X. sights.tagged_in X tag) result }
+    ensures kept { OnOk result (AreLast (D.state disk.new) reads.new) }
 {
     match tag {
         None => Ok(None),
         Some(tag) => {
             if is_slot(tag.slot) {
-                Ok(Some(read_slot(disk, at, known, tag)?))
+                Ok(Some(read_slot(disk, at, known, tag, reads)?))
             } else {
                 Ok(None)
             }
@@ -236,13 +255,16 @@ fn read_slot<D: Disk>(
     at: &SuperBlock,
     known: &mut Known,
     tag: Tag,
+    reads: &mut LastReads,
 ) -> Result<TagSight, Failed>
     requires slot { IsTrue (paths.is_slot tag.slot) }
     requires numbers { IsAt (D.state disk.old) at.now }
     requires known { length known.old ≡ at.now.inodes }
-    ensures { Sees (D.state disk.old) (D.state disk.new) known.old known.new (λ X. sights.tag_sight X tag) result }
+    requires last { AreLast (D.state disk.old) reads.old }
+    ensures sees { Sees (D.state disk.old) (D.state disk.new) known.old known.new (λ X. sights.tag_sight X tag) result }
+    ensures kept { OnOk result (AreLast (D.state disk.new) reads.new) }
 {
-    let found = read_slot_way(disk, at, tag.inode, place_of(tag.slot))?;
+    let found = read_slot_way(disk, at, tag.inode, place_of(tag.slot), reads)?;
     let agreed = learn_chain(disk, at, known, tag.inode)?;
     Ok(TagSight {
         tag,
@@ -258,14 +280,17 @@ fn read_slot_way<D: Disk>(
     at: &SuperBlock,
     inode: u32,
     place: Place,
+    reads: &mut LastReads,
 ) -> Result<(Record, BlocksAbove), Failed>
     requires numbers { IsAt (D.state disk.old) at.now }
     requires place { IsPlace place }
-    ensures { ReadsAnswer (D.state disk.old) (D.state disk.new)
+    requires last { AreLast (D.state disk.old) reads.old }
+    ensures answers { ReadsAnswer (D.state disk.old) (D.state disk.new)
         (λ X. (image.inode X inode, sights.way_in X (image.inode X inode) (place_path place))) result }
+    ensures kept { OnOk result (AreLast (D.state disk.new) reads.new) }
 {
-    let it = read_record(disk, at, inode)?;
-    let way = read_way(disk, at, place, &it)?;
+    let it = read_record(disk, at, inode, &mut reads.table)?;
+    let way = read_way(disk, at, place, &it, reads)?;
     Ok((it, way))
 }
 
@@ -275,20 +300,29 @@ fn read_way<D: Disk>(
     at: &SuperBlock,
     place: Place,
     it: &Record,
+    reads: &mut LastReads,
 ) -> Result<BlocksAbove, Failed>
     requires place { IsPlace place }
     requires numbers { IsAt (D.state disk.old) at.now }
-    ensures { ReadsAnswer (D.state disk.old) (D.state disk.new)
+    requires last { AreLast (D.state disk.old) reads.old }
+    ensures answers { ReadsAnswer (D.state disk.old) (D.state disk.new)
         (λ X. sights.way_in X it.now (place_path place)) result }
+    ensures kept { OnOk result (AreLast (D.state disk.new) reads.new) }
 {
     match place {
         Place::InRecord(_) => Ok(BlocksAbove::NONE),
         Place::UnderRecord { at: above, place } => Ok(BlocksAbove {
-            upper: read_above(disk, at, record_pointer(it, above).block, place)?,
+            upper: read_above(
+                disk,
+                at,
+                record_pointer(it, above).block,
+                place,
+                &mut reads.upper,
+            )?,
             lower: Above::NONE,
         }),
         Place::UnderChild { child, place } => {
-            read_under_top(disk, at, it.top.block, child, place)
+            read_under_top(disk, at, it.top.block, child, place, reads)
         }
     }
 }
@@ -300,14 +334,18 @@ fn read_under_top<D: Disk>(
     block: u64,
     child: u64,
     place: u64,
+    reads: &mut LastReads,
 ) -> Result<BlocksAbove, Failed>
     requires numbers { IsAt (D.state disk.old) at.now }
     requires child { child < 64 }
     requires place { place < 64 }
-    ensures { ReadsAnswer (D.state disk.old) (D.state disk.new) (λ X. sights.under_top X block child place) result }
+    requires last { AreLast (D.state disk.old) reads.old }
+    ensures answers { ReadsAnswer (D.state disk.old) (D.state disk.new)
+        (λ X. sights.under_top X block child place) result }
+    ensures kept { OnOk result (AreLast (D.state disk.new) reads.new) }
 {
-    let upper = read_above(disk, at, block, child)?;
-    let lower = read_above(disk, at, upper.pointer.block, place)?;
+    let upper = read_above(disk, at, block, child, &mut reads.upper)?;
+    let lower = read_above(disk, at, upper.pointer.block, place, &mut reads.lower)?;
     Ok(BlocksAbove { upper, lower })
 }
 
@@ -317,16 +355,18 @@ fn read_above<D: Disk>(
     at: &SuperBlock,
     block: u64,
     place: u64,
+    last: &mut LastRead,
 ) -> Result<Above, Failed>
     requires place { place < 64 }
     requires numbers { IsAt (D.state disk.old) at.now }
-    ensures { ReadsAnswer (D.state disk.old) (D.state disk.new) (λ X. sights.above_in X block place) result }
+    requires last { IsLast (D.state disk.old) last.old }
+    ensures answers { ReadsAnswer (D.state disk.old) (D.state disk.new) (λ X. sights.above_in X block place) result }
+    ensures kept { OnOk result (IsLast (D.state disk.new) last.new) }
 {
     if block <= at.inodes / 4 || block >= at.blocks {
         return Ok(Above::NONE);
     }
-    let mut last = LastRead::NONE;
-    read_block(disk, block, &mut last)?;
+    read_block(disk, block, last)?;
     Ok(Above {
         tag: read_tag(&last.cell.tag),
         pointer: read_pointer(&last.cell.payload, place as u32),

@@ -7,6 +7,7 @@ ghost use Rattle.nofs_scan.specs.Steps.Elements.{HasElement, items_of};
 ghost use Rattle.nofs_scan.specs.Steps.Looks.{IsBatch, LookFails, LooksAll, OnlyLearns};
 
 use crate::sights::evidence::{Evidence, Verdicts};
+use crate::sights::last_reads::LastReads;
 use crate::sights::reads::read_sight;
 use crate::sights::sights::Sight;
 use nofs_agree::Known;
@@ -74,8 +75,9 @@ fn look_at_all<D: Disk>(
         Ok(room) => ListOf::from_vec(room),
         Err(_) => return Err(Refusal::OutOfMemory),
     };
+    let mut reads = LastReads::NONE;
     for place in 0..items.len() {
-        let sight = match read_sight(disk, at, known, kind, items[place]) {
+        let sight = match read_sight(disk, at, known, kind, items[place], &mut reads) {
             Ok(sight) => sight,
             Err(_) => return Err(Refusal::ReadFault),
         };

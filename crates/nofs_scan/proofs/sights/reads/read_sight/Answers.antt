@@ -9,24 +9,24 @@ use Rattle.nofs_scan.proofs.OnSteps.Looks.{block-looked, inode-looked}
 use Rattle.nofs_scan.proofs.OnSights.Reads.{reads-sees, sees-both}
 use Rattle.nofs_scan.proofs.sights.reads.read_sight.Goals as goal
 
-pub returns-in_ok-links-in-Inode : goal.returns-in_ok-links-in-Inode
-returns-in_ok-links-in-Inode g c =
+pub returns-in_ok-links-in-Inode-clause-looks : goal.returns-in_ok-links-in-Inode-clause-looks
+returns-in_ok-links-in-Inode-clause-looks g c =
     let range = subst (λ (kind : ElementKind). HasElement kind c.args.at.now c.args.item) c.in-Inode.is
     c.requires.range in
     let sees = sees-both _ _ _ (λ X. inode X c.args.item) (λ r X. link_sights X r.links)
     (λ r ls. record { inode = c.args.item; in_table = r; links = ls })
     (λ X. inode_sight X c.args.item) c.in_ok-in_table-in-Inode.in_table _ _ _ c.in_ok-links-in-Inode.links
-    (reads-sees _ _ c.args.known.now _ _ c.in_ok-in_table-in-Inode.ensures)
+    (reads-sees _ _ c.args.known.now _ _ c.in_ok-in_table-in-Inode.ensures.answers)
     c.in_ok-links-in-Inode.ensures (λ X. refl) in
     rw c.in-Inode.is (inode-looked _ _ c.args.at.now _ _ c.args.item _ c.requires.numbers range sees refl)
 
-pub returns-in_ok-tagged-in-Block : goal.returns-in_ok-tagged-in-Block
-returns-in_ok-tagged-in-Block g c =
+pub returns-in_ok-tagged-in-Block-clause-looks : goal.returns-in_ok-tagged-in-Block-clause-looks
+returns-in_ok-tagged-in-Block-clause-looks g c =
     let range = subst (λ (kind : ElementKind). HasElement kind c.args.at.now c.args.item) c.in-Block.is
     c.requires.range in
     let sees = sees-both _ _ _ (λ X. tag_of (cell_at X c.args.item).tag) (λ t X. tagged_in X t)
     (λ t s. record { block = c.args.item; tagged = s })
     (λ X. block_sight X c.args.item) c.in_ok-tag-in-Block.tag _ _ _ c.in_ok-tagged-in-Block.tagged
-    (reads-sees _ _ c.args.known.now _ _ c.in_ok-tag-in-Block.ensures) c.in_ok-tagged-in-Block.ensures (λ X. refl) in
+    (reads-sees _ _ c.args.known.now _ _ c.in_ok-tag-in-Block.ensures.answers) c.in_ok-tagged-in-Block.ensures.sees (λ X. refl) in
     rw c.in-Block.is
     (block-looked _ _ c.args.at.now _ _ c.args.item _ c.requires.numbers range c.if-item-at.false sees refl)

@@ -5,12 +5,12 @@ use Rattle.nofs_scan.specs.Sights.Verdicts.{tag_sight, way_in}
 use Rattle.nofs_scan.proofs.OnSights.Reads.{agreed-sees, reads-sees, sees-both}
 use Rattle.nofs_scan.proofs.sights.reads.read_slot.Goals as goal
 
-pub returns : goal.returns
-returns g c = sees-both _ _ _
+pub returns-clause-sees : goal.returns-clause-sees
+returns-clause-sees g c = sees-both _ _ _
     (λ X. (inode X c.args.tag.inode, way_in X (inode X c.args.tag.inode) (place_path c.place_of.result)))
     (λ w X. agreed (files_in X) c.args.tag.inode)
     (λ w a. record { tag = c.args.tag; in_table = w.0; way = w.1; agreed = a }) (λ X. tag_sight X c.args.tag)
-    c.in_ok-found.found _ _ _ c.in_ok-agreed.agreed (reads-sees _ _ c.args.known.now _ _ c.in_ok-found.ensures)
+    c.in_ok-found.found _ _ _ c.in_ok-agreed.agreed (reads-sees _ _ c.args.known.now _ _ c.in_ok-found.ensures.answers)
     (agreed-sees _ _ _ _ _ _ c.learn_chain.ensures.stays c.learn_chain.ensures.learns c.in_ok-agreed.ensures.agreed)
     (λ X j. record {
       tag = c.args.tag;
