@@ -17,9 +17,9 @@ use Rattle.nofs_state.proofs.OnBooks.Bits.{set-here, set-length, set-other}
 use Rattle.nofs_files.specs.Puts.{AreThreeFree, AreTwoFree, HasRoom, IsOneFree, one_claim, step_of_put, three_books}
 use Rattle.nofs_files.specs.Puts.{three_claims, two_books, two_claims}
 use Rattle.nofs_files.specs.declared.puts.put.Put.{Put}
-use Rattle.nofs_files.proofs.OnPuts.Unchanged.{claimed-safe}
+use Rattle.nofs_state.proofs.OnBooks.Claims.{claimed-safe}
 use Rattle.nofs_files.proofs.OnPuts.Claims.{IsTaken, claim-one, claim-three, claim-two}
-use Rattle.nofs_files.proofs.OnPuts.ClaimParts.{Takes}
+use Rattle.nofs_state.proofs.OnBooks.ClaimedBlocks.{Takes}
 
 -- so many blocks are claimed: the books follow, a later disk stays safe, and the claim is one of the machine
 pub record IsTaking (d e : DiskState) (k l : Books) (p : Put) (c : Claims) (m : ℕ) : Type 0 where

@@ -9,7 +9,6 @@ use Rattle.nofs_history.specs.declared.machine.history.Claims.{Claims}
 use Rattle.nofs_history.specs.declared.machine.steps.Step.{Step}
 use Rattle.nofs_history.specs.declared.machine.steps.Step.TheVariants as step
 use Rattle.nofs_crashlaw.specs.Maps.Moves.{IsClaimed}
-pub use Rattle.nofs_state.proofs.OnBooks.ClaimedBlocks.{Takes}
 use Rattle.nofs_state.proofs.OnBooks.ClaimedBlocks.{claim-was, home-claimed}
 
 -- a claimed block has a new stamp

@@ -35,8 +35,8 @@ use Rattle.nofs_files.proofs.OnPuts.Image.{Climb, Climbs, climb-once, image-show
 use Rattle.nofs_files.proofs.OnPuts.Slots.{slots-shown}
 use Rattle.nofs_files.proofs.OnPuts.Proper.{ProperShown, proper-shown}
 use Rattle.nofs_files.proofs.OnPuts.Mount.{climb-done, climb-proper, climb-numbered}
-use Rattle.nofs_files.proofs.OnReads.Rows.{current-agreed}
-use Rattle.nofs_files.proofs.OnPuts.ClaimParts.{Takes}
+use Rattle.nofs_state.proofs.OnBooks.CurrentFiles.{current-agreed}
+use Rattle.nofs_state.proofs.OnBooks.ClaimedBlocks.{Takes}
 use Rattle.nofs_files.proofs.OnPuts.Ways.{way_writes, way-count}
 use Rattle.nofs_files.specs.Puts.{HasRoom, put_answer, step_of_put}
 use Rattle.nofs_files.specs.declared.puts.put.Put.{Put}

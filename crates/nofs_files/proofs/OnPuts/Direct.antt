@@ -34,9 +34,10 @@ use Rattle.nofs_state.proofs.OnBooks.Machine.{are-agreed}
 use Rattle.nofs_state.proofs.OnCores.Replies.{open-files}
 use Rattle.nofs_state.proofs.OnWrites.Tables.{table_block}
 use Rattle.nofs_files.proofs.OnPuts.Image.{Climbs, IsPutFile}
-use Rattle.nofs_files.proofs.OnReads.Rows.{current-agreed, value-is}
+use Rattle.nofs_files.proofs.OnReads.Rows.{value-is}
+use Rattle.nofs_state.proofs.OnBooks.CurrentFiles.{current-agreed}
 use Rattle.nofs_crashlaw.proofs.OnFiles.PutHeld.{above-held}
-use Rattle.nofs_files.proofs.OnPuts.ClaimParts.{Takes}
+use Rattle.nofs_state.proofs.OnBooks.ClaimedBlocks.{Takes}
 use Rattle.nofs_files.proofs.OnPuts.Ways.{way_writes}
 use Rattle.nofs_agree.specs.declared.reads.LastRead.{LastRead}
 use Rattle.nofs_files.specs.Puts.{HasRoom, HeldAt, IsContent, IsRecordCell, MayPut, pointed, put_answer, size_after}

@@ -1,7 +1,6 @@
 -- A Put at any depth, in place or with claims: the image after the blocks of its way and the record were written.
-use Rattle.std.proofs.Common.{◌≡◌, ◌≢◌, ℕ, ◌+◌, ◌*◌, ◌/◌, ◌<◌, ◌≤◌, ◌⊎◌, max, inl, inr, true, false, eqb}
-use Rattle.std.proofs.Common.{eq-eqb, leb, ltb, leb-true, ltb-true, not, List, length, Some}
-use Rattle.std.proofs.Common.{refl, sym, ap, ◌∙◌, subst, arith}
+use Rattle.std.proofs.Common.{◌≡◌, ◌≢◌, ℕ, ◌+◌, ◌*◌, ◌/◌, ◌<◌, ◌≤◌, ◌⊎◌, max, inl, inr, true, false, eqb, eq-eqb, leb}
+use Rattle.std.proofs.Common.{ltb, leb-true, ltb-true, not, List, length, Some, refl, sym, ap, ◌∙◌, subst, arith}
 use Rattle.nofs_ptrs.specs.Paths.{slot_limit, Path, InRecord, Under, path_of, IsSlot}
 use Rattle.nofs_disk.specs.Disk.{DiskState, cell_at}
 use Rattle.nofs_super.specs.Geometry.{IsGeometry}
@@ -47,10 +46,10 @@ use Rattle.nofs_state.proofs.OnCores.Replies.{open-files}
 use Rattle.nofs_files.proofs.OnReads.Standing.{Standing, geometry-of, numbers-before, pointers-before}
 use Rattle.nofs_state.proofs.OnBooks.Machine.{agreed-live, world-numbers}
 use Rattle.nofs_state.proofs.OnWrites.Tables.{HasRecord, table_block, record-here, record-other}
-use Rattle.nofs_files.proofs.OnPuts.ClaimParts.{Takes, stamp-new}
+use Rattle.nofs_files.proofs.OnPuts.ClaimParts.{stamp-new}
+use Rattle.nofs_state.proofs.OnBooks.ClaimedBlocks.{Takes}
 use Rattle.nofs_files.proofs.OnPuts.Ways.{IsNew, IsOld, IsChanged, way_writes, new-or-old, new-above, old-above}
-use Rattle.nofs_files.proofs.OnPuts.Ways.{changed-is, new-changed}
-use Rattle.nofs_files.proofs.OnPuts.Ways.{meets, one-is, changed-one, table-one}
+use Rattle.nofs_files.proofs.OnPuts.Ways.{changed-is, new-changed, meets, one-is, changed-one, table-one}
 use Rattle.nofs_files.proofs.OnPuts.Ways.{written-apart, written-here, way-once}
 
 -- the file of a Put with the way to its slot, and the cell of the table with the new record

@@ -42,7 +42,7 @@ use Rattle.nofs_state.proofs.OnCores.Refusals.{IsLate, first-late, late-row}
 use Rattle.nofs_files.specs.Puts.{HeldAt, IsEmptySlot, IsFar, IsUnder, MayPut, RowsLead, RowsReach, RowsReachOf}
 use Rattle.nofs_files.specs.Puts.{put_answer}
 use Rattle.nofs_files.specs.declared.puts.put.Put.{Put}
-use Rattle.nofs_files.proofs.OnReads.Rows.{current-agreed}
+use Rattle.nofs_state.proofs.OnBooks.CurrentFiles.{current-agreed}
 use Rattle.nofs_files.proofs.OnPuts.Claims.{node-is}
 
 -- what stands in the slot of a block of pointers is lost

@@ -12,7 +12,7 @@ use Rattle.nofs_agree.specs.declared.reads.LastRead.{LastRead}
 use Rattle.nofs_state.specs.declared.books.maps.Books.{Books}
 use Rattle.nofs_state.proofs.OnBooks.Machine.{are-agreed}
 use Rattle.nofs_state.proofs.OnCores.Replies.{open-files}
-use Rattle.nofs_files.proofs.OnReads.Rows.{current-agreed}
+use Rattle.nofs_state.proofs.OnBooks.CurrentFiles.{current-agreed}
 use Rattle.nofs_crashlaw.proofs.OnFiles.PutHeld.{above-held}
 use Rattle.nofs_files.proofs.OnPuts.Claims.{Fits, needs-are}
 use Rattle.nofs_files.proofs.OnPuts.Ways.{IsNew, IsOld, each-next, no-loop}

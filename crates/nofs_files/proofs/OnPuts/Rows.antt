@@ -48,7 +48,8 @@ use Rattle.nofs_state.proofs.OnCores.Refusals.{IsLate, first-late, late-row}
 use Rattle.nofs_files.specs.Reads.{OpensFile, slots_of}
 use Rattle.nofs_files.specs.Puts.{RowsReach, is_bad_range, is_past_end, is_lost_under}
 use Rattle.nofs_files.proofs.OnPuts.LostBlocks.{held-sound}
-use Rattle.nofs_files.proofs.OnReads.Rows.{current-agreed, folder-is, goes-unfiled, large-none, large-some}
+use Rattle.nofs_files.proofs.OnReads.Rows.{folder-is, goes-unfiled, large-none, large-some}
+use Rattle.nofs_state.proofs.OnBooks.CurrentFiles.{current-agreed}
 use Rattle.nofs_files.proofs.OnReads.Rows.{slots-most, value-is}
 use Rattle.nofs_ptrs.specs.PathLaws.{path_of-slot}
 

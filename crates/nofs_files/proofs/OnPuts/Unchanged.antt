@@ -14,7 +14,6 @@ use Rattle.nofs_history.specs.Machine.{file_after, after_meta, born_file, is_at,
 use Rattle.nofs_history.specs.Claims.{has_block, is_present}
 use Rattle.nofs_history.specs.Gives.{GivesNothing}
 use Rattle.nofs_crashlaw.proofs.OnFiles.PutFile.{put-made, put-new, put-gives}
-pub use Rattle.nofs_state.proofs.OnBooks.Claims.{claimed-safe}
 use Rattle.nofs_disk.specs.Number.{put_bytes}
 use Rattle.nofs_history.proofs.EntryPut.{zeros-are}
 use Rattle.nofs_disk.specs.Number as number

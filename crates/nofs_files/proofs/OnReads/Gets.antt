@@ -39,7 +39,8 @@ use Rattle.nofs_state.proofs.OnCores.Replies.{goes-row, goes-read, goes-answer, 
 use Rattle.nofs_state.proofs.OnCores.Refusals.{IsLate, first-late, late-row}
 use Rattle.nofs_state.proofs.OnBooks.Machine.{are-agreed, stale-none}
 use Rattle.nofs_files.specs.Reads.{OpensFile, slots_of}
-use Rattle.nofs_files.proofs.OnReads.Rows.{current-agreed, folder-is, goes-unfiled, large-none, large-some}
+use Rattle.nofs_files.proofs.OnReads.Rows.{folder-is, goes-unfiled, large-none, large-some}
+use Rattle.nofs_state.proofs.OnBooks.CurrentFiles.{current-agreed}
 use Rattle.nofs_files.proofs.OnReads.Rows.{slots-most, value-is}
 
 module _ {old : DiskState} {k : Books} (i g slot : ℕ) (is : IsDisk old) (safe : IsSafe old k)

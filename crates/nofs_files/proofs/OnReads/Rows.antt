@@ -33,7 +33,7 @@ use Rattle.nofs_state.specs.declared.books.maps.Books.{Books}
 use Rattle.nofs_state.proofs.OnCores.Replies.{goes-row, goes-read, open-files}
 use Rattle.nofs_state.proofs.OnCores.Refusals.{IsLate}
 use Rattle.nofs_state.proofs.OnBooks.Machine.{are-agreed, stale-none, stale-some, agreed-live}
-pub use Rattle.nofs_state.proofs.OnBooks.CurrentFiles.{current-agreed}
+use Rattle.nofs_state.proofs.OnBooks.CurrentFiles.{current-agreed}
 use Rattle.nofs_files.specs.Reads.{FileFails, FailsByRow, FailsByRead, OpensFile, file_row, slots_of}
 
 folder-kind : (k : FileKind) → is_folder k ≡ is_kind Directory (Some k)

@@ -38,7 +38,7 @@ use Rattle.nofs_state.proofs.OnCores.Replies.{goes-read}
 use Rattle.nofs_state.proofs.OnBooks.Machine.{agreed-live, are-agreed}
 use Rattle.nofs_state.proofs.OnWrites.Tables.{table_block}
 use Rattle.nofs_state.proofs.OnWrites.TwoWrites.{safe-writes, writes-cells}
-use Rattle.nofs_files.proofs.OnReads.Rows.{current-agreed}
+use Rattle.nofs_state.proofs.OnBooks.CurrentFiles.{current-agreed}
 use Rattle.nofs_files.specs.Resizes.{CellInData, IsCutMap, IsEdge, IsTail, MayCut, cut_record, cut_writes, first_cut}
 use Rattle.nofs_files.specs.Resizes.{kept_slots, maybe, resize_answer}
 use Rattle.nofs_files.specs.declared.resizes.cuts.NewCell.{NewCell}

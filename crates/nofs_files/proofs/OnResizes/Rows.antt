@@ -30,7 +30,8 @@ use Rattle.nofs_crashlaw.proofs.OnUntouched.Agreement.{file-in}
 use Rattle.nofs_state.proofs.OnCores.Replies.{goes-row, goes-read, open-files}
 use Rattle.nofs_state.proofs.OnCores.Refusals.{IsLate, AreLate, first-late, late-row}
 use Rattle.nofs_state.proofs.OnBooks.Machine.{agreed-live, are-agreed, stale-none}
-use Rattle.nofs_files.proofs.OnReads.Rows.{current-agreed, folder-is, goes-unfiled}
+use Rattle.nofs_files.proofs.OnReads.Rows.{folder-is, goes-unfiled}
+use Rattle.nofs_state.proofs.OnBooks.CurrentFiles.{current-agreed}
 use Rattle.nofs_agree.specs.Chain.{AreTrue}
 use Rattle.nofs_agree.specs.declared.reads.LastRead.{LastRead}
 use Rattle.nofs_state.specs.Books.Maps.{IsSafe}
