@@ -1,0 +1,3 @@
+mod OnDisk
+mod OnReads
+mod OnChain

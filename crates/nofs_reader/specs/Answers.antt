@@ -1,0 +1,69 @@
+-- What calls answer of an image, and why one has no answer.
+use Rattle.std.specs.Prelude.{◌≡◌, ℕ, true, List, Option, Some, None, Result, Ok, Err, count_by, if◌then◌else◌}
+use Rattle.nofs_disk.specs.Disk.{cell_at}
+use Rattle.nofs_inode.specs.declared.inode.FileKind.{FileKind}
+use Rattle.nofs_inode.specs.declared.inode.FileKind.TheVariants as kind
+use Rattle.nofs_super.specs.declared.superblock.MountFault.{MountFault}
+use Rattle.nofs_super.specs.declared.superblock.SuperBlock.{SuperBlock}
+use Rattle.nofs_super.specs.Super.{check_super}
+use Rattle.nofs_model.specs.Geometry.{Image, inode}
+use Rattle.nofs_model.specs.Files.{agreed, files_in}
+use Rattle.nofs_agree.specs.Chain.{is_agreed_link}
+use Rattle.nofs_agree.specs.Reads.{KnowsInode}
+use Rattle.nofs_reader.specs.Image.{disk_of, image_of}
+use Rattle.nofs_reader.specs.declared.opened.Opened.{Opened}
+use Rattle.nofs_reader.specs.declared.opened.Unread.{Unread}
+use Rattle.nofs_reader.specs.declared.opened.Unread.TheVariants.{NoImage, NoInode, NotDirectory, IsDirectory}
+use Rattle.nofs_reader.specs.declared.opened.Wanted.{Wanted}
+use Rattle.nofs_reader.specs.declared.opened.Wanted.TheVariants as wanted
+use Rattle.nofs_reader.specs.declared.stats.InodeStat.{InodeStat}
+
+-- the superblock of an image, or the first fault that it has on a device of 1,048,576 blocks
+abbrev pub superblock_of : Image → Result SuperBlock MountFault
+superblock_of X = check_super 1048576 (cell_at X 0).payload
+
+-- why there is no answer, where there is none
+abbrev pub unread : {A : Type 0} → Result A Unread → Option Unread
+unread (Ok answer) = None
+unread (Err why) = Some why
+
+-- what is asked of no image
+abbrev pub image_unread : Result SuperBlock MountFault → Option Unread → Option Unread
+image_unread (Err fault) rest = Some (NoImage fault)
+image_unread (Ok at) rest = rest
+
+-- a live inode of a kind that is not wanted
+abbrev pub live_unread : Wanted → FileKind → Option Unread
+live_unread wanted.Any kind = None
+live_unread wanted.Files kind.File = None
+live_unread wanted.Files kind.Directory = Some IsDirectory
+live_unread wanted.Directories kind.File = Some NotDirectory
+live_unread wanted.Directories kind.Directory = None
+
+-- so of a record: a free one is none
+abbrev pub kind_unread : Wanted → Option FileKind → Option Unread
+kind_unread w None = Some NoInode
+kind_unread w (Some kind) = live_unread w kind
+
+-- why an inode of an image with a superblock is not read: it is not agreed, or is not of the wanted kind
+abbrev pub agreed_unread : Wanted → Image → ℕ → Option Unread
+agreed_unread w X i = if agreed (files_in X) i then kind_unread w (inode X i).kind else Some NoInode
+
+-- why an inode is not read: the image's superblock has a fault, or one of those
+abbrev pub inode_unread : Wanted → Image → ℕ → Option Unread
+inode_unread w X i = image_unread (superblock_of X) (agreed_unread w X i)
+
+-- an inode that was opened
+pub record IsOpened (bytes : List ℕ) (w : Wanted) (i : ℕ) (it : Opened) : Type 0 where
+  pub known : KnowsInode (disk_of bytes) it.at i it.record
+  pub agreed : agreed (files_in (image_of bytes)) i ≡ true
+  pub kind : it.record.kind ≡ Some it.kind
+  pub wanted : live_unread w it.kind ≡ None
+
+-- what an agreed inode is: its kind, generation and size as its record has them, and the number of its back links
+-- that are pairs with agreed directories
+pub record IsStat (X : Image) (i : ℕ) (stat : InodeStat) : Type 0 where
+  pub kind : (inode X i).kind ≡ Some stat.kind
+  pub generation : stat.generation ≡ (inode X i).generation
+  pub size : stat.size ≡ (inode X i).size
+  pub links : stat.links ≡ count_by (λ link. is_agreed_link (files_in X) i link) (inode X i).links

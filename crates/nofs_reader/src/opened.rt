@@ -1,0 +1,107 @@
+//! The inode that a call names.
+//!
+//! Promise: it is agreed, and of the kind that is wanted, or the answer says why it is not.
+ghost use Rattle.std.specs.Prelude.{◌≡◌, IfOk, Some};
+ghost use Rattle.nofs_agree.specs.Reads.{IsAt};
+ghost use Rattle.nofs_reader.specs.Answers.{IsOpened, agreed_unread, inode_unread, kind_unread, live_unread, unread};
+ghost use Rattle.nofs_reader.specs.Image.{disk_of, image_of};
+
+use crate::chain::is_agreed;
+use crate::reads::{record, superblock};
+use nofs_agree::LastRead;
+use nofs_inode::{FileKind, Record};
+use nofs_super::{MountFault, SuperBlock};
+
+/// Why a call has no answer.
+#[derive(Clone, Copy, Debug, PartialEq, Eq)]
+pub enum Unread {
+    /// The bytes are no image that can be mounted: the first fault of the superblock.
+    NoImage(MountFault),
+    /// No inode is agreed that has this number.
+    NoInode,
+    /// The inode is a file, and a directory is wanted.
+    NotDirectory,
+    /// The inode is a directory, and a file is wanted.
+    IsDirectory,
+    /// No file has such a slot: it is 4,168 or more.
+    TooLarge,
+    /// There is no room for a slot: fewer than 1,024 bytes.
+    NoRoom,
+}
+
+/// What a call may name.
+#[derive(Clone, Copy)]
+pub(crate) enum Wanted {
+    Any,
+    Files,
+    Directories,
+}
+
+/// An agreed inode of an image.
+#[derive(Clone, Copy)]
+pub(crate) struct Opened {
+    pub at: SuperBlock,
+    pub record: Record,
+    pub kind: FileKind,
+}
+
+/// The agreed inode of a number.
+///
+/// # Errors
+///
+/// `NoImage` where the superblock has a fault, `NoInode` where no inode of this number is agreed, and `NotDirectory`
+/// or `IsDirectory` where it is not of the wanted kind.
+pub(crate) fn open(bytes: &[u8], wanted: Wanted, inode: u32) -> Result<Opened, Unread>
+    ensures unread { unread result ≡ inode_unread wanted (image_of bytes.now) inode }
+    ensures opened { IfOk result (IsOpened bytes.now wanted inode) }
+{
+    match superblock(bytes) {
+        Err(fault) => Err(Unread::NoImage(fault)),
+        Ok(at) => open_at(bytes, at, wanted, inode),
+    }
+}
+
+// The agreed inode of a number, in an image whose superblock this is.
+fn open_at(bytes: &[u8], at: SuperBlock, wanted: Wanted, inode: u32) -> Result<Opened, Unread>
+    requires { IsAt (disk_of bytes.now) at }
+    ensures unread { unread result ≡ agreed_unread wanted (image_of bytes.now) inode }
+    ensures opened { IfOk result (IsOpened bytes.now wanted inode) }
+{
+    let mut last = LastRead::NONE;
+    let record = record(bytes, &at, inode, &mut last);
+    if !is_agreed(bytes, &at, inode, &record) {
+        return Err(Unread::NoInode);
+    }
+    match wanted_kind(wanted, record.kind) {
+        Ok(kind) => Ok(Opened { at, record, kind }),
+        Err(why) => Err(why),
+    }
+}
+
+// The kind of a record that is wanted.
+fn wanted_kind(wanted: Wanted, kind: Option<FileKind>) -> Result<FileKind, Unread>
+    ensures unread { unread result ≡ kind_unread wanted kind }
+    ensures kind { IfOk result (λ it. kind ≡ Some it) }
+{
+    match kind {
+        None => Err(Unread::NoInode),
+        Some(kind) => wanted_live(wanted, kind),
+    }
+}
+
+fn wanted_live(wanted: Wanted, kind: FileKind) -> Result<FileKind, Unread>
+    ensures unread { unread result ≡ live_unread wanted kind }
+    ensures kind { IfOk result (λ it. kind ≡ it) }
+{
+    match wanted {
+        Wanted::Any => Ok(kind),
+        Wanted::Files => match kind {
+            FileKind::File => Ok(kind),
+            FileKind::Directory => Err(Unread::IsDirectory),
+        },
+        Wanted::Directories => match kind {
+            FileKind::File => Err(Unread::NotDirectory),
+            FileKind::Directory => Ok(kind),
+        },
+    }
+}
