@@ -1,3 +1,4 @@
 mod OnDisk
 mod OnReads
 mod OnChain
+mod OnGets

@@ -3,12 +3,14 @@
 
 mod chain;
 mod disk;
+mod gets;
 mod opened;
 mod pairs;
 mod reads;
 mod stats;
 
 pub use disk::ImageDisk;
+pub use gets::{Run, RunKind, get};
 pub use nofs_inode::FileKind;
 pub use nofs_super::MountFault;
 pub use opened::Unread;
