@@ -1,4 +1,5 @@
 mod OnDisk
 mod OnReads
 mod OnChain
+mod OnEntries
 mod OnGets

@@ -2,3 +2,4 @@ pub mod Image
 pub mod Chain
 pub mod Answers
 pub mod Gets
+pub mod Entries

@@ -3,6 +3,7 @@
 
 mod chain;
 mod disk;
+mod entries;
 mod gets;
 mod opened;
 mod pairs;
@@ -10,6 +11,7 @@ mod reads;
 mod stats;
 
 pub use disk::ImageDisk;
+pub use entries::{Line, Named};
 pub use gets::{Run, RunKind, get};
 pub use nofs_inode::FileKind;
 pub use nofs_super::MountFault;

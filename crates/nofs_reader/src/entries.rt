@@ -1,0 +1,176 @@
+//! An entry of a directory: what it says, and whether it is a pair.
+//!
+//! Promise: it is the entry of the definition, and it has a kind exactly where the inode that it names is agreed and
+//! names it back.
+ghost use Rattle.std.specs.Prelude.{◌≡◌, ◌<◌, ◌≤◌, ◌↔◌, IsTrue, length, take};
+ghost use Rattle.std.specs.List.{list_any};
+ghost use Rattle.nofs_agree.specs.Reads.{IsLast, KnowsDirectory};
+ghost use Rattle.nofs_dirent.specs.Entries.{entry_limit, entry_of, entry_with, has_entry_spelling};
+ghost use Rattle.nofs_reader.specs.Entries.{StandsAt, entry_read, is_same_link, kind_named};
+ghost use Rattle.nofs_reader.specs.Image.{disk_of, image_of};
+
+use crate::chain::is_agreed;
+use crate::pairs::paired_directory;
+use crate::reads::{record, slot};
+use nofs_agree::{LastRead, PathAnswer};
+use nofs_dirent::{bytes_of, has_zeros_after, name_ok};
+use nofs_disk::{clear, read_u32_at, read_u64_at, write_bytes_at};
+use nofs_inode::{BackLink, FileKind, Record};
+use nofs_model::place_of;
+use nofs_super::SuperBlock;
+
+/// An entry of a directory as its 64 bytes spell it.
+#[derive(Clone, Copy, Debug, PartialEq, Eq)]
+pub struct Named {
+    /// The inode that it names.
+    pub inode: u32,
+    /// The generation of that inode when it was named.
+    pub generation: u64,
+    /// How many bytes the name has, 1 to 48.
+    pub length: u32,
+    /// The name, and zeros behind it.
+    pub name: [u8; 48],
+}
+
+/// An entry of a directory, and what it leads to.
+#[derive(Clone, Copy, Debug, PartialEq, Eq)]
+pub struct Line {
+    /// The place of the entry, counted from 0 over the directory's whole content.
+    pub place: u32,
+    pub named: Named,
+    /// The kind of the inode that it names; `None` where the entry is dead.
+    pub kind: Option<FileKind>,
+}
+
+/// What stands at a place of a directory.
+#[derive(Clone, Copy)]
+pub(crate) enum Stands {
+    Nothing,
+    /// The slot of the place is lost.
+    Lost,
+    Entry(Named),
+}
+
+/// What stands at a place of a directory.
+pub(crate) fn read_place(
+    bytes: &[u8],
+    at: &SuperBlock,
+    directory: u32,
+    it: &Record,
+    place: u32,
+    last: &mut LastRead,
+) -> Stands
+    requires directory { KnowsDirectory (disk_of bytes.now) at.now directory it.now.generation it.now }
+    requires place { place < entry_limit }
+    requires last { IsLast (disk_of bytes.now) last.old }
+    ensures stands { StandsAt (image_of bytes.now) directory place result }
+    ensures last { IsLast (disk_of bytes.now) last.new }
+{
+    match slot(
+        bytes,
+        at,
+        directory,
+        it,
+        place_of(u64::from(place / 16)),
+        last,
+    ) {
+        PathAnswer::Hole => Stands::Nothing,
+        PathAnswer::Lost => Stands::Lost,
+        PathAnswer::Holds(_) => match spelled(bytes_of(&last.cell.payload, place % 16)) {
+            None => Stands::Nothing,
+            Some(entry) => Stands::Entry(entry),
+        },
+    }
+}
+
+// The entry that 64 bytes spell.
+fn spelled(bytes: &[u8]) -> Option<Named>
+    requires { length bytes.now ≡ 64 }
+    ensures { entry_read result ≡ entry_of bytes.now }
+{
+    let length = read_u32_at(bytes, 4);
+    if !has_zeros_after(bytes, length as usize) {
+        return None;
+    }
+    let inode = read_u32_at(bytes, 0);
+    let generation = read_u64_at(bytes, 8);
+    let name = &bytes[16..16 + length as usize];
+    if !has_spelling(inode, generation, name) {
+        return None;
+    }
+    let mut it = Named {
+        inode,
+        generation,
+        length,
+        name: [0; 48],
+    };
+    copy_name(name, &mut it.name);
+    Some(it)
+}
+
+// Whether some bytes spell the entry of this inode, generation and name.
+fn has_spelling(inode: u32, generation: u64, name: &[u8]) -> bool
+    ensures { result ≡ has_entry_spelling (entry_with inode generation name.now) }
+{
+    inode >= 1 && generation >= 1 && name_ok(name)
+}
+
+// Copies a name, with zeros behind it.
+fn copy_name(name: &[u8], into: &mut [u8; 48])
+    requires { length name.now ≤ 48 }
+    ensures { take (length name.now) into.new ≡ name.now }
+{
+    clear(into);
+    write_bytes_at(into, 0, name);
+}
+
+/// The kind of the inode that an entry of a directory names; `None` where the entry is dead: where the inode is not
+/// agreed, or has no back link to the entry that is a pair.
+pub(crate) fn kind_named(
+    bytes: &[u8],
+    at: &SuperBlock,
+    directory: u32,
+    it: &Record,
+    place: u32,
+    inode: u32,
+) -> Option<FileKind>
+    requires { KnowsDirectory (disk_of bytes.now) at.now directory it.now.generation it.now }
+    ensures { result ≡ kind_named (image_of bytes.now) directory place inode }
+{
+    let link = BackLink {
+        directory,
+        entry: place,
+        generation: it.generation,
+    };
+    let mut last = LastRead::NONE;
+    let found = record(bytes, at, inode, &mut last);
+    if has_link(&found.links, &link)
+        && paired_directory(bytes, at, inode, &found, &link, &mut last).is_some()
+        && is_agreed(bytes, at, inode, &found)
+    {
+        found.kind
+    } else {
+        None
+    }
+}
+
+// Whether this back link is among others.
+fn has_link(links: &[BackLink; 4], link: &BackLink) -> bool
+    ensures { result ≡ list_any (λ other. is_same_link other link.now) links.now }
+{
+    links.iter().any(|other| is_same_link(other, link))
+}
+
+fn is_same_link(a: &BackLink, b: &BackLink) -> bool
+    ensures { result ≡ is_same_link a.now b.now }
+{
+    a.directory == b.directory && a.entry == b.entry && a.generation == b.generation
+}
+
+/// Whether an entry has this name.
+pub(crate) fn has_name(entry: &Named, name: &[u8]) -> bool
+    requires { entry.now.length ≤ 48 }
+    ensures { IsTrue result ↔ (take entry.now.length entry.now.name ≡ name.now) }
+{
+    &entry.name[..entry.length as usize] == name
+}
