@@ -1,5 +1,6 @@
 mod OnDisk
 mod OnReads
 mod OnChain
+mod OnDirectories
 mod OnEntries
 mod OnGets

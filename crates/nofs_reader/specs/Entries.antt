@@ -47,14 +47,20 @@ pub record IsEmptyPlace (X : Image) (d e : ℕ) : Type 0 where
   pub entry : entry_at (files_in X) d e ≡ None
   pub slot : value X d (e / 16) ≢ Lost
 
+-- the slot of a place is lost, and so there is no entry
+pub record IsLostPlace (X : Image) (d e : ℕ) : Type 0 where
+  pub entry : entry_at (files_in X) d e ≡ None
+  pub slot : value X d (e / 16) ≡ Lost
+
 -- what stands at a place
 abbrev pub StandsAt : Image → ℕ → ℕ → Stands → Type 0
 StandsAt X d e stands.Nothing = IsEmptyPlace X d e
-StandsAt X d e stands.Lost = value X d (e / 16) ≡ Lost
-StandsAt X d e (stands.Entry it) = entry_at (files_in X) d e ≡ Some (entry_in it)
+StandsAt X d e stands.Lost = IsLostPlace X d e
+StandsAt X d e (stands.Entry it) = (entry_at (files_in X) d e ≡ Some (entry_in it)) × (it.length ≤ 48)
 
 -- a line is an entry of the directory, with the kind of what it names
 pub record IsLine (X : Image) (d : ℕ) (line : Line) : Type 0 where
   pub range : line.place < entry_limit
   pub entry : entry_at (files_in X) d line.place ≡ Some (entry_in line.named)
+  pub short : line.named.length ≤ 48
   pub kind : line.kind ≡ kind_named X d line.place line.named.inode

@@ -3,3 +3,4 @@ pub mod Chain
 pub mod Answers
 pub mod Gets
 pub mod Entries
+pub mod Directories

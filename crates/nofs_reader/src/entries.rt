@@ -2,7 +2,7 @@
 //!
 //! Promise: it is the entry of the definition, and it has a kind exactly where the inode that it names is agreed and
 //! names it back.
-ghost use Rattle.std.specs.Prelude.{◌≡◌, ◌<◌, ◌≤◌, ◌↔◌, IsTrue, length, take};
+ghost use Rattle.std.specs.Prelude.{◌≡◌, ◌<◌, ◌≤◌, IfSome, bytes_eq, length, take};
 ghost use Rattle.std.specs.List.{list_any};
 ghost use Rattle.nofs_agree.specs.Reads.{IsLast, KnowsDirectory};
 ghost use Rattle.nofs_dirent.specs.Entries.{entry_limit, entry_of, entry_with, has_entry_spelling};
@@ -86,7 +86,8 @@ pub(crate) fn read_place(
 // The entry that 64 bytes spell.
 fn spelled(bytes: &[u8]) -> Option<Named>
     requires { length bytes.now ≡ 64 }
-    ensures { entry_read result ≡ entry_of bytes.now }
+    ensures entry { entry_read result ≡ entry_of bytes.now }
+    ensures short { IfSome result (λ it. it.length ≤ 48) }
 {
     let length = read_u32_at(bytes, 4);
     if !has_zeros_after(bytes, length as usize) {
@@ -170,7 +171,7 @@ fn is_same_link(a: &BackLink, b: &BackLink) -> bool
 /// Whether an entry has this name.
 pub(crate) fn has_name(entry: &Named, name: &[u8]) -> bool
     requires { entry.now.length ≤ 48 }
-    ensures { IsTrue result ↔ (take entry.now.length entry.now.name ≡ name.now) }
+    ensures { result ≡ bytes_eq (take entry.now.length entry.now.name) name.now }
 {
     &entry.name[..entry.length as usize] == name
 }

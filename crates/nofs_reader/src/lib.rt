@@ -1,10 +1,26 @@
-//! An image in bytes, read without a mount.
+//! An image in bytes, read without a mount: what a name finds, what a directory has, what an inode is, and what its
+//! slots hold.
+//!
+//! Promise: each call answers the definition of `docs/DEFINITIONS.md` on any bytes, or the first fault of the
+//! superblock. It writes nothing, raises no mount number, and takes no memory, so no answer speaks of it.
+//!
+//! The parts, from the lowest up:
+//!
+//! - `disk`: the bytes as a disk, whose reads never fail and whose writes always do
+//! - `reads`: its superblock, a record, and a slot
+//! - `pairs`, `chain`: whether an inode is agreed. The checks of `nofs_agree` ask for a place for each inode in memory;
+//!   these ask for none
+//! - `opened`: the inode that a call names
+//! - `entries`: an entry of a directory, and whether it is a pair
+//! - `stats`, `gets`, `lists`, `looks`: the calls
 #![tactic(auto)]
 
 mod chain;
 mod disk;
 mod entries;
 mod gets;
+mod lists;
+mod looks;
 mod opened;
 mod pairs;
 mod reads;
@@ -13,7 +29,10 @@ mod stats;
 pub use disk::ImageDisk;
 pub use entries::{Line, Named};
 pub use gets::{Run, RunKind, get};
+pub use lists::{NextLine, next_line};
+pub use looks::{Looked, look};
 pub use nofs_inode::FileKind;
-pub use nofs_super::MountFault;
+pub use nofs_super::{MountFault, SuperBlock};
 pub use opened::Unread;
+pub use reads::superblock;
 pub use stats::{InodeStat, stat};

@@ -15,8 +15,12 @@ use nofs_inode::{FREE_RECORD, Record};
 use nofs_model::Place;
 use nofs_super::{MountFault, SuperBlock, read_super};
 
-/// The superblock of the image, or its first fault.
-pub(crate) fn superblock(bytes: &[u8]) -> Result<SuperBlock, MountFault>
+/// The superblock of the image.
+///
+/// # Errors
+///
+/// The first fault of the table in `docs/FORMAT.md` that block 0 has on a device of 1,048,576 blocks.
+pub fn superblock(bytes: &[u8]) -> Result<SuperBlock, MountFault>
     ensures value { result ≡ superblock_of (image_of bytes.now) }
     ensures at { IfOk result (λ at. IsAt (disk_of bytes.now) at) }
 {

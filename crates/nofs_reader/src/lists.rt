@@ -1,0 +1,86 @@
+//! What a directory has, place by place.
+ghost use Rattle.std.specs.Prelude.{◌≡◌, ◌<◌, ◌≤◌, IfOk, Some};
+ghost use Rattle.nofs_agree.specs.Reads.{KnowsDirectory};
+ghost use Rattle.nofs_dirent.specs.Entries.{entry_limit};
+ghost use Rattle.nofs_model.specs.Files.{entry_at, files_in};
+ghost use Rattle.nofs_reader.specs.Answers.{inode_unread, unread};
+ghost use Rattle.nofs_reader.specs.Directories.{IsNext};
+ghost use Rattle.nofs_reader.specs.Entries.{IsLine, entry_in};
+ghost use Rattle.nofs_reader.specs.Image.{disk_of, image_of};
+ghost use Rattle.nofs_reader.specs.declared.opened.Wanted.TheVariants.{Directories};
+
+use crate::entries::{Line, Named, Stands, kind_named, read_place};
+use crate::opened::{Unread, Wanted, open};
+use nofs_agree::LastRead;
+use nofs_dirent::ENTRY_LIMIT;
+use nofs_inode::Record;
+use nofs_super::SuperBlock;
+
+/// What a directory has at the first place, from one on, at which something stands.
+#[derive(Clone, Copy, Debug, PartialEq, Eq)]
+pub enum NextLine {
+    /// An entry.
+    Line(Line),
+    /// Its slot is lost, and with it the entries from this place on to the next multiple of 16.
+    Lost { place: u32 },
+    /// Nothing stands from there on.
+    End,
+}
+
+/// The first place of a directory, from one on, at which an entry stands or whose slot is lost. A directory has places
+/// 0 to 1,151.
+///
+/// # Errors
+///
+/// `NoImage` with the first fault of the superblock; `NoInode` where no inode of this number is agreed; `NotDirectory`.
+pub fn next_line(bytes: &[u8], directory: u32, from: u32) -> Result<NextLine, Unread>
+    ensures unread { unread result ≡ inode_unread Directories (image_of bytes.now) directory }
+    ensures next { IfOk result (IsNext (image_of bytes.now) directory from) }
+{
+    match open(bytes, Wanted::Directories, directory) {
+        Ok(it) => Ok(first_line(bytes, &it.at, directory, &it.record, from)),
+        Err(why) => Err(why),
+    }
+}
+
+// What stands at the first place, from one on, at which something does.
+fn first_line(bytes: &[u8], at: &SuperBlock, directory: u32, it: &Record, from: u32) -> NextLine
+    requires { KnowsDirectory (disk_of bytes.now) at.now directory it.now.generation it.now }
+    ensures { IsNext (image_of bytes.now) directory from result }
+{
+    let mut last = LastRead::NONE;
+    for place in from..ENTRY_LIMIT {
+        match read_place(bytes, at, directory, it, place, &mut last) {
+            Stands::Nothing => {}
+            Stands::Lost => return NextLine::Lost { place },
+            Stands::Entry(named) => {
+                return NextLine::Line(line_of(bytes, at, directory, it, place, named));
+            }
+        }
+    }
+    NextLine::End
+}
+
+/// The line of an entry.
+pub(crate) fn line_of(
+    bytes: &[u8],
+    at: &SuperBlock,
+    directory: u32,
+    it: &Record,
+    place: u32,
+    named: Named,
+) -> Line
+    requires directory { KnowsDirectory (disk_of bytes.now) at.now directory it.now.generation it.now }
+    requires place { place < entry_limit }
+    requires entry { entry_at (files_in (image_of bytes.now)) directory place ≡ Some (entry_in named) }
+    requires short { named.length ≤ 48 }
+    ensures line { IsLine (image_of bytes.now) directory result }
+    ensures place { result.place ≡ place }
+    ensures named { result.named ≡ named }
+{
+    Line {
+        place,
+        named,
+        kind: kind_named(bytes, at, directory, it, place, named.inode),
+    }
+}
