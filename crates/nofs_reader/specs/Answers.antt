@@ -53,6 +53,13 @@ agreed_unread w X i = if agreed (files_in X) i then kind_unread w (inode X i).ki
 abbrev pub inode_unread : Wanted → Image → ℕ → Option Unread
 inode_unread w X i = image_unread (superblock_of X) (agreed_unread w X i)
 
+-- so for a call that takes any inode, and for one that takes a directory
+abbrev pub any_unread : Image → ℕ → Option Unread
+any_unread X i = inode_unread wanted.Any X i
+
+abbrev pub directory_unread : Image → ℕ → Option Unread
+directory_unread X i = inode_unread wanted.Directories X i
+
 -- an inode that was opened
 pub record IsOpened (bytes : List ℕ) (w : Wanted) (i : ℕ) (it : Opened) : Type 0 where
   pub known : KnowsInode (disk_of bytes) it.at i it.record

@@ -1,5 +1,5 @@
 //! What the slots of a file hold.
-ghost use Rattle.std.specs.Prelude.{◌≡◌, ◌+◌, ◌*◌, ◌<◌, ◌≤◌, IfOk, IsTrue, length, slice_range, take};
+ghost use Rattle.std.specs.Prelude.{◌≡◌, ◌+◌, ◌*◌, ◌<◌, ◌≤◌, IfOk, IsTrue, OnErr, length, slice_range, take};
 ghost use Rattle.nofs_agree.specs.Reads.{IsLast, KnowsInode};
 ghost use Rattle.nofs_model.specs.Slots.{value};
 ghost use Rattle.nofs_ptrs.specs.Paths.{slot_limit};
@@ -47,6 +47,7 @@ pub fn get(bytes: &[u8], inode: u32, from: u64, into: &mut [u8]) -> Result<Run, 
     ensures unread { unread result ≡ get_unread (image_of bytes.now) inode from (length into.old) }
     ensures len { length into.new ≡ length into.old }
     ensures run { IfOk result (IsRun (image_of bytes.now) inode from into.new) }
+    ensures unchanged { OnErr result (into.new ≡ into.old) }
 {
     if into.len() < 1024 {
         return Err(Unread::NoRoom);

@@ -3,11 +3,10 @@ ghost use Rattle.std.specs.Prelude.{◌≡◌, ◌<◌, ◌≤◌, IfOk, Some};
 ghost use Rattle.nofs_agree.specs.Reads.{KnowsDirectory};
 ghost use Rattle.nofs_dirent.specs.Entries.{entry_limit};
 ghost use Rattle.nofs_model.specs.Files.{entry_at, files_in};
-ghost use Rattle.nofs_reader.specs.Answers.{inode_unread, unread};
+ghost use Rattle.nofs_reader.specs.Answers.{directory_unread, unread};
 ghost use Rattle.nofs_reader.specs.Directories.{IsNext};
 ghost use Rattle.nofs_reader.specs.Entries.{IsLine, entry_in};
 ghost use Rattle.nofs_reader.specs.Image.{disk_of, image_of};
-ghost use Rattle.nofs_reader.specs.declared.opened.Wanted.TheVariants.{Directories};
 
 use crate::entries::{Line, Named, Stands, kind_named, read_place};
 use crate::opened::{Unread, Wanted, open};
@@ -34,7 +33,7 @@ pub enum NextLine {
 ///
 /// `NoImage` with the first fault of the superblock; `NoInode` where no inode of this number is agreed; `NotDirectory`.
 pub fn next_line(bytes: &[u8], directory: u32, from: u32) -> Result<NextLine, Unread>
-    ensures unread { unread result ≡ inode_unread Directories (image_of bytes.now) directory }
+    ensures unread { unread result ≡ directory_unread (image_of bytes.now) directory }
     ensures next { IfOk result (IsNext (image_of bytes.now) directory from) }
 {
     match open(bytes, Wanted::Directories, directory) {

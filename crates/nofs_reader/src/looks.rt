@@ -2,11 +2,10 @@
 ghost use Rattle.std.specs.Prelude.{◌≡◌, ◌<◌, IfNone, IfOk, IfSome, false, is_some};
 ghost use Rattle.nofs_agree.specs.Reads.{IsLast, KnowsDirectory};
 ghost use Rattle.nofs_dirent.specs.Entries.{entry_limit};
-ghost use Rattle.nofs_reader.specs.Answers.{inode_unread, unread};
+ghost use Rattle.nofs_reader.specs.Answers.{directory_unread, unread};
 ghost use Rattle.nofs_reader.specs.Directories.{IsLeast, IsLooked, NonePasses, is_found_at, is_lost_at, is_named_at};
 ghost use Rattle.nofs_reader.specs.Entries.{IsLine};
 ghost use Rattle.nofs_reader.specs.Image.{disk_of, image_of};
-ghost use Rattle.nofs_reader.specs.declared.opened.Wanted.TheVariants.{Directories};
 
 use crate::entries::{Line, Stands, has_name, read_place};
 use crate::lists::line_of;
@@ -37,7 +36,7 @@ pub enum Looked {
 ///
 /// `NoImage` with the first fault of the superblock; `NoInode` where no inode of this number is agreed; `NotDirectory`.
 pub fn look(bytes: &[u8], directory: u32, name: &[u8]) -> Result<Looked, Unread>
-    ensures unread { unread result ≡ inode_unread Directories (image_of bytes.now) directory }
+    ensures unread { unread result ≡ directory_unread (image_of bytes.now) directory }
     ensures looked { IfOk result (IsLooked (image_of bytes.now) directory name.now) }
 {
     match open(bytes, Wanted::Directories, directory) {

@@ -3,9 +3,8 @@ ghost use Rattle.std.specs.Prelude.{◌≡◌, IfOk, count_by};
 ghost use Rattle.nofs_agree.specs.Chain.{is_agreed_link};
 ghost use Rattle.nofs_agree.specs.Reads.{KnowsInode};
 ghost use Rattle.nofs_model.specs.Files.{files_in};
-ghost use Rattle.nofs_reader.specs.Answers.{IsStat, inode_unread, unread};
+ghost use Rattle.nofs_reader.specs.Answers.{IsStat, any_unread, unread};
 ghost use Rattle.nofs_reader.specs.Image.{disk_of, image_of};
-ghost use Rattle.nofs_reader.specs.declared.opened.Wanted.TheVariants.{Any};
 
 use crate::chain::is_agreed_link;
 use crate::opened::{Unread, Wanted, open};
@@ -29,7 +28,7 @@ pub struct InodeStat {
 ///
 /// `NoImage` with the first fault of the superblock; `NoInode` where no inode of this number is agreed.
 pub fn stat(bytes: &[u8], inode: u32) -> Result<InodeStat, Unread>
-    ensures unread { unread result ≡ inode_unread Any (image_of bytes.now) inode }
+    ensures unread { unread result ≡ any_unread (image_of bytes.now) inode }
     ensures stat { IfOk result (IsStat (image_of bytes.now) inode) }
 {
     let it = match open(bytes, Wanted::Any, inode) {
