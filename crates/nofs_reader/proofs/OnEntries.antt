@@ -1,7 +1,6 @@
 -- The entry that 64 bytes spell, field by field.
-use Rattle.std.proofs.Common.{◌≡◌, ℕ, ◌+◌, ◌-◌, ◌≤◌, Bool, true, false, cond, ◌&&◌, List, length, take, drop, Option, Some}
-use Rattle.std.proofs.Common.{None, leb, leb-true, arith, refl, sym, ap, ◌∙◌, subst}
-use Rattle.std.specs.List.{list_all}
+use Rattle.std.proofs.Common.{◌≡◌, ℕ, Bool, true, false, cond, ◌&&◌, List, length, take, drop, Option, Some}
+use Rattle.std.proofs.Common.{None, leb, leb-true, arith, sym, ap, ◌∙◌}
 use Rattle.std.proofs.lemmas.Bool.{and_from, and_parts}
 use Rattle.std.proofs.lemmas.List.{length-drop, length-take-le}
 use Rattle.nofs_disk.specs.Number.{number_at}

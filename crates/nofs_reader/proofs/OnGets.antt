@@ -1,5 +1,5 @@
 -- The slots of a run, one after the other.
-use Rattle.std.proofs.Common.{◌≡◌, ℕ, zero, suc, ◌+◌, ◌-◌, ◌*◌, ◌/◌, ◌<◌, ◌≤◌, List, ◌++◌, length, take, drop, arith, refl}
+use Rattle.std.proofs.Common.{◌≡◌, ℕ, ◌+◌, ◌-◌, ◌*◌, ◌/◌, ◌<◌, ◌≤◌, List, ◌++◌, length, take, drop, arith}
 use Rattle.std.proofs.Common.{sym, ap, ◌∙◌, inl, inr, min}
 use Rattle.std.specs.Prelude.{slice_range}
 use Rattle.std.proofs.lemmas.Bool.{cases_lt}
@@ -18,7 +18,6 @@ use Rattle.nofs_agree.specs.Reads.{IsLast}
 use Rattle.nofs_agree.specs.declared.reads.LastRead.{LastRead}
 use Rattle.nofs_reader.specs.Gets.{IsRun, value_as}
 use Rattle.nofs_reader.specs.Image.{disk_of, image_of}
-use Rattle.nofs_reader.specs.declared.gets.Run.{Run}
 use Rattle.nofs_reader.specs.declared.gets.RunKind.{RunKind}
 
 -- what was put, and what stands before it

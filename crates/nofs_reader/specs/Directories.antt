@@ -8,7 +8,6 @@ use Rattle.nofs_model.specs.Slots.{value}
 use Rattle.nofs_model.specs.declared.image.value.Value.{Value}
 use Rattle.nofs_model.specs.declared.image.value.Value.TheVariants as value
 use Rattle.nofs_reader.specs.Entries.{IsEmptyPlace, IsLine, IsLostPlace, is_alive}
-use Rattle.nofs_reader.specs.declared.entries.Line.{Line}
 use Rattle.nofs_reader.specs.declared.lists.NextLine.{NextLine}
 use Rattle.nofs_reader.specs.declared.lists.NextLine.TheVariants as next
 use Rattle.nofs_reader.specs.declared.looks.Looked.{Looked}

@@ -1,6 +1,5 @@
 -- Entries of a directory, as they are read.
-use Rattle.std.specs.Prelude.{◌≡◌, ◌≢◌, ℕ, ◌/◌, ◌<◌, ◌≤◌, Bool, ◌&&◌, ◌==◌, List, take, Option, Some, None, if◌then◌else◌}
-use Rattle.std.specs.Prelude.{IfSome}
+use Rattle.std.specs.Prelude.{◌≡◌, ◌≢◌, ℕ, ◌/◌, ◌<◌, ◌≤◌, Bool, ◌&&◌, ◌==◌, take, Option, Some, None, if◌then◌else◌}
 use Rattle.std.specs.List.{list_any}
 use Rattle.nofs_dirent.specs.Entries.{entry_limit, entry_with}
 use Rattle.nofs_dirent.specs.declared.entry.Entry.{Entry}

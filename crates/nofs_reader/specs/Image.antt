@@ -7,7 +7,7 @@ use Rattle.std.proofs.lemmas.Bool.{cases_lt, le-ltb, lt-ltb}
 use Rattle.std.proofs.lemmas.List.{length-append, length-take-le}
 use Rattle.std.proofs.lemmas.List.FromFn.{get_or-map-range_with_len, length-map-range_with_len}
 use Rattle.nofs_disk.specs.declared.tag.Cell.{Cell}
-use Rattle.nofs_disk.specs.Disk.{DiskState, IsDisk, IsSizedCell, Picks, cell_at, no_cell}
+use Rattle.nofs_disk.specs.Disk.{DiskState, IsDisk, IsSizedCell, cell_at, no_cell}
 use Rattle.nofs_disk.specs.Number.{IsBytes, zeros, length-zeros, append-byte, take-byte, drop-byte, zeros-byte}
 
 -- so many bytes from a place on, with zeros past the end

@@ -1,4 +1,4 @@
-use Rattle.std.proofs.Common.{◌≡◌, ◌+◌, ◌-◌, ℕ, List, length, take, drop, sym, ap, ◌∙◌, subst, arith}
+use Rattle.std.proofs.Common.{◌≡◌, ◌+◌, ◌-◌, ℕ, List, length, take, drop, sym, ap, ◌∙◌, arith}
 use Rattle.nofs_reader.proofs.OnEntries.{entry-none, entry-rest, entry-some, name-length}
 use Rattle.nofs_reader.proofs.entries.spelled.Goals as goal
 

@@ -1,4 +1,4 @@
-use Rattle.std.proofs.Common.{◌≡◌, ◌+◌, ◌*◌, length, refl, ap, ◌∙◌}
+use Rattle.std.proofs.Common.{◌+◌, ◌*◌, length, refl, ap, ◌∙◌}
 use Rattle.std.specs.Prelude.{slice_range}
 use Rattle.nofs_reader.specs.Gets.{value_as}
 use Rattle.nofs_reader.proofs.OnGets.{run-begins, run-goes, run-other}
