@@ -70,7 +70,7 @@ struct nofs_reader_run {
 };
 
 /* What stands at a place of a directory: nothing, an entry, a dead entry, or no one knows what, since its slot is lost.
- * `place` counts entries over all slots. An entry names `inode` of `generation`, and has `length` bytes of a name, which
+ * `place` counts entries over all slots; of a lost slot it is the last one of its 16. An entry names `inode` of `generation`, and has `length` bytes of a name, which
  * does not end in a zero; `kind` is that of the inode, and 0 where the entry is dead. */
 enum nofs_reader_line_kind {
     NOFS_READER_NOTHING = 0,
@@ -100,13 +100,13 @@ uint32_t nofs_reader_get(const uint8_t *image, size_t length, uint32_t inode, ui
 
 /* What stands in a directory at the first place, from `place` on, at which something does: an entry, dead exactly where
  * it is no pair with an agreed inode, or a lost slot; `out->what` is NOTHING where nothing stands up to the last place,
- * 1,151. To list a directory begin at place 0, and go on behind `out->place`: behind a lost slot at the next multiple of
- * 16. Or the superblock's first fault, NO_INODE, NOT_DIRECTORY. */
+ * 1,151. To list a directory begin at place 0, and go on at `out->place + 1`. Or the superblock's first fault, NO_INODE,
+ * NOT_DIRECTORY. */
 uint32_t nofs_reader_next(const uint8_t *image, size_t length, uint32_t directory, uint32_t place,
                           struct nofs_reader_line *out);
 
 /* What a name finds in a directory: the least entry of the name that is not dead (ENTRY); else the place of the least
- * dead one (DEAD, without the rest of the entry); else the first place of the least lost slot (LOST_SLOT); else NOTHING.
+ * dead one (DEAD, without the rest of the entry); else the last place of the least lost slot (LOST_SLOT); else NOTHING.
  * Or the superblock's first fault, NO_INODE, NOT_DIRECTORY. */
 uint32_t nofs_reader_look(const uint8_t *image, size_t length, uint32_t directory, const uint8_t *name,
                           size_t name_length, struct nofs_reader_line *out);

@@ -1,5 +1,5 @@
 -- Answers as structs of C.
-use Rattle.std.specs.Prelude.{ℕ, ◌*◌, ◌<◌, Option, Some, None}
+use Rattle.std.specs.Prelude.{ℕ, ◌+◌, ◌*◌, ◌/◌, ◌<◌, Option, Some, None}
 use Rattle.nofs_disk.specs.Number.{zeros}
 use Rattle.nofs_inode.specs.declared.inode.FileKind.{FileKind}
 use Rattle.nofs_inode.specs.declared.inode.FileKind.TheVariants as kind
@@ -78,10 +78,14 @@ bare_line what place = record {
   name = zeros 48;
 }
 
--- what a directory has at the next place
+-- the last place of the slot of a place
+abbrev pub last_beside : ℕ → ℕ
+last_beside place = 16 * (place / 16) + 15
+
+-- what a directory has at the next place. A lost slot is told by its last place
 abbrev pub next_of : NextLine → CLine
 next_of (next.Line line) = line_of line
-next_of (next.Lost place) = bare_line 3 place
+next_of (next.Lost place) = bare_line 3 (last_beside place)
 next_of next.End = bare_line 0 0
 
 -- a lost slot is one of a directory
@@ -91,9 +95,9 @@ HasPlace (looked.LostEntry place) = Unit {0}
 HasPlace (looked.LostSlot slot) = slot < 72
 HasPlace looked.Missing = Unit {0}
 
--- what a name finds. A slot is told by its first place
+-- what a name finds. A lost slot is told by its last place
 abbrev pub looked_of : Looked → CLine
 looked_of (looked.Found line) = line_of line
 looked_of (looked.LostEntry place) = bare_line 2 place
-looked_of (looked.LostSlot slot) = bare_line 3 (16 * slot)
+looked_of (looked.LostSlot slot) = bare_line 3 (16 * slot + 15)
 looked_of looked.Missing = bare_line 0 0

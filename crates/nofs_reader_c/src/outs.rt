@@ -2,7 +2,7 @@
 //!
 //! Promise: each has the fields of the answer of `nofs_reader` that it is made of.
 ghost use Rattle.std.specs.Prelude.{◌≡◌};
-ghost use Rattle.nofs_reader_c.specs.Outs.{HasPlace, bare_line, kind_number, line_of, looked_of, next_of};
+ghost use Rattle.nofs_reader_c.specs.Outs.{HasPlace, bare_line, kind_number, last_beside, line_of, looked_of, next_of};
 ghost use Rattle.nofs_reader_c.specs.Outs.{run_kind_number, run_of, stat_of, superblock_of};
 
 use nofs_disk::clear;
@@ -146,12 +146,19 @@ fn bare_line(what: u32, place: u32) -> CLine
     it
 }
 
+// The last place of the slot of a place.
+fn last_beside(place: u32) -> u32
+    ensures { result ≡ last_beside place }
+{
+    16 * (place / 16) + 15
+}
+
 pub(crate) fn next_of(it: &NextLine) -> CLine
     ensures { result ≡ next_of it.now }
 {
     match it {
         NextLine::Line(line) => line_of(line),
-        NextLine::Lost { place } => bare_line(3, *place),
+        NextLine::Lost { place } => bare_line(3, last_beside(*place)),
         NextLine::End => bare_line(0, 0),
     }
 }
@@ -163,7 +170,7 @@ pub(crate) fn looked_of(it: &Looked) -> CLine
     match it {
         Looked::Found(line) => line_of(line),
         Looked::LostEntry { place } => bare_line(2, *place),
-        Looked::LostSlot { slot } => bare_line(3, 16 * *slot),
+        Looked::LostSlot { slot } => bare_line(3, 16 * *slot + 15),
         Looked::Missing => bare_line(0, 0),
     }
 }
