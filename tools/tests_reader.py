@@ -175,10 +175,9 @@ class ReaderPage(Read):
         self.content = bytes(2000) + b"ab" + bytes(67988) + b"zyx" + bytes(7)
 
     def block(self, language):
-        """The lines of a language on the page that tells of the reader."""
-        pages = (os.path.join(HOME, name) for name in ("README.md", "README-reader.md"))
-        found = [re.search(rf"```{language}\n(.*?nofs_reader_.*?)```", read(page).decode(), re.S) for page in pages if os.path.exists(page)]
-        return next(each.group(1) for each in found if each)
+        """The lines of a language in README that call the reader."""
+        page = read(os.path.join(HOME, "README.md")).decode()
+        return re.search(rf"```{language}\n(.*?nofs_reader_.*?)```", page, re.S).group(1)
 
     def test_the_lines_of_c_list_the_names_and_copy_a_file(self):
         source = self.at("page.c")
