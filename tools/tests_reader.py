@@ -16,7 +16,7 @@ import damage_cases as damages  # noqa: E402
 import nofs_format as nofs  # noqa: E402
 from damage_cases import Laying, S  # noqa: E402
 from slow_reader import unmountable  # noqa: E402
-from tests_common import NOFS, Folders, read, run, serve, write  # noqa: E402
+from tests_common import NOFS, Folders, read, run, serve, tree, write  # noqa: E402
 from tests_damages import READING, drawn_fields, few_numbers, one_byte, reads_of, wanted_of  # noqa: E402
 
 HOME = os.path.dirname(TOOLS)
@@ -210,6 +210,23 @@ int main(int count, char **words)
         f, d, e = (int(re.search(rb"\((\d+), b'%s'\)" % path, done.stdout).group(1)) for path in (b"/g", b"/d/", b"/d/e/"))
         names = f"({d}, b'/d/') ({f}, b'/d/f') ({e}, b'/d/e/') ({f}, b'/g')"
         self.assertEqual(done.stdout.decode().splitlines(), [names, self.content.hex()])
+
+    def test_unpacking_by_the_reader_and_by_the_program_gives_the_same(self):
+        for name in ("day2", "lost"):
+            data = damages.image("day2")
+            if name == "lost":
+                laid = Laying(data)
+                laid.tag("9", "stamp", "77")
+                laid.entry("4", "0", "generation", "5")
+                data = bytes(laid.data)
+            write(self.at("damaged.img"), data)
+            words = [sys.executable, os.path.join(TOOLS, "nofs-unpack"), self.at("damaged.img")]
+            done = [subprocess.run([*words, self.at(name + way), *more], stdout=subprocess.PIPE, stderr=subprocess.PIPE)
+                    for way, more in (("read", ()), ("served", ("--serve",)))]
+            self.assertEqual(done[0].stdout.decode(), f"read by {SHARED}, without a mount\n")
+            self.assertEqual((done[0].returncode, done[0].stderr), (done[1].returncode, done[1].stderr))
+            self.assertEqual(tree(self.at(name + "read")), tree(self.at(name + "served")))
+            self.assertEqual(read(self.at("damaged.img"))[nofs.CELL:], data[nofs.CELL:])
 
     def test_odd_arguments_are_answered(self):
         reader, data = ctypes.CDLL(SHARED), read(self.image)

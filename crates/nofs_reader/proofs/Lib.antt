@@ -4,3 +4,4 @@ mod OnChain
 mod OnDirectories
 mod OnEntries
 mod OnGets
+mod OnLaws

@@ -4,3 +4,4 @@ pub mod Answers
 pub mod Gets
 pub mod Entries
 pub mod Directories
+pub mod Laws

@@ -13,12 +13,14 @@
 //! - `opened`: the inode that a call names
 //! - `entries`: an entry of a directory, and whether it is a pair
 //! - `stats`, `gets`, `lists`, `looks`: the calls
+//! - `laws`: that a mount of the same image answers the same
 #![tactic(auto)]
 
 mod chain;
 mod disk;
 mod entries;
 mod gets;
+mod laws;
 mod lists;
 mod looks;
 mod opened;
@@ -29,6 +31,7 @@ mod stats;
 pub use disk::ImageDisk;
 pub use entries::{Line, Named};
 pub use gets::{Run, RunKind, get};
+pub use laws::{law_entries, law_names};
 pub use lists::{NextLine, next_line};
 pub use looks::{Looked, look};
 pub use nofs_inode::FileKind;

@@ -1,0 +1,120 @@
+"""Reads an image by the proved reader for C (crates/nofs_reader_c), where `./nofs --reader` has built it: without a mount, and
+with the lines that the program has for `list`, `stat` and `get`."""
+import ctypes
+import os
+import struct
+
+HOME = os.path.join(os.path.dirname(os.path.abspath(__file__)), os.pardir)
+LIBRARY = os.path.normpath(os.path.join(HOME, "crates", "nofs_reader_c", "out", "libnofs_reader.so"))
+ROOT, LABEL = 1, 2
+SLOT, SLOTS = 1024, {1: 72, 2: 4168}
+FILE, FOLDER = 1, 2
+NOTHING, ENTRY, DEAD, LOST_SLOT = range(4)
+BYTES, HOLES = 1, 2
+FAULTS = {1: "bad magic", 2: "bad version", 3: "a byte that is not zero", 4: "bad geometry", 5: "device too small", 6: "mounts spent"}
+REFUSED = {7: "14 stale", 8: "5 not a directory", 9: "6 is a directory", 10: "12 too large"}
+
+
+def is_built():
+    return os.path.exists(LIBRARY)
+
+
+class NoImage(Exception):
+    """The bytes are no image: the first fault of the superblock."""
+
+
+class Refused(Exception):
+    """A command was refused, with the text of its line."""
+
+
+class Reader:
+    """The bytes of an image, read by the library."""
+
+    def __init__(self, data):
+        self.calls, self.data = ctypes.CDLL(LIBRARY), data
+        self.out, self.room = ctypes.create_string_buffer(80), ctypes.create_string_buffer(64 * SLOT)
+        self.version, *_ = self.call("superblock", "<4Q")
+
+    def call(self, name, answer, *words):
+        """Calls a function, and gives the fields of its answer."""
+        code = getattr(self.calls, "nofs_reader_" + name)(self.data, ctypes.c_size_t(len(self.data)), *words, self.out)
+        if code in FAULTS:
+            raise NoImage(FAULTS[code])
+        if code:
+            raise Refused(REFUSED[code])
+        return struct.unpack(answer, self.out.raw[:struct.calcsize(answer)])
+
+    def stat(self, inode):
+        """Kind, number of names, generation and size of an agreed inode."""
+        return self.call("stat", "<2I2Q", ctypes.c_uint32(inode))
+
+    def lines(self, directory):
+        """What stands in a directory, place by place: what it is, the place, the inode, its kind, its generation and the name."""
+        place = 0
+        while True:
+            what, place, inode, kind, generation, length, name = self.call(
+                "next", "<4I2Q48s", ctypes.c_uint32(directory), ctypes.c_uint32(place))
+            if what == NOTHING:
+                return
+            yield what, place, inode, kind, generation, name[:length]
+            place += 1
+
+    def runs(self, inode, first, last):
+        """What the slots of a file from one to another are, run by run: what they are, how many, and their bytes."""
+        while first < last:
+            what, count = self.call("get", "<2Q", ctypes.c_uint32(inode), ctypes.c_uint64(first), self.room,
+                                    ctypes.c_size_t(min(len(self.room), SLOT * (last - first))))
+            yield what, count, self.room.raw[:SLOT * count] if what == BYTES else b""
+            first += count
+
+    def resolve(self, path):
+        """The inode of a path."""
+        inode = LABEL if path == b"@" else ROOT
+        for name in path[1:].split(b"/") if path not in (b"@", b"/") else []:
+            what, place, inode, *_ = self.call("look", "<4I", ctypes.c_uint32(inode), name, ctypes.c_size_t(len(name)))
+            if what != ENTRY:
+                raise Refused({NOTHING: "1 missing", DEAD: f"2 lost entry {place}", LOST_SLOT: f"3 lost slot {place // 16}"}[what])
+        return inode
+
+    def answer(self, command):
+        """The line of `list`, `stat` or `get`."""
+        word, path, *numbers = command.split(b" ")
+        try:
+            return {b"list": self.list_line, b"stat": self.stat_line, b"get": self.get_line}[word](self.resolve(path), *map(int, numbers))
+        except Refused as refused:
+            return b"refused " + str(refused).encode()
+
+    def answers(self, commands, cost=None):
+        """Each command with its line."""
+        for command in commands:
+            yield command, self.answer(command)
+
+    def stat_line(self, inode):
+        kind, links, _, size = self.stat(inode)
+        return b"stat %s %d %d" % (b"file" if kind == FILE else b"dir", size, links)
+
+    def list_line(self, directory):
+        parts = [b"names"]
+        for what, place, _, kind, _, name in self.lines(directory):
+            lost = {LOST_SLOT: b"/lost:%d" % (place // 16), DEAD: b"/dead:" + name}
+            parts.append(lost.get(what, name + b"/" * (kind == FOLDER)))
+        return b" ".join(parts)
+
+    def get_line(self, inode, offset, length):
+        kind, _, _, size = self.stat(inode)
+        if kind == FOLDER:
+            raise Refused(REFUSED[9])
+        end = max(min(offset + length, size), offset)
+        if -(-end // SLOT) > SLOTS[self.version] and offset < end:
+            raise Refused(REFUSED[10])
+        return b" ".join([b"got", *self.parts(inode, offset, end)])
+
+    def parts(self, inode, offset, end):
+        """The parts of a line of `get`, one a slot."""
+        number = offset // SLOT
+        for what, count, data in self.runs(inode, number, -(-end // SLOT) if offset < end else 0):
+            for at in range(count):
+                first, last = max(offset - SLOT * (number + at), 0), min(end - SLOT * (number + at), SLOT)
+                some = data[SLOT * at + first:SLOT * at + last].hex().encode()
+                yield b"bytes:" + some if what == BYTES else b"%s:%d" % (b"hole" if what == HOLES else b"lost", last - first)
+            number += count
