@@ -1,11 +1,11 @@
 //! The bytes of an image as a disk.
 //!
 //! Promise: block `b` is the 1,056 bytes from `1056 * b` on, the payload first, with zeros past the end, as of a disk
-//! in a file (docs/FORMAT.md, "Cells in a file"). A read never fails. A write and a flush always do, and each counts
+//! in a file (docs/FORMAT.md, "Cells"). A read never fails. A write and a flush always do, and each counts
 //! as one fault, so that a call that makes no moment counts none.
-ghost use Rattle.std.specs.Prelude.{◌≡◌, ◌+◌, ◌*◌, ◌^◌, ◌<◌, ◌≤◌, ℕ, length, slice_index};
+ghost use Rattle.std.specs.Prelude.{◌≡◌, ◌+◌, ◌*◌, ◌^◌, ◌<◌, ◌≤◌, ℕ, IsTrue, length, slice_index};
 ghost use Rattle.nofs_disk.specs.Number.{zeros};
-ghost use Rattle.nofs_reader.specs.Image.{bytes_from, cell_of};
+ghost use Rattle.nofs_reader.specs.Image.{bytes_from, cell_of, image_of};
 
 use nofs_disk::{Cell, Disk, Failed, clear, write_bytes_at};
 use std::alloc::AllocError;
@@ -31,6 +31,8 @@ impl<'a> ImageDisk<'a> {
         ensures bytes { result.bytes.now ≡ bytes.now }
         ensures refused { result.refused ≡ 0 }
         ensures spare { result.spare ≡ 0 }
+        ensures now { (⟦<ImageDisk<'a> as Disk>⟧.state result).now ≡ image_of bytes.now }
+        ensures tells { IsTrue (⟦<ImageDisk<'a> as Disk>⟧.state result).tells }
     {
         ImageDisk {
             bytes,

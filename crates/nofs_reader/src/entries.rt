@@ -28,7 +28,7 @@ pub struct Named {
     pub generation: u64,
     /// How many bytes the name has, 1 to 48.
     pub length: u32,
-    /// The name, and zeros behind it.
+    /// The name. What stands behind it is not promised.
     pub name: [u8; 48],
 }
 
@@ -116,7 +116,7 @@ fn has_spelling(inode: u32, generation: u64, name: &[u8]) -> bool
     inode >= 1 && generation >= 1 && name_ok(name)
 }
 
-// Copies a name, with zeros behind it.
+// Copies a name. What stands behind it are zeros, which no clause promises.
 fn copy_name(name: &[u8], into: &mut [u8; 48])
     requires { length name.now ≤ 48 }
     ensures { take (length name.now) into.new ≡ name.now }

@@ -25,7 +25,7 @@ extern "C" {
 /* Why there is no answer. A call gives the first that holds. */
 enum nofs_reader_code {
     NOFS_READER_OK = 0,
-    /* The superblock has a fault: the first of docs/FORMAT.md, "Superblock". */
+    /* The superblock has a fault: the first of docs/FORMAT.md, "Faults of a mount". */
     NOFS_READER_BAD_MAGIC = 1,
     NOFS_READER_BAD_VERSION = 2,
     NOFS_READER_BAD_REST = 3,
