@@ -1,9 +1,11 @@
 -- One read after another.
-use Rattle.std.proofs.Common.{◌≡◌, ℕ, Bool, List, Option, Result, Ok, Err, IsTrue, sym, ap, ◌∙◌, subst, le_refl}
+use Rattle.std.proofs.Common.{◌≡◌, ℕ, Bool, List, Option, None, Result, Ok, Err, IsTrue, refl, sym, ap, ◌∙◌, subst}
+use Rattle.std.proofs.Common.{le_refl}
 use Rattle.nofs_disk.specs.Disk.{DiskState, StaysButFaults, Rose}
 use Rattle.nofs_disk.specs.Chains.{Rose-within, StaysButFaults-trans}
 use Rattle.nofs_disk.specs.declared.Failed.{Failed}
-use Rattle.nofs_model.specs.Geometry.{Image}
+use Rattle.nofs_inode.specs.InodeRecords.{free_record}
+use Rattle.nofs_model.specs.Geometry.{Image, inode}
 use Rattle.nofs_model.specs.Files.{agreed, files_in}
 use Rattle.nofs_agree.specs.Chain.{AreTrue, LearnsAgreement}
 use Rattle.nofs_agree.proofs.OnChain.{told-on}
@@ -22,8 +24,27 @@ pub AreLast-on : (old new : DiskState) (reads : LastReads) → StaysButFaults ol
 AreLast-on old new reads s last = record {
   own = IsLast-on old new reads.own s last.own;
   table = IsLast-on old new reads.table s last.table;
+  in_table = λ tells. last.in_table (subst (λ (b : Bool). IsTrue b) s.disk.tells tells)
+      ∙ sym (same-on old new (λ X. inode X reads.inode) s);
   upper = IsLast-on old new reads.upper s last.upper;
   lower = IsLast-on old new reads.lower s last.lower;
+}
+
+-- no inode has the number 0
+inode-none : (X : Image) → free_record ≡ inode X 0
+unfolding inode
+inode-none X = refl
+
+-- nothing was read yet
+pub AreLast-none : (d : DiskState) (none : LastReads) → none.own.block ≡ None → none.table.block ≡ None
+    → none.upper.block ≡ None → none.lower.block ≡ None → none.inode ≡ 0 → none.in_table ≡ free_record
+    → AreLast d none
+AreLast-none d none own table upper lower number free = record {
+  own = λ tells. rw own tt;
+  table = λ tells. rw table tt;
+  in_table = λ tells. rw (number, free) (inode-none d.now);
+  upper = λ tells. rw upper tt;
+  lower = λ tells. rw lower tt;
 }
 
 pub failed-on : (old mid new : DiskState) → StaysButFaults old mid → Rose mid.faults new.faults

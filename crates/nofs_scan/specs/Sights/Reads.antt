@@ -2,7 +2,7 @@
 use Rattle.std.specs.Prelude.{◌≡◌, Bool, List, Option, IsTrue, Result, IfOk, OnErr}
 use Rattle.nofs_disk.specs.declared.Failed.{Failed}
 use Rattle.nofs_disk.specs.Disk.{DiskState, StaysButFaults, Rose}
-use Rattle.nofs_model.specs.Geometry.{Image}
+use Rattle.nofs_model.specs.Geometry.{Image, inode}
 use Rattle.nofs_agree.specs.Chain.{AreTrue, LearnsAgreement}
 use Rattle.nofs_agree.specs.Reads.{IsLast}
 use Rattle.nofs_scan.specs.declared.sights.last_reads.LastReads.{LastReads}
@@ -23,9 +23,10 @@ pub record Sees {
   pub found : IfOk result (λ a. IsTrue old.tells → AreTrue old.now known → a ≡ answer old.now)
   pub cause : OnErr result (Rose old.faults new.faults)
 
--- each cell that is kept is that of the block that was read last in its place
+-- each cell that is kept is that of the block that was read last in its place, and the record that of its inode
 pub record AreLast (d : DiskState) (reads : LastReads) : Type 0 where
   pub own : IsLast d reads.own
   pub table : IsLast d reads.table
+  pub in_table : IsTrue d.tells → reads.in_table ≡ inode d.now reads.inode
   pub upper : IsLast d reads.upper
   pub lower : IsLast d reads.lower

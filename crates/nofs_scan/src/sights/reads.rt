@@ -56,7 +56,7 @@ pub(crate) fn read_sight<D: Disk>(
     match kind {
         ElementKind::Inode => {
             let inode = item as u32;
-            let in_table = read_record(disk, at, inode, &mut reads.table)?;
+            let in_table = read_record(disk, at, inode, reads)?;
             let links = read_links(disk, at, known, &in_table.links)?;
             Ok(Sight::Inode(InodeSight {
                 inode,
@@ -78,18 +78,25 @@ pub(crate) fn read_sight<D: Disk>(
     }
 }
 
+// The record of an inode, which is read where it isn't the one that was read last.
 fn read_record<D: Disk>(
     disk: &mut D,
     at: &SuperBlock,
     inode: u32,
-    last: &mut LastRead,
+    reads: &mut LastReads,
 ) -> Result<Record, Failed>
     requires numbers { IsAt (D.state disk.old) at.now }
-    requires last { IsLast (D.state disk.old) last.old }
+    requires last { AreLast (D.state disk.old) reads.old }
     ensures answers { ReadsAnswer (D.state disk.old) (D.state disk.new) (λ X. image.inode X inode) result }
-    ensures kept { OnOk result (IsLast (D.state disk.new) last.new) }
+    ensures kept { OnOk result (AreLast (D.state disk.new) reads.new) }
 {
-    read_inode(disk, at, inode, last)
+    if inode == reads.inode {
+        return Ok(reads.in_table);
+    }
+    let it = read_inode(disk, at, inode, &mut reads.table)?;
+    reads.in_table = it;
+    reads.inode = inode;
+    Ok(it)
 }
 
 // What four back links lead to.
@@ -289,7 +296,7 @@ fn read_slot_way<D: Disk>(
         (λ X. (image.inode X inode, sights.way_in X (image.inode X inode) (place_path place))) result }
     ensures kept { OnOk result (AreLast (D.state disk.new) reads.new) }
 {
-    let it = read_record(disk, at, inode, &mut reads.table)?;
+    let it = read_record(disk, at, inode, reads)?;
     let way = read_way(disk, at, place, &it, reads)?;
     Ok((it, way))
 }

@@ -27,6 +27,7 @@ returns-in_ok-tagged-in-Block-clause-looks g c =
     let sees = sees-both _ _ _ (λ X. tag_of (cell_at X c.args.item).tag) (λ t X. tagged_in X t)
     (λ t s. record { block = c.args.item; tagged = s })
     (λ X. block_sight X c.args.item) c.in_ok-tag-in-Block.tag _ _ _ c.in_ok-tagged-in-Block.tagged
-    (reads-sees _ _ c.args.known.now _ _ c.in_ok-tag-in-Block.ensures.answers) c.in_ok-tagged-in-Block.ensures.sees (λ X. refl) in
+    (reads-sees _ _ c.args.known.now _ _ c.in_ok-tag-in-Block.ensures.answers)
+    c.in_ok-tagged-in-Block.ensures.sees (λ X. refl) in
     rw c.in-Block.is
     (block-looked _ _ c.args.at.now _ _ c.args.item _ c.requires.numbers range c.if-item-at.false sees refl)

@@ -1,5 +1,10 @@
+use Rattle.std.proofs.Common.{refl, rules}
+use Rattle.nofs_scan.proofs.OnSights.Reads.{AreLast-none}
 use Rattle.nofs_scan.proofs.OnSteps.Looks.{looked-full, looked-goes}
 use Rattle.nofs_scan.proofs.steps.looks.look_at_all.Goals as goal
+
+pub loop-place-init : goal.loop-place-init
+loop-place-init g c = (search rules, AreLast-none _ _ refl refl refl refl refl refl)
 
 pub loop-place-preserved : goal.loop-place-preserved
 loop-place-preserved g c = (
