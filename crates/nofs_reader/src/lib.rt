@@ -34,8 +34,6 @@ pub use gets::{Run, RunKind, get};
 pub use laws::{law_entries, law_names};
 pub use lists::{NextLine, next_line};
 pub use looks::{Looked, look};
-pub use nofs_inode::FileKind;
-pub use nofs_super::{MountFault, SuperBlock};
 pub use opened::Unread;
 pub use reads::superblock;
 pub use stats::{InodeStat, stat};

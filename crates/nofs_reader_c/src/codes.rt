@@ -4,7 +4,8 @@
 ghost use Rattle.std.specs.Prelude.{◌≡◌, ◌≤◌};
 ghost use Rattle.nofs_reader_c.specs.Codes.{fault_code, unread_code};
 
-use nofs_reader::{MountFault, Unread};
+use nofs_reader::Unread;
+use nofs_super::MountFault;
 
 /// The number of a cause.
 pub(crate) fn unread_code(why: Unread) -> u32

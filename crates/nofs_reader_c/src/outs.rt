@@ -6,7 +6,9 @@ ghost use Rattle.nofs_reader_c.specs.Outs.{HasPlace, bare_line, kind_number, las
 ghost use Rattle.nofs_reader_c.specs.Outs.{run_kind_number, run_of, stat_of, superblock_of};
 
 use nofs_disk::clear;
-use nofs_reader::{FileKind, InodeStat, Line, Looked, NextLine, Run, RunKind, SuperBlock};
+use nofs_inode::FileKind;
+use nofs_reader::{InodeStat, Line, Looked, NextLine, Run, RunKind};
+use nofs_super::SuperBlock;
 
 /// The numbers of an image.
 #[repr(C)]
