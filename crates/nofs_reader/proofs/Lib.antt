@@ -1,6 +1,7 @@
 mod OnDisk
 mod OnReads
 mod OnChain
+mod OnCounts
 mod OnDirectories
 mod OnEntries
 mod OnGets

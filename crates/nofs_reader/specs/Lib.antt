@@ -5,3 +5,4 @@ pub mod Gets
 pub mod Entries
 pub mod Directories
 pub mod Laws
+pub mod Counts

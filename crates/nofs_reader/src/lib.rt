@@ -12,7 +12,7 @@
 //!   these ask for none
 //! - `opened`: the inode that a call names
 //! - `entries`: an entry of a directory, and whether it is a pair
-//! - `stats`, `gets`, `lists`, `looks`: the calls
+//! - `stats`, `gets`, `lists`, `looks`, `usage`: the calls
 //! - `laws`: that a mount of the same image answers the same
 #![tactic(auto)]
 
@@ -27,6 +27,7 @@ mod opened;
 mod pairs;
 mod reads;
 mod stats;
+mod usage;
 
 pub use disk::ImageDisk;
 pub use entries::{Line, Named};
@@ -37,3 +38,4 @@ pub use looks::{Looked, look};
 pub use opened::Unread;
 pub use reads::superblock;
 pub use stats::{InodeStat, stat};
+pub use usage::{Used, counts};

@@ -1,7 +1,8 @@
 //! The superblock, a record and a slot of an image, by the checks of `nofs_super` and `nofs_agree` over its disk.
 //!
 //! Promise: each is that of the image, since a read of the disk never fails.
-ghost use Rattle.std.specs.Prelude.{◌≡◌, IfOk};
+ghost use Rattle.std.specs.Prelude.{◌≡◌, ◌<◌, IfOk};
+ghost use Rattle.nofs_disk.specs.Disk.{cell_at};
 ghost use Rattle.nofs_agree.specs.Path.{IsCellOf};
 ghost use Rattle.nofs_agree.specs.Reads.{IsAt, IsLast, KnowsInode};
 ghost use Rattle.nofs_model.specs.Places.{InArea, IsPlace, place_path};
@@ -10,7 +11,7 @@ ghost use Rattle.nofs_reader.specs.Image.{disk_of, image_of};
 ghost use Rattle.nofs_reader.specs.Answers.{superblock_of};
 
 use crate::disk::ImageDisk;
-use nofs_agree::{LastRead, PathAnswer, find_slot, read_inode};
+use nofs_agree::{LastRead, PathAnswer, find_slot, read_block, read_inode};
 use nofs_inode::{FREE_RECORD, Record};
 use nofs_model::Place;
 use nofs_super::{MountFault, SuperBlock, read_super};
@@ -47,6 +48,24 @@ pub(crate) fn record(bytes: &[u8], at: &SuperBlock, inode: u32, last: &mut LastR
     match read_inode(&mut disk, at, inode, last) {
         Ok(it) => it,
         Err(_) => FREE_RECORD,
+    }
+}
+
+/// Reads the cell of a block, where it isn't the one that was read last.
+pub(crate) fn cell(bytes: &[u8], block: u64, last: &mut LastRead)
+    requires there { block < 1048576 }
+    requires last { IsLast (disk_of bytes.now) last.old }
+    ensures cell { last.new.cell ≡ cell_at (image_of bytes.now) block }
+    ensures last { IsLast (disk_of bytes.now) last.new }
+{
+    let mut disk = ImageDisk {
+        bytes,
+        refused: 0,
+        spare: 0,
+    };
+    match read_block(&mut disk, block, last) {
+        Ok(()) => {}
+        Err(_) => {}
     }
 }
 
