@@ -27,7 +27,9 @@ pub(crate) fn work_all<R: Threads + Sync, W: Works + Send>(rt: &R, workers: &mut
     );
 }
 
-/// Lends the users, both sweepers and the flusher to threads at once. Each has then done its work once.
+/// Lends the users, both sweepers and the flusher to threads at once. Each has then done its work once. The last user
+/// works on this thread: users take the most memory, and a thread that is made takes its own from an arena apart, which
+/// asks the system for it page by page.
 pub(crate) fn work_team<
     R: Threads + Sync,
     U: Works + Send,
@@ -44,8 +46,8 @@ pub(crate) fn work_team<
 {
     thread::join_mut(
         rt,
-        &mut || work_all(rt, users.as_mut_slice()),
         &mut || work_three(rt, inodes, blocks, flusher),
+        &mut || work_all(rt, users.as_mut_slice()),
     );
 }
 
