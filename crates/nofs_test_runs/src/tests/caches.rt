@@ -2,66 +2,17 @@
 
 use crate::tests::readings::{ReadTally, count, push_bytes, scanned_and_read, see_line};
 use crate::tests::recorder::Recorder;
-use crate::tests::runs::{LINES, SESSION, prints, run_on};
+use crate::tests::runs::run_on;
 use crate::tests::stories::{SessionLine, Story, day_calls, evening, stopped, text_of_lines};
 use nofs_disk::Disk;
 use nofs_filedisk::{FileDisk, MemFile};
 use nofs_memdisk::MemDisk;
-use nofs_test_disks::{bytes_of, cached, cells_of, drawn_picks, failing, fault, left};
-use nofs_versions::CallKind;
+use nofs_test_disks::{bytes_of, cached, cells_of, drawn_picks, left};
 use std::alloc::{AllocError, Global};
 use std::process::Abort;
 use std::sync::Wait;
 use std::test::Fail;
 use std::thread::Threads;
-
-#[test]
-fn what_was_synced_over_a_cache_stands_on_the_disk_below(rt: HostRuntime) -> Result<(), Fail> {
-    let alloc = rt.alloc();
-    let disk = cached(alloc, MemDisk::new(alloc, 64)?)?;
-    let disk = prints(&rt, disk, "new 64 16", SESSION, LINES, 0)?;
-    prints(
-        &rt,
-        disk.below(),
-        "run",
-        "get @ 0 3",
-        "got bytes:616263\n",
-        0,
-    )?;
-    Ok(())
-}
-
-// Whether these lines may stand at this status, where one write below has failed. A write-out that
-// fails is made again by the next flush, and then nothing is told. At status 3 with all lines it was
-// the flush at the end that failed.
-fn may_tell(status: u8, lines: &[u8]) -> bool {
-    match status {
-        0 => lines == LINES.as_bytes(),
-        3 => lines == LINES.as_bytes() || tells_a_fault(lines),
-        _ => false,
-    }
-}
-
-// Whether some line says that a write failed, or that the mount was stopped by one.
-fn tells_a_fault(lines: &[u8]) -> bool {
-    lines.split(|byte| *byte == b'\n').any(|line| {
-        line.starts_with(b"refused 19 write fault".as_slice())
-            || line.starts_with(b"refused 20 stopped".as_slice())
-    })
-}
-
-// A format makes 64 writes and a mount one.
-#[test]
-fn a_write_below_that_fails_is_made_again_or_told(rt: HostRuntime) -> Result<(), Fail> {
-    let alloc = rt.alloc();
-    for _ in 0..20 {
-        let below = failing(alloc, 64, fault(CallKind::Write, 66, false))?;
-        let disk = cached(alloc, below)?;
-        let (status, sink, _) = run_on(&rt, alloc, "new 64 16", SESSION.as_bytes(), disk)?;
-        assert!(rt; may_tell(status, sink.bytes()), "{status}");
-    }
-    Ok(())
-}
 
 const KEPT: usize = 3_072;
 

@@ -1,12 +1,17 @@
-//! Runs in which one call of a disk fails: what they tell, and what the images of a crash after them show.
+//! Runs in which one call of a disk below a cache fails: what they tell, and what the images of a crash after them
+//! show.
 
-use crate::tests::moves::{calls_of, faults_behind, faults_of, images_of, run_failing, shown_by};
 use crate::tests::runs::run_on;
+use nofs_disk::Disk;
+use nofs_io::MemSink;
 use nofs_memdisk::MemDisk;
-use nofs_test_disks::{cached, failing, left};
-use nofs_versions::{CallCounts, CallKind, FaultAt};
+use nofs_test_disks::{cached, failing, fault, left};
+use nofs_versions::{CallCounts, CallKind, FaultAt, Pick};
 use std::alloc::{AllocError, Global};
+use std::process::Abort;
+use std::sync::Wait;
 use std::test::Fail;
+use std::thread::Threads;
 
 /// What a run tells of one command of its session.
 #[derive(Clone, Copy)]
@@ -28,7 +33,7 @@ fn writes(line: &'static str, rest: &'static str) -> CommandTold {
     }
 }
 
-// A command that does not, as one over a cache.
+// A command that does not, over a cache.
 fn reads(line: &'static str, rest: &'static str) -> CommandTold {
     CommandTold {
         line,
@@ -46,45 +51,8 @@ fn puts(line: &'static str, rest: &'static str) -> CommandTold {
     }
 }
 
-const NAMES: &str =
-    "mkdir /d\nmake /d/a\nmake /d/b\nrename /d/a c\nlist /d\nlist /\ndrop /d\ndrop /d/b\nmake /d/x\nlist /d";
-
 const FILES: &str =
     "put @ 0 616263\nget @ 0 3\nfsync @\nmake /a\nput /a 0 646566\nget /a 0 3\nfsync /a";
-
-fn names_told() -> [CommandTold; 10] {
-    [
-        writes(
-            "made\n",
-            "refused 1 missing\nrefused 1 missing\nrefused 1 missing\nrefused 1 missing\nnames\nrefused 1 missing\n\
-            refused 1 missing\nrefused 1 missing\nrefused 1 missing\n",
-        ),
-        writes(
-            "made\n",
-            "made\nrefused 1 missing\nnames b\nnames d/\nrefused 7 not empty\ndropped\nmade\nnames x\n",
-        ),
-        writes(
-            "made\n",
-            "renamed\nnames c\nnames d/\nrefused 7 not empty\nrefused 1 missing\nmade\nnames c x\n",
-        ),
-        writes(
-            "renamed\n",
-            "names a b\nnames d/\nrefused 7 not empty\ndropped\nmade\nnames a x\n",
-        ),
-        reads(
-            "names c b\n",
-            "names d/\nrefused 7 not empty\ndropped\nmade\nnames c x\n",
-        ),
-        reads(
-            "names d/\n",
-            "refused 7 not empty\ndropped\nmade\nnames c x\n",
-        ),
-        reads("refused 7 not empty\n", "dropped\nmade\nnames c x\n"),
-        writes("dropped\n", "made\nnames c b x\n"),
-        writes("made\n", "names c\n"),
-        reads("names c x\n", ""),
-    ]
-}
 
 fn files_told() -> [CommandTold; 7] {
     [
@@ -106,12 +74,6 @@ fn files_told() -> [CommandTold; 7] {
         writes("synced\n", ""),
     ]
 }
-
-const NONE: CallCounts = CallCounts {
-    reads: 0,
-    writes: 0,
-    flushes: 0,
-};
 
 // The lines up to the command at a place, which is refused; all of them where none has this place.
 fn lines_to(
@@ -202,112 +164,31 @@ fn may_tell(
     Ok(status == 3 && tell_a_fault(alloc, told, fault.call, lines)?)
 }
 
-// Whether the write or flush that failed was the last one. The run without faults makes three flushes.
-fn is_last(fault: FaultAt, calls: CallCounts) -> bool {
-    match fault.call {
-        CallKind::Read => true,
-        CallKind::Write => calls.writes == fault.number && calls.flushes < 3,
-        CallKind::Flush => calls.flushes == fault.number,
+// Each of these calls, failing once. A write that fails is taken or not.
+fn faults_of(alloc: Global, calls: CallCounts) -> Result<Vec<FaultAt>, AllocError> {
+    let mut faults = Vec::new(alloc);
+    for number in 1..calls.reads.saturating_add(1) {
+        faults.push(fault(CallKind::Read, number, false))?;
     }
+    for number in 1..calls.writes.saturating_add(1) {
+        faults.push(fault(CallKind::Write, number, false))?;
+        faults.push(fault(CallKind::Write, number, true))?;
+    }
+    for number in 1..calls.flushes.saturating_add(1) {
+        faults.push(fault(CallKind::Flush, number, false))?;
+    }
+    Ok(faults)
 }
 
-#[test]
-fn each_call_that_fails_once_is_told(rt: HostRuntime) -> Result<(), Fail> {
-    let alloc = rt.alloc();
-    let disk = MemDisk::new(alloc, 64)?;
-    let (_, sink, disk) = run_on(&rt, alloc, "new 64 16", NAMES.as_bytes(), disk)?;
-    let told = names_told();
-    let whole = lines_to(alloc, &told, 10, "")?;
-    assert_eq!(rt; sink.bytes(), whole.as_slice());
-    for fault in faults_behind(alloc, NONE, disk.calls())? {
-        let (status, sink, disk) = run_failing(&rt, alloc, NAMES, fault)?;
-        let may = may_tell(alloc, &told, fault, status, sink.bytes())?;
-        assert!(rt; may, "{fault:?} {status}");
-        assert!(rt; status == 3 || fault.call == CallKind::Read, "{fault:?}");
-        assert!(rt; is_last(fault, disk.calls()), "{fault:?}");
-    }
-    Ok(())
-}
-
-const LOOKS: &str = "list /\nlist /d\nstat /d/x";
-
-/// What may be told of the root.
-const ROOT: [&str; 4] = ["names", "names d/", "names /dead:d", "names /lost:0"];
-
-/// What may be told of `/d`, where names of dead entries are written as others: all names that stood
-/// in it together, one after another.
-const DIRECTORY: [&str; 10] = [
-    "names",
-    "names a",
-    "names a b",
-    "names c b",
-    "names c",
-    "names c x",
-    "names /lost:0",
-    "refused 1 missing",
-    "refused 2 lost entry 0",
-    "refused 3 lost slot 0",
-];
-
-/// What may be told of `/d/x`, which is made in place of `b`, behind `c`.
-const FILE: [&str; 5] = [
-    "stat file 0 1",
-    "refused 1 missing",
-    "refused 2 lost entry 0",
-    "refused 2 lost entry 1",
-    "refused 3 lost slot 0",
-];
-
-fn is_one_of(line: &[u8], lines: &[&'static str]) -> bool {
-    lines.iter().any(|one| one.as_bytes() == line)
-}
-
-// A line in which the names of dead entries are written as others.
-fn without_dead(alloc: Global, line: &[u8]) -> Result<Vec<u8>, AllocError> {
-    let mut plain = Vec::new(alloc);
-    for word in line.split(|byte| *byte == b' ') {
-        if !plain.is_empty() {
-            plain.push(b' ')?;
-        }
-        let name = word.strip_prefix(b"/dead:".as_slice()).unwrap_or(word);
-        plain.extend_from_slice(name)?;
-    }
-    Ok(plain)
-}
-
-// Whether a look may answer this line.
-fn may_show(alloc: Global, look: usize, line: &[u8]) -> Result<bool, AllocError> {
-    match look {
-        0 => Ok(is_one_of(line, &ROOT)),
-        1 => Ok(is_one_of(&without_dead(alloc, line)?, &DIRECTORY)),
-        2 => Ok(is_one_of(line, &FILE)),
-        _ => Ok(line.is_empty()),
-    }
-}
-
-// Whether each look shows only what some step gave.
-fn may_all_show(alloc: Global, lines: &[u8]) -> Result<bool, AllocError> {
-    let mut may = true;
-    for (look, line) in lines.split(|byte| *byte == b'\n').enumerate() {
-        may = may_show(alloc, look, line)? && may;
-    }
-    Ok(may)
-}
-
-#[test]
-fn a_crash_after_a_fault_shows_only_names_that_steps_gave(rt: HostRuntime) -> Result<(), Fail> {
-    let alloc = rt.alloc();
-    let mut seen = 0_usize;
-    for fault in faults_of(alloc, calls_of(&rt, alloc, NAMES)?)? {
-        let (_, _, disk) = run_failing(&rt, alloc, NAMES, fault)?;
-        for image in images_of(alloc, &disk)? {
-            seen = seen.saturating_add(1);
-            let shown = shown_by(&rt, image, LOOKS)?;
-            assert!(rt; may_all_show(alloc, shown.bytes())?, "{fault:?}");
-        }
-    }
-    assert!(rt; seen > 50, "{seen}");
-    Ok(())
+// The lines of a session over an image. It ends well.
+fn shown_by<R: Threads + Wait + Sync + Abort + AllocGlobal>(
+    rt: &R,
+    image: MemDisk,
+    session: &str,
+) -> Result<MemSink, Fail> {
+    let (status, sink, _) = run_on(rt, rt.alloc(), "run", session.as_bytes(), image)?;
+    assert_eq!(rt; status, 0, "{session}");
+    Ok(sink)
 }
 
 const GETS: &str = "get @ 0 3\nget /a 0 3";
@@ -326,6 +207,10 @@ const NEW_FILE: [&str; 7] = [
 /// What may be told of `@`.
 const LABEL: [&str; 4] = ["got", "got hole:3", "got lost:3", "got bytes:616263"];
 
+fn is_one_of(line: &[u8], lines: &[&'static str]) -> bool {
+    lines.iter().any(|one| one.as_bytes() == line)
+}
+
 // Whether lines of gets may follow a run that told these lines: what was synced is there.
 fn may_get(told: &[u8], got: &[u8]) -> bool {
     let has_label = told.starts_with(b"put 3\ngot bytes:616263\nsynced\n".as_slice());
@@ -342,6 +227,40 @@ fn may_get(told: &[u8], got: &[u8]) -> bool {
             };
     }
     may
+}
+
+// How many versions a block may have, where it may have several.
+fn versions(disk: &MemDisk, block: u64) -> u64 {
+    if block < disk.blocks() && disk.choices(block) > 1 {
+        disk.choices(block)
+    } else {
+        0
+    }
+}
+
+// Adds the disk that a crash leaves with each of the versions of a block.
+fn push_versions(
+    alloc: Global,
+    images: &mut Vec<MemDisk>,
+    disk: &MemDisk,
+    block: u64,
+) -> Result<(), AllocError> {
+    for version in 0..versions(disk, block) {
+        match left(alloc, disk, &[Pick { block, version }])? {
+            Some(image) => images.push(image)?,
+            None => {}
+        }
+    }
+    Ok(())
+}
+
+// The disks that a crash leaves with one block at any of its versions.
+fn images_of(alloc: Global, disk: &MemDisk) -> Result<Vec<MemDisk>, AllocError> {
+    let mut images = Vec::new(alloc);
+    for block in 0..64 {
+        push_versions(alloc, &mut images, disk, block)?;
+    }
+    Ok(images)
 }
 
 // The disk as it is, and those that a crash leaves with one block at any of its versions; none of a
@@ -363,7 +282,7 @@ fn a_fault_below_a_cache_is_told_and_loses_nothing_synced(rt: HostRuntime) -> Re
     let disk = cached(alloc, MemDisk::new(alloc, 64)?)?;
     let (_, _, disk) = run_on(&rt, alloc, "new 64 16", FILES.as_bytes(), disk)?;
     let commands = files_told();
-    for fault in faults_behind(alloc, NONE, disk.below().calls())? {
+    for fault in faults_of(alloc, disk.below().calls())? {
         let disk = cached(alloc, failing(alloc, 64, fault)?)?;
         let (status, told, disk) = run_on(&rt, alloc, "new 64 16", FILES.as_bytes(), disk)?;
         let may = may_tell(alloc, &commands, fault, status, told.bytes())?;

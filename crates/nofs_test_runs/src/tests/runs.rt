@@ -51,10 +51,6 @@ pub fn run_with<R: Threads + Wait + Sync, D: Disk + Drop + Send>(
     Ok((status, disk))
 }
 
-/// What is printed where the words are no command.
-pub const USAGE: &str =
-    "usage: nofs IMAGE new BLOCKS INODES | run | scan | drill START STEPS | upgrade | salvage [PREFIX] | wire\n";
-
 /// Runs on a disk, which is to print these lines and to end with this status: the disk then, or what came in place of
 /// it.
 pub fn prints<R: Threads + Wait + Sync + AllocGlobal, D: Disk + Drop + Send>(
@@ -78,12 +74,3 @@ pub const SESSION: &str = "put @ 0 616263\nget @ 0 3\nfsync @";
 
 /// What is printed of it.
 pub const LINES: &str = "put 3\ngot bytes:616263\nsynced\n";
-
-/// So many times the same line.
-pub fn many(alloc: Global, count: usize, line: &str) -> Result<Vec<u8>, AllocError> {
-    let mut text = Vec::new(alloc);
-    for _ in 0..count {
-        text.extend_from_slice(line.as_bytes())?;
-    }
-    Ok(text)
-}

@@ -1,0 +1,125 @@
+//! Runs the cases in the files that its arguments name, and tells of each file how many hold.
+//!
+//! `docs/CASES.md` says how a case is written. The file `images` has the images that cases name. Behind `!` stands a
+//! file of which no case may hold: it shows that each form of a line that judges can fail.
+//!
+//! Promise: each line of a case is obeyed, or the case fails by name. The status is 0 where each file has cases and all
+//! of them end as they are to.
+//!
+//! - `cases`: the cases of a file, and how many hold; `turns`: how often a case is run, and over which images of a
+//!   crash
+//! - `stage`: what stands while a case is run; its lines by what they say: `settings`, `runs`, `mounts`, `judging`
+//! - `lines`: words and numbers; `laying`: images; `outputs`: what is printed; `steps`, `replies`: steps and answers
+#![tactic(auto)]
+
+mod cases;
+mod judging;
+mod laying;
+mod lines;
+mod mounts;
+mod outputs;
+mod replies;
+mod runs;
+mod settings;
+mod stage;
+mod steps;
+mod turns;
+
+use crate::cases::{Tally, run_file};
+use crate::lines::lines_of;
+use std::process::ExitCode;
+use std::rt::Files;
+use std::sync::Wait;
+use std::thread::Threads;
+use std::{env, fs, io};
+
+// How many cases were run, and how many of them did not end as they are to.
+#[derive(Clone, Copy)]
+struct Count {
+    cases: u64,
+    wrong: u64,
+}
+
+fn main(rt: HostRuntime) -> io::Result<ExitCode> {
+    let text = fs::read_to_string(&rt, "images")?;
+    let images = lines_of(rt.alloc(), text.as_str())?;
+    let mut all = Count { cases: 0, wrong: 0 };
+    for word in env::args(&rt)?.skip(1) {
+        all = sum(all, run_word(&rt, &images, word.as_str())?);
+    }
+    println!(rt; "all: {} cases, {} wrong", all.cases, all.wrong)?;
+    Ok(ExitCode::from(status_of(all)))
+}
+
+fn sum(one: Count, other: Count) -> Count {
+    Count {
+        cases: one.cases.saturating_add(other.cases),
+        wrong: one.wrong.saturating_add(other.wrong),
+    }
+}
+
+// Where nothing was run, that is wrong too.
+fn status_of(all: Count) -> u8 {
+    if all.wrong == 0 && all.cases > 0 {
+        0
+    } else {
+        1
+    }
+}
+
+// Runs the file that a word names.
+fn run_word<R: Files + AllocGlobal + Print + Eprint + Threads + Wait + Sync>(
+    rt: &R,
+    images: &[&str],
+    word: &str,
+) -> io::Result<Count> {
+    match word.strip_prefix('!') {
+        Some(path) => run_path(rt, images, path, false),
+        None => run_path(rt, images, word, true),
+    }
+}
+
+// Runs a file of which each case is to hold, or none.
+fn run_path<R: Files + AllocGlobal + Print + Eprint + Threads + Wait + Sync>(
+    rt: &R,
+    images: &[&str],
+    path: &str,
+    holds: bool,
+) -> io::Result<Count> {
+    let text = fs::read_to_string(rt, path)?;
+    let lines = lines_of(rt.alloc(), text.as_str())?;
+    let tally = run_file(rt, rt.alloc(), images, &lines)?;
+    print_tally(rt, path, holds, &tally)?;
+    Ok(Count {
+        cases: tally.cases,
+        wrong: wrong_in(holds, &tally),
+    })
+}
+
+// How many cases did not end as they are to. A file without cases counts as one.
+fn wrong_in(holds: bool, tally: &Tally) -> u64 {
+    if tally.cases == 0 {
+        1
+    } else if holds {
+        tally.failed
+    } else {
+        tally.cases.saturating_sub(tally.failed)
+    }
+}
+
+// Tells of each case that did not end as it is to, to standard error too, which the gate shows, and then of the file.
+fn print_tally(
+    rt: &(impl Print + Eprint),
+    path: &str,
+    holds: bool,
+    tally: &Tally,
+) -> io::Result<()> {
+    let text = if holds {
+        &tally.failed_text
+    } else {
+        &tally.held_text
+    };
+    print!(rt; "{text}")?;
+    eprint!(rt; "{text}")?;
+    println!(rt; "{path}: {} cases, {} failed", tally.cases, tally.failed)
+}

@@ -1,0 +1,181 @@
+//! Lines that mount a disk, ask the mount step by step, and end it.
+
+use crate::lines::{number_of, range_of};
+use crate::stage::{Failure, Stage, fails_with};
+use crate::steps::{answer_of, step_of};
+use nofs_history::Step;
+use nofs_memdisk::MemDisk;
+use nofs_shared::Mount;
+use nofs_state::Counts;
+use nofs_super::format;
+use std::alloc::{AllocError, Global};
+
+// How many stamps a mount has: the first of them may be given at most with this number.
+const SERIALS: u64 = 1_099_511_627_776;
+
+impl Stage {
+    /// Obeys a line of a mount; whether this is one.
+    pub fn ask_mount(&mut self, words: &[&str]) -> Result<bool, Failure> {
+        match words {
+            ["format", blocks, inodes] => self.format(number_of(blocks), number_of(inodes)),
+            ["begin", serial] => self.begin(number_of(serial)),
+            ["end"] => Ok(self.end()),
+            ["free" | "inodes" | "entries" | "out", ..] => self.judge_mount(words),
+            [caller, words @ ..] => match (caller.parse::<u32>(), halves(words)) {
+                (Ok(caller), Some((step, answer))) => self.ask_each(caller, step, answer),
+                _ => Ok(false),
+            },
+            _ => Ok(false),
+        }
+    }
+
+    fn format(&mut self, blocks: Option<u64>, inodes: Option<u64>) -> Result<bool, Failure> {
+        let (Some(blocks), Some(inodes)) = (blocks, inodes) else {
+            return Ok(false);
+        };
+        let mut disk = self.new_disk(blocks)?;
+        let is_formatted = format(&mut disk, blocks, inodes).is_ok();
+        self.disk = Some(disk);
+        Ok(is_formatted)
+    }
+
+    fn begin(&mut self, serial: Option<u64>) -> Result<bool, Failure> {
+        let serial = match serial {
+            Some(serial) if serial <= SERIALS => serial,
+            _ => return Ok(false),
+        };
+        let disk = self.take_disk()?;
+        match Mount::begin(self.alloc, disk, serial) {
+            Ok(mount) => {
+                self.mount = Some(mount);
+                Ok(true)
+            }
+            Err(_) => fails_with(self.alloc, "not mounted"),
+        }
+    }
+
+    fn judge_mount(&mut self, words: &[&str]) -> Result<bool, Failure> {
+        self.count_judged();
+        let Some(mount) = &mut self.mount else {
+            return Ok(false);
+        };
+        if is_told(mount, words) {
+            return Ok(true);
+        }
+        Err(Failure::Case(counts_text(self.alloc, mount)?))
+    }
+
+    fn end(&mut self) -> bool {
+        match self.mount.take() {
+            Some(mount) => {
+                let (disk, _) = mount.end();
+                self.disk = Some(disk);
+                true
+            }
+            None => false,
+        }
+    }
+
+    // Asks a step, or one for each block of a range.
+    fn ask_each(&mut self, caller: u32, step: &[&str], answer: &[&str]) -> Result<bool, Failure> {
+        match step {
+            ["block", blocks] => self.ask_blocks(caller, range_of(blocks), answer),
+            _ => self.ask_one(caller, step, answer),
+        }
+    }
+
+    fn ask_blocks(
+        &mut self,
+        caller: u32,
+        blocks: Option<(u64, u64)>,
+        answer: &[&str],
+    ) -> Result<bool, Failure> {
+        let Some((first, last)) = blocks else {
+            return Ok(false);
+        };
+        for block in first..last.saturating_add(1) {
+            self.ask_step(caller, Step::SeeBlock { block }, answer)?;
+        }
+        Ok(true)
+    }
+
+    fn ask_one(&mut self, caller: u32, step: &[&str], answer: &[&str]) -> Result<bool, Failure> {
+        match step_of(self.alloc, step)? {
+            Some(step) => {
+                self.ask_step(caller, step, answer)?;
+                Ok(true)
+            }
+            None => fails_with(self.alloc, "no step"),
+        }
+    }
+
+    fn ask_step(&mut self, caller: u32, step: Step, answer: &[&str]) -> Result<(), Failure> {
+        let Some(mount) = &mut self.mount else {
+            return fails_with(self.alloc, "no mount");
+        };
+        let came = answer_of(self.alloc, mount, caller, step)?;
+        self.count_judged();
+        if is_answer(self.alloc, answer, came.as_str())? {
+            return Ok(());
+        }
+        Err(Failure::Case(format!(in self.alloc; "answered {}", came.as_str())?))
+    }
+}
+
+// Whether a line tells what holds of a mount.
+fn is_told(mount: &mut Mount<MemDisk>, words: &[&str]) -> bool {
+    match words {
+        ["out", "none"] => mount.write_out() == Ok(None),
+        _ => are_counts(mount.counts(), mount.history().len(), words),
+    }
+}
+
+// Whether a line tells these counts of a mount: how many inodes and blocks are known to be free, how many inodes are
+// known to be used or free and how many were not examined, or how many entries its history has.
+fn are_counts(counts: Counts, entries: u64, words: &[&str]) -> bool {
+    match words {
+        ["free", inodes, blocks] => {
+            number_of(inodes) == Some(counts.inodes_free)
+                && number_of(blocks) == Some(counts.blocks_free)
+        }
+        ["inodes", used, free, unchecked] => {
+            number_of(used) == Some(counts.inodes_used)
+                && number_of(free) == Some(counts.inodes_free)
+                && number_of(unchecked) == Some(counts.inodes_unchecked)
+        }
+        ["entries", count] => number_of(count) == Some(entries),
+        _ => false,
+    }
+}
+
+fn counts_text(alloc: Global, mount: &Mount<MemDisk>) -> Result<String, AllocError> {
+    let (counts, entries) = (mount.counts(), mount.history().len());
+    format!(in alloc; "not so, with {counts:?} and {entries} entries")
+}
+
+// Whether an answer is as wanted: any, bytes from a place on, or just these words.
+fn is_answer(alloc: Global, wanted: &[&str], came: &str) -> Result<bool, AllocError> {
+    match wanted {
+        ["*"] => Ok(true),
+        ["at", at, digits] => Ok(has_digits(came, number_of(at), digits)),
+        _ => Ok(wanted.join(alloc, " ")?.as_str() == came),
+    }
+}
+
+// Whether the bytes that are told have these from a place on. Zeros at their end are not told.
+fn has_digits(came: &str, at: Option<u64>, digits: &str) -> bool {
+    let (Some(bytes), Some(at)) = (came.strip_prefix("bytes"), at) else {
+        return false;
+    };
+    let bytes = bytes.trim().as_bytes();
+    let first = (at as usize).saturating_mul(2);
+    digits.as_bytes().iter().enumerate().all(|(place, digit)| {
+        bytes.get(first.saturating_add(place)).unwrap_or(&b'0') == digit
+    })
+}
+
+// The words before an arrow, and those behind it.
+fn halves<'a, 'b>(words: &'a [&'b str]) -> Option<(&'a [&'b str], &'a [&'b str])> {
+    let at = words.iter().position(|word| *word == "->")?;
+    Some((words.get(..at)?, words.get(at.checked_add(1)?..)?))
+}
