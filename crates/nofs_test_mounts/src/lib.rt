@@ -1,6 +1,7 @@
-//! Tests of the mount, by calls on one of a disk in memory: steps, passes, and users on threads.
+//! Tests of the mount, by calls on one of a disk in memory: verdicts, write-outs, passes, and users on threads. Steps
+//! and their replies alone are the cases of `nofs_rows`.
 //!
-//! - `steps`, `refusals`, `write_outs`: steps at a mount, what is refused, and what it costs the device
+//! - `steps`, `refusals`, `write_outs`: a verdict of a batch, a disk that can't be mounted, and what a cache keeps back
 //! - `sharing`: passes of one mount, and verdicts that are committed late
 //! - `serving`: users, sweeps and flushers at a mount
 //! - `mounts`: what these tests share

@@ -98,14 +98,6 @@ pub fn full_below_24(alloc: Global) -> Result<Mount<MemDisk>, Fail> {
     Ok(mount)
 }
 
-/// Why a step was refused.
-pub fn refusal(reply: &Reply) -> Option<Refusal> {
-    match reply {
-        Reply::Refused(why) => Some(*why),
-        _ => None,
-    }
-}
-
 /// A mount behind a turn, with two passes that have no entries.
 pub fn two_passes<D: Disk + Drop>(
     alloc: Global,

@@ -1,5 +1,4 @@
-//! Write-outs of a mount: over a cache as many as its step left dirty, and over a disk that keeps nothing
-//! back none.
+//! Write-outs of a mount over a cache: as many as its step left dirty.
 use crate::tests::mounts::{is_stored, is_used, mounted, put, put_step, seen, two_passes};
 use nofs_cache::Cached;
 use nofs_disk::{Disk, OutFault};
@@ -52,20 +51,6 @@ fn a_mount_over_a_cache_writes_out_what_a_put_left_dirty(rt: HostRuntime) -> Res
     let outs = [Ok(Some(1)), Ok(Some(15)), Ok(None)];
     let want = (Ok(None), true, outs, 2, 19);
     assert_eq!(rt; outs_of_a_mount(rt.alloc())?, want);
-    Ok(())
-}
-
-// Whether a put over a disk in memory is stored, the write-out after it, and how many entries there are.
-fn out_over_memory(alloc: Global) -> Result<(bool, Out, u64), Fail> {
-    let mut mount = mounted(alloc, formatted(alloc, 16, 4)?, 0)?;
-    let stored = put_in_15(alloc, &mut mount)?;
-    let out = mount.write_out();
-    Ok((stored, out, mount.history().len()))
-}
-
-#[test]
-fn a_mount_over_a_disk_in_memory_has_nothing_to_write_out(rt: HostRuntime) -> Result<(), Fail> {
-    assert_eq!(rt; out_over_memory(rt.alloc())?, (true, Ok(None), 2));
     Ok(())
 }
 
