@@ -1,4 +1,4 @@
-//! Disks that fail, the cells that a disk holds, and the line that a scan of them prints.
+//! Disks that fail, and the cells that a disk holds.
 ghost use Rattle.nofs_versions.specs.Memory.{PicksVersions};
 ghost use Rattle.nofs_memdisk.specs.Parts.{memory_state};
 ghost use Rattle.std.specs.Prelude.{IsTrue, ◌↔◌};
@@ -97,27 +97,4 @@ pub fn used(alloc: Global, cells: &[Cell]) -> Result<Option<(u64, u64)>, AllocEr
     }
     let ScanResult { inodes, blocks } = full_scan(alloc, cells)?;
     Ok(Some((inodes.count(), blocks.count())))
-}
-
-/// The line of a scan that finds so many of all inodes and blocks used.
-pub fn scan_line(alloc: Global, all: (u64, u64), used: (u64, u64)) -> Result<String, AllocError> {
-    let mut line = String::new(alloc);
-    push_counts(alloc, &mut line, "inodes", all.0, used.0)?;
-    line.push_str(", ")?;
-    push_counts(alloc, &mut line, "blocks", all.1, used.1)?;
-    line.push_str("\n")?;
-    Ok(line)
-}
-
-fn push_counts(
-    alloc: Global,
-    line: &mut String,
-    what: &str,
-    all: u64,
-    used: u64,
-) -> Result<(), AllocError> {
-    let free = all.saturating_sub(used);
-    line.push_str(what)?;
-    line.push_str(format!(in alloc; " used {used} free {free}")?.as_str())?;
-    line.push_str(" unchecked 0")
 }

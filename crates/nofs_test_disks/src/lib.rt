@@ -1,10 +1,9 @@
 //! What the crates of tests share: example images, disks in memory that tests begin with, and what is drawn by chance.
-//! No program uses it.
+//! Of programs only `nofs_rows` uses it, which runs cases.
 //!
 //! Promise: the numbers that are read from a disk are those that it can be mounted with.
 //!
 //! - `examples`: the example images of `docs/DEFINITIONS.md`
-//! - `images`: images that are laid down cell by cell, some of them as a crash leaves them
 //! - `disks`: disks that fail, and what a disk holds
 //! - `draws`: what is drawn by chance: numbers, calls that fail, and what a crash leaves
 #![tactic(auto)]
@@ -12,7 +11,6 @@
 mod disks;
 mod draws;
 mod examples;
-mod images;
 
 ghost use Rattle.std.specs.Prelude.{◌<◌, ◌^◌, IfSome};
 ghost use Rattle.nofs_disk.specs.Disk.{IsSettled};
@@ -20,7 +18,7 @@ ghost use Rattle.nofs_memdisk.specs.Parts.{memory_state};
 ghost use Rattle.nofs_super.specs.Geometry.{IsGeometry};
 ghost use Rattle.nofs_agree.specs.Reads.{IsAt};
 
-pub use disks::{bytes_of, cached, cell_of, cells_of, failing, fault, left, scan_line, used};
+pub use disks::{bytes_of, cached, cell_of, cells_of, failing, fault, left, used};
 pub use draws::{choices_of, draw, drawn_call, drawn_picks, fault_after, made};
 pub use examples::images::{
     blocks_under_the_top, bytes_ff, empty, inode_made_again, residue_past_the_size,
@@ -30,7 +28,6 @@ pub use examples::names::{
     chain_of_directories, dead_second_link, entry_of_a_free_record, entry_of_another_generation,
     loop_of_directories, one_name_twice,
 };
-pub use images::{FAULTS, Patch, TestImage, VERSION_2, image_cells, patched, patched_empty};
 use nofs_disk::{Cell, Disk};
 use nofs_memdisk::MemDisk;
 use nofs_super::{SuperBlock, format, read_super};
