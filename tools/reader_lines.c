@@ -2,6 +2,7 @@
  * program has for them. The tests compile and run it:
  *
  *     reader_lines IMAGE < session       a line for each `stat PATH`, `list PATH` and `get PATH OFFSET LENGTH`; `?` for another
+ *     reader_lines IMAGE scan            the line of a scan
  *     reader_lines IMAGE speed           the processor time of a copy of the image, and of a read of all files, and their bytes
  *
  * The image lies in pages that can only be read, and ends where a page begins that can't: so a write, and a read past its end, ends
@@ -172,6 +173,17 @@ static void answer(char *command)
         list_line(inode);
 }
 
+/* What a scan counts, with the line of the program. */
+static void count_line(void)
+{
+    struct nofs_reader_used it;
+    uint32_t code = nofs_reader_counts(image, size, &it);
+    if (code)
+        return refused(code);
+    printf("inodes used %llu free %llu unchecked 0, ", (unsigned long long)it.used_inodes, (unsigned long long)(it.inodes - it.used_inodes));
+    printf("blocks used %llu free %llu unchecked 0\n", (unsigned long long)it.used_blocks, (unsigned long long)(it.blocks - it.used_blocks));
+}
+
 static double seconds(void)
 {
     return (double)clock() / CLOCKS_PER_SEC;
@@ -229,7 +241,7 @@ int main(int count, char **words)
     if (code)
         return refused(code), 4;
     if (count == 3)
-        return speed(), 0;
+        return strcmp(words[2], "scan") ? speed() : count_line(), 0;
     while ((length = getline(&line, &room, stdin)) >= 0) {
         line[strcspn(line, "\n")] = 0;
         answer(line);

@@ -54,10 +54,10 @@ class Read(Folders):
         run(["cc", "-std=c99", "-O2", "-Wall", "-Wextra", "-Werror", "-I", INCLUDE, "-o", program, source, ARCHIVE])
         return program
 
-    def told(self, data, session):
+    def told(self, data, session, *words):
         """The status and the lines of the reader on an image."""
         write(self.at("read.img"), data)
-        done = subprocess.run([self.program, self.at("read.img")], input=b"\n".join([*session, b""]), stdout=subprocess.PIPE, timeout=60)
+        done = subprocess.run([self.program, self.at("read.img"), *words], input=b"\n".join([*session, b""]), stdout=subprocess.PIPE, timeout=60)
         return done.returncode, done.stdout.split(b"\n")[:-1]
 
     def judged(self, name, data, session, status, lines):
@@ -82,6 +82,13 @@ class Reader(Read):
                   for fault in self.judged(case.name, case.data, each.session, each.status, each.lines)]
         self.assertEqual(faults, [], "\n".join(faults))
 
+    def test_each_damage_is_counted_as_by_the_program(self):
+        runs = [(case, each) for case in damages.all_cases() if not case.device for each in case.runs if each.words == ["scan"]]
+        self.assertGreater(len(runs), 50)
+        for case, each in runs:
+            want = [code_of(each.lines[0])] if each.status == 4 else each.lines
+            self.assertEqual(self.told(case.data, [], "scan"), (each.status, want), case.name)
+
     def test_drawn_damages_are_told_as_by_the_definitions(self):
         day, images = damages.image("day2"), []
         for seed in range(40):
@@ -93,6 +100,8 @@ class Reader(Read):
         for name, data in images:
             session = reads_of(data)
             faults += self.judged(name, data, session, *wanted_of(data, ["run"], session))
+            if not unmountable(data) and self.told(data, [], "scan") != wanted_of(data, ["scan"]):
+                faults.append(f"{name}: the counts")
         self.assertEqual(faults, [], "\n".join(faults))
 
     def test_an_image_of_the_program_is_told_as_the_program_tells_it(self):

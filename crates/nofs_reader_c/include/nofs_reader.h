@@ -57,6 +57,11 @@ struct nofs_reader_numbers {
     uint64_t version, blocks, inodes, mount;
 };
 
+/* How many inodes and blocks there are, and how many of them are used. */
+struct nofs_reader_used {
+    uint64_t inodes, used_inodes, blocks, used_blocks;
+};
+
 /* A file or directory: its kind, how many of its names lead to it, its generation, and its size in bytes. */
 struct nofs_reader_inode {
     uint32_t kind, links;
@@ -86,6 +91,11 @@ struct nofs_reader_line {
 
 /* The numbers of the superblock, or its first fault. */
 uint32_t nofs_reader_superblock(const uint8_t *image, size_t length, struct nofs_reader_numbers *out);
+
+/* What a scan counts: the inodes that are agreed, or are 1 or 2, and the blocks that have an owner, or lie before the data
+ * area; or the superblock's first fault. It reads the whole image, and goes up from each inode and each block's owner to
+ * the root: it takes the longer the deeper directories lie. */
+uint32_t nofs_reader_counts(const uint8_t *image, size_t length, struct nofs_reader_used *out);
 
 /* What an inode is: its kind, generation and size as its record has them, and the number of its back links that are
  * pairs with agreed directories; or the superblock's first fault; or NO_INODE exactly where the inode is not agreed. */

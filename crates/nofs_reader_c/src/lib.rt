@@ -9,6 +9,7 @@ mod exports;
 mod outs;
 
 pub use exports::{
-    nofs_reader_get, nofs_reader_look, nofs_reader_next, nofs_reader_stat, nofs_reader_superblock,
+    nofs_reader_counts, nofs_reader_get, nofs_reader_look, nofs_reader_next, nofs_reader_stat,
+    nofs_reader_superblock,
 };
-pub use outs::{CLine, CRun, CStat, CSuperblock};
+pub use outs::{CLine, CRun, CStat, CSuperblock, CUsed};

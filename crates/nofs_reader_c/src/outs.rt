@@ -3,11 +3,11 @@
 //! Promise: each has the fields of the answer of `nofs_reader` that it is made of.
 ghost use Rattle.std.specs.Prelude.{◌≡◌};
 ghost use Rattle.nofs_reader_c.specs.Outs.{HasPlace, bare_line, kind_number, last_beside, line_of, looked_of, next_of};
-ghost use Rattle.nofs_reader_c.specs.Outs.{run_kind_number, run_of, stat_of, superblock_of};
+ghost use Rattle.nofs_reader_c.specs.Outs.{run_kind_number, run_of, stat_of, superblock_of, used_of};
 
 use nofs_disk::clear;
 use nofs_inode::FileKind;
-use nofs_reader::{InodeStat, Line, Looked, NextLine, Run, RunKind};
+use nofs_reader::{InodeStat, Line, Looked, NextLine, Run, RunKind, Used};
 use nofs_super::SuperBlock;
 
 /// The numbers of an image.
@@ -18,6 +18,16 @@ pub struct CSuperblock {
     pub blocks: u64,
     pub inodes: u64,
     pub mount: u64,
+}
+
+/// How much of an image is used.
+#[repr(C)]
+#[derive(Clone, Copy)]
+pub struct CUsed {
+    pub inodes: u64,
+    pub used_inodes: u64,
+    pub blocks: u64,
+    pub used_blocks: u64,
 }
 
 /// A file or directory.
@@ -63,6 +73,17 @@ pub(crate) fn superblock_of(it: &SuperBlock) -> CSuperblock
         blocks: it.blocks,
         inodes: it.inodes,
         mount: it.mount,
+    }
+}
+
+pub(crate) fn used_of(it: &Used) -> CUsed
+    ensures { result ≡ used_of it.now }
+{
+    CUsed {
+        inodes: it.inodes,
+        used_inodes: it.used_inodes,
+        blocks: it.blocks,
+        used_blocks: it.used_blocks,
     }
 }
 
