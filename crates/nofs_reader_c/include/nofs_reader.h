@@ -94,7 +94,8 @@ uint32_t nofs_reader_superblock(const uint8_t *image, size_t length, struct nofs
 
 /* What a scan counts: the inodes that are agreed, or are 1 or 2, and the blocks that have an owner, or lie before the data
  * area; or the superblock's first fault. It reads the whole image, and goes up from each inode and each block's owner to
- * the root: it takes the longer the deeper directories lie. */
+ * the root, and keeps no note of where it was: the deeper directories lie, the longer it takes. Where 4,000 lie in one
+ * another, it takes seconds. */
 uint32_t nofs_reader_counts(const uint8_t *image, size_t length, struct nofs_reader_used *out);
 
 /* What an inode is: its kind, generation and size as its record has them, and the number of its back links that are
