@@ -1,5 +1,5 @@
 -- The machine's files are the agreed ones, and so their pairs and entries are those of the image.
-use Rattle.std.proofs.Common.{◌≡◌, ℕ, Bool, true, false, ◌&&◌, List, [], Option, Some, None, refl, sym, ap, ◌∙◌}
+use Rattle.std.proofs.Common.{◌≡◌, ℕ, Bool, true, false, ◌&&◌, Option, Some, None, refl, sym, ap, ◌∙◌}
 use Rattle.std.specs.List.{count_by, list_any}
 use Rattle.nofs_dirent.specs.declared.entry.Entry.{Entry}
 use Rattle.nofs_inode.specs.declared.inode.BackLink.{BackLink}

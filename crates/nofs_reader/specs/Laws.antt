@@ -2,7 +2,7 @@
 use Rattle.std.specs.Prelude.{◌≡◌, ℕ, true, Some, count_by}
 use Rattle.nofs_dirent.specs.declared.entry.Entry.{Entry}
 use Rattle.nofs_model.specs.Files.{agreed, entry_at, files_in, is_pair, links_of}
-use Rattle.nofs_model.specs.Geometry.{Image, inode}
+use Rattle.nofs_model.specs.Geometry.{Image}
 use Rattle.nofs_agree.specs.Chain.{is_agreed_link}
 use Rattle.nofs_history.specs.Machine.{is_paired}
 use Rattle.nofs_history.specs.Since.{agreed_files}

@@ -1,7 +1,7 @@
 //! How many inodes and blocks of an image are used.
 //!
-//! It keeps no list of what it found, so it walks up from each inode and from the inode of each block anew: it takes
-//! the longer the deeper directories lie.
+//! It keeps no list of what it found, so it walks up from each inode and from the inode of each block anew: the deeper
+//! directories lie, the longer it takes.
 ghost use Rattle.std.specs.Prelude.{◌≡◌, ◌+◌, ◌<◌, IfOk, None, Some, is_some};
 ghost use Rattle.nofs_agree.specs.Reads.{IsAt};
 ghost use Rattle.nofs_history.specs.Search.{count_below};
