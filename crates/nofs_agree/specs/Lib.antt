@@ -1,3 +1,4 @@
 pub mod Reads
 pub mod Path
+pub mod Known
 pub mod Chain

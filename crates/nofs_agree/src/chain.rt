@@ -2,7 +2,7 @@
 //!
 //! Promise: it answers whether the inode is agreed, where what is said to be known is true, and ends
 //! whatever the image is, since each directory on the way is older than the one below.
-ghost use Rattle.std.specs.Prelude.{◌≡◌, IfOk, IsTrue, OnErr, length};
+ghost use Rattle.std.specs.Prelude.{◌≡◌, IfOk, IsTrue, OnErr};
 ghost use Rattle.std.specs.List.{list_any};
 ghost use Rattle.nofs_disk.specs.Disk.{Rose, StaysButFaults};
 ghost use Rattle.nofs_inode.specs.declared.inode.FileKind.TheVariants as kind;
@@ -19,7 +19,7 @@ use nofs_inode::{BackLink, FileKind, Record};
 use nofs_super::SuperBlock;
 
 /// Whether an inode is agreed, where something may be known of some. It asks the superblock of the
-/// disk, and a place for each inode. Where something that is known isn't true, the answer may be either.
+/// disk. Where something that is known isn't true, the answer may be either.
 ///
 /// # Errors
 ///
@@ -30,7 +30,6 @@ pub fn check_chain<D: Disk>(
     known: &Known,
     inode: u32,
 ) -> Result<bool, Failed>
-    requires known { length known.now ≡ at.now.inodes }
     requires numbers { IsAt (D.state disk.old) at.now }
     ensures stays { StaysButFaults (D.state disk.old) (D.state disk.new) }
     ensures agreed { IfOk result (λ answer. IsTrue (D.state disk.old).tells → AreTrue (D.state disk.old).now known.now
@@ -83,7 +82,6 @@ fn any_agreed_link<D: Disk>(
     it: &Record,
     last: &mut LastRead,
 ) -> Result<bool, Failed>
-    requires known { length known.now ≡ at.now.inodes }
     requires record { KnowsInode (D.state disk.old) at.now inode it.now }
     requires last { IsLast (D.state disk.old) last.old }
     ensures { TellsAgreed (D.state disk.old) (D.state disk.new) known.now
@@ -111,7 +109,6 @@ pub fn is_agreed_link<D: Disk>(
     last: &mut LastRead,
 ) -> Result<bool, Failed>
     requires record { KnowsInode (D.state disk.old) at.now inode it.now }
-    requires known { length known.now ≡ at.now.inodes }
     requires last { IsLast (D.state disk.old) last.old }
     ensures { TellsAgreed (D.state disk.old) (D.state disk.new) known.now
         (λ X. is_agreed_link (files.files_in X) inode link.now) last.new result }
@@ -145,7 +142,6 @@ pub(crate) fn is_agreed_directory<D: Disk>(
 ) -> Result<bool, Failed>
     requires record { KnowsDirectory (D.state disk.old) at.now directory.inode directory.record.generation
         directory.record }
-    requires known { length known.now ≡ at.now.inodes }
     requires last { IsLast (D.state disk.old) last.old }
     ensures { TellsAgreed (D.state disk.old) (D.state disk.new) known.now
         (λ X. files.agreed (files.files_in X) directory.inode) last.new result }

@@ -11,25 +11,29 @@ use std::marker::Model;
 /// call but `nothing` takes memory.
 #[derive(Drop)]
 pub struct Known {
-    // Place `i - 1` is inode `i`.
-    inodes: Vec<Option<bool>>,
+    // Place `i - 1` is inode `i`. `None` has no place.
+    inodes: Option<Vec<Option<bool>>>,
 }
 
 impl Model for Known {
     ghost use Rattle.std.specs.Prelude.{Bool, List, Option};
+    ghost use Rattle.nofs_agree.specs.Known.{places};
 
     ghost Value = { List (Option Bool) };
 
-    ghost view = { λ known. known.inodes.items };
+    ghost view = { λ known. places (λ inodes. inodes.items) known.inodes };
 }
 
 impl Known {
+    /// Nothing is known, and there is a place for no inode.
+    pub const NONE: Known = Known { inodes: None };
+
     /// Nothing is known of so many inodes.
     pub fn nothing(alloc: Global, inodes: u64) -> Result<Self, AllocError>
         ensures { IfOk result (λ known. known ≡ replicate inodes None) }
     {
         Ok(Known {
-            inodes: vec![in alloc; None; inodes as usize]?,
+            inodes: Some(vec![in alloc; None; inodes as usize]?),
         })
     }
 
@@ -37,18 +41,28 @@ impl Known {
     pub fn told(&self, inode: u32) -> Option<bool>
         ensures { result ≡ known_agreement self.now inode }
     {
+        let inodes = self.places();
         let place = inode as usize;
-        if place == 0 || place > self.inodes.len() {
+        if place == 0 || place > inodes.len() {
             return None;
         }
-        self.inodes[place - 1]
+        inodes[place - 1]
+    }
+
+    fn places(&self) -> &[Option<bool>]
+        ensures { result.now ≡ self.now }
+    {
+        match &self.inodes {
+            None => &[],
+            Some(inodes) => inodes.as_slice(),
+        }
     }
 
     /// Makes known whether an inode is agreed, where there is such an inode.
     pub(crate) fn learn(&mut self, inode: u32, agreed: bool)
         ensures { LearnsOne self.old self.new inode agreed }
     {
-        if 1 <= inode && inode as usize <= self.inodes.len() {
+        if 1 <= inode && inode as usize <= self.places().len() {
             self.set(inode, Some(agreed));
         }
     }
@@ -59,6 +73,9 @@ impl Known {
         requires within { inode ≤ length self.old }
         ensures { self.new ≡ slice_set self.old (inode - 1) agreed }
     {
-        self.inodes[inode as usize - 1] = agreed;
+        match &mut self.inodes {
+            None => {}
+            Some(inodes) => inodes[inode as usize - 1] = agreed,
+        }
     }
 }

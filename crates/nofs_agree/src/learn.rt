@@ -55,8 +55,7 @@ fn learn_above<D: Disk>(
     known: &mut Known,
     inode: u32,
 ) -> Result<(), Failed>
-    requires numbers { IsAt (D.state disk.old) at.now }
-    requires known { length known.old ≡ at.now.inodes }
+    requires { IsAt (D.state disk.old) at.now }
     ensures { LearnsAbove (D.state disk.old) (D.state disk.new) known.old known.new result }
 {
     let mut last = LastRead::NONE;
@@ -82,7 +81,6 @@ fn learn_link<D: Disk>(
     last: &mut LastRead,
 ) -> Result<(), Failed>
     requires record { KnowsInode (D.state disk.old) at.now inode it.now }
-    requires known { length known.old ≡ at.now.inodes }
     requires last { IsLast (D.state disk.old) last.old }
     ensures { LearnsChain (D.state disk.old) (D.state disk.new) known.old known.new last.new result }
 {
@@ -108,7 +106,6 @@ fn learn_directory<D: Disk>(
 ) -> Result<(), Failed>
     requires record { KnowsDirectory (D.state disk.old) at.now directory.inode directory.record.generation
         directory.record }
-    requires known { length known.old ≡ at.now.inodes }
     requires last { IsLast (D.state disk.old) last.old }
     ensures { LearnsChain (D.state disk.old) (D.state disk.new) known.old known.new last.new result }
 {

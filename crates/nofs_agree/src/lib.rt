@@ -20,5 +20,6 @@ pub use chain::{check_chain, is_agreed_link};
 pub use known::Known;
 pub use learn::learn_chain;
 pub use nofs_model::PathAnswer;
+pub use pair::read_pair;
 pub use path::{check_path, find_slot};
 pub use reads::{LastRead, read_block, read_inode};

@@ -17,7 +17,11 @@ use nofs_super::SuperBlock;
 
 /// Reads the record of the directory to which a back link leads; `None` where the link isn't a
 /// pair. A directory's own link is a pair only with an older directory.
-pub(crate) fn read_pair<D: Disk>(
+///
+/// # Errors
+///
+/// `Failed` where a read failed.
+pub fn read_pair<D: Disk>(
     disk: &mut D,
     at: &SuperBlock,
     inode: u32,

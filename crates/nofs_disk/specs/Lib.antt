@@ -1,5 +1,6 @@
 pub mod Adds
 pub mod Cells
+pub mod CellsOfBytes
 pub mod Chains
 pub mod Disk
 pub mod Moments

@@ -13,8 +13,8 @@ use Rattle.std.proofs.lemmas.Option.{same_Some}
 use Rattle.nofs_disk.specs.Number.{put_bytes}
 use Rattle.nofs_disk.specs.Parts.{length-put_bytes}
 use Rattle.nofs_disk.specs.declared.tag.Cell.{Cell}
+use Rattle.nofs_disk.specs.CellsOfBytes.{cell_in, part_of}
 use Rattle.nofs_filedisk.specs.Bytes.{IsPart, IsPut}
-use Rattle.nofs_filedisk.specs.Cells.{cell_in, part_of}
 use Rattle.nofs_filedisk.specs.Windows.{IsShown}
 use Rattle.nofs_filedisk.specs.declared.windows.Window.{Window}
 use Rattle.nofs_filedisk.proofs.OnMoving.Bytes.{put-before, put-behind, put-inside}

@@ -4,7 +4,7 @@ use Rattle.std.specs.Prelude.{take, drop, slice_index}
 use Rattle.std.specs.Prelude.{Result, IfOk, OnOk, OnErr}
 use Rattle.nofs_disk.specs.Disk.{Rose}
 use Rattle.nofs_disk.specs.declared.Failed.{Failed}
-use Rattle.nofs_filedisk.specs.Cells.{cell_in}
+use Rattle.nofs_disk.specs.CellsOfBytes.{cell_in}
 
 -- what contracts see of a file
 pub record HostFileState : Type 0 where

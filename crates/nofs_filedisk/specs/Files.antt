@@ -1,41 +1,14 @@
 -- What contracts see of a disk in a file: the cells that the file had first, and the writes and flushes since.
-use Rattle.std.specs.Prelude.{◌≡◌, ℕ, ◌+◌, ◌*◌, ◌^◌, ◌<◌, Contains, IsTrue, List, length, map, refl}
-use Rattle.std.specs.List.{range_with_len}
+use Rattle.std.specs.Prelude.{◌≡◌, ℕ, ◌+◌, ◌*◌, ◌^◌, ◌<◌, Contains, IsTrue, List, length, refl}
 use Rattle.std.proofs.Common.{arith}
-use Rattle.std.proofs.lemmas.List.FromFn.{get_or-map-range_with_len, length-map-range_with_len}
-use Rattle.nofs_disk.specs.declared.tag.Cell.{Cell}
-use Rattle.nofs_disk.specs.Disk.{DiskState, IsDisk, cell_at, no_cell}
+use Rattle.nofs_disk.specs.Disk.{DiskState, IsDisk}
 use Rattle.nofs_disk.specs.Held.{Held}
+use Rattle.nofs_disk.specs.CellsOfBytes.{cell_in, cells_in, length-cells_in}
 use Rattle.nofs_versions.specs.declared.call.Call.{Call}
 use Rattle.nofs_versions.specs.Memory.{held_after, state_of}
 use Rattle.nofs_versions.specs.Laws.{AreSized, state_of-is}
 use Rattle.nofs_filedisk.specs.Bytes.{HostFileState, IsHostFile}
-use Rattle.nofs_filedisk.specs.Cells.{cell_in}
 use Rattle.nofs_filedisk.specs.Told.{telling_disk, telling_disk-is}
-
--- the cells of the first blocks
-unfoldable pub first_cells : List ℕ → ℕ → List Cell
-first_cells bytes blocks = map (cell_in bytes) (range_with_len 0 blocks)
-
--- the cells of all 1,048,576 blocks
-unfoldable pub cells_in : List ℕ → List Cell
-cells_in bytes = first_cells bytes 1048576
-
-length-first_cells : (bytes : List ℕ) (n : ℕ) → length (first_cells bytes n) ≡ n
-unfolding first_cells
-length-first_cells bytes n = length-map-range_with_len (cell_in bytes) 0 n
-
-at-first_cells : (bytes : List ℕ) (n b : ℕ) → b < n → cell_at (first_cells bytes n) b ≡ cell_in bytes b
-unfolding first_cells
-at-first_cells bytes n b low = get_or-map-range_with_len (cell_in bytes) 0 n b b no_cell low (omega arith)
-
-pub length-cells_in : (bytes : List ℕ) → length (cells_in bytes) ≡ 1048576
-unfolding cells_in
-length-cells_in bytes = length-first_cells bytes 1048576
-
-pub at-cells_in : (bytes : List ℕ) (b : ℕ) → b < 1048576 → cell_at (cells_in bytes) b ≡ cell_in bytes b
-unfolding cells_in
-at-cells_in bytes b low = at-first_cells bytes 1048576 b low
 
 -- what a disk holds after these calls, over a file that was this one at first
 abbrev pub file_held : HostFileState → List Call → Held

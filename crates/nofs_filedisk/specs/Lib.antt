@@ -1,5 +1,4 @@
 pub mod Bytes
-pub mod Cells
 pub mod Past
 pub mod Told
 pub mod Files

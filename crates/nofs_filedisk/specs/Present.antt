@@ -2,8 +2,8 @@
 use Rattle.std.specs.Prelude.{◌≡◌, ℕ, ◌+◌, ◌*◌, ◌/◌, ◌%◌, ◌<◌, ◌≤◌, ◌⊎◌, IsTrue, List, length, slice_range, slice_set}
 use Rattle.nofs_disk.specs.declared.tag.Cell.{Cell}
 use Rattle.nofs_disk.specs.Disk.{cell_at}
+use Rattle.nofs_disk.specs.CellsOfBytes.{cell_in}
 use Rattle.nofs_filedisk.specs.Bytes.{HostFileState}
-use Rattle.nofs_filedisk.specs.Cells.{cell_in}
 use Rattle.nofs_filedisk.specs.declared.run.Run.{Run}
 
 -- a block has a place in a run: in the same window one of its cells, the one before them or the one behind them

@@ -5,9 +5,9 @@
 ghost use Rattle.std.specs.Prelude.{◌≡◌, ◌+◌, ◌*◌, ◌++◌, ◌∷◌, [], ◌^◌, ◌<◌, ◌≤◌, ℕ, IfOk, IsTrue, List, OnOk, length};
 ghost use Rattle.nofs_disk.specs.Disk.{Flushes, IsSettled, Picks, Writes, cell_at};
 ghost use Rattle.nofs_disk.specs.declared.tag.Cell.{Cell};
+ghost use Rattle.nofs_disk.specs.CellsOfBytes.{cell_in, cells_in};
 ghost use Rattle.nofs_filedisk.specs.Bytes.{IsSynced};
-ghost use Rattle.nofs_filedisk.specs.Cells.{cell_in};
-ghost use Rattle.nofs_filedisk.specs.Files.{FileSized, LastsWithin, cells_in, file_held};
+ghost use Rattle.nofs_filedisk.specs.Files.{FileSized, LastsWithin, file_held};
 ghost use Rattle.nofs_filedisk.specs.Past.{call_of, file_calls};
 ghost use Rattle.nofs_filedisk.specs.Present.{IsPresent};
 

@@ -6,7 +6,7 @@
 //! it grows at both ends, whether the blocks come in rising order or in falling order, and one window shows all of it.
 ghost use Rattle.std.specs.Prelude.{◌≡◌, ◌≢◌, ◌⊎◌, ℕ, ◌+◌, ◌*◌, ◌%◌, ◌<◌, ◌≤◌, IfOk, IsFalse, IsTrue, length, max, min};
 ghost use Rattle.nofs_disk.specs.Number.{put_bytes};
-ghost use Rattle.nofs_filedisk.specs.Cells.{cell_in};
+ghost use Rattle.nofs_disk.specs.CellsOfBytes.{cell_in};
 
 use crate::windows::{CELL_BYTES, WINDOW_BYTES, WINDOW_CELLS, copy_cell, place_of, zeros};
 use nofs_disk::{Cell, write_bytes_at};

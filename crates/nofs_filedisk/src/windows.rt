@@ -11,8 +11,8 @@ ghost use Rattle.std.specs.Prelude.{◌≡◌, ◌≢◌, ◌+◌, ◌*◌, ◌/
 ghost use Rattle.std.specs.Prelude.{None, OnErr, OnOk, Some, length, slice_range, ℕ};
 ghost use Rattle.nofs_disk.specs.Disk.{Rose};
 ghost use Rattle.nofs_disk.specs.Number.{put_bytes};
+ghost use Rattle.nofs_disk.specs.CellsOfBytes.{cell_in};
 ghost use Rattle.nofs_filedisk.specs.Bytes.{HostFileState, IsPart, IsPut, KeepsBytes};
-ghost use Rattle.nofs_filedisk.specs.Cells.{cell_in};
 
 use crate::moving::read_part;
 use crate::positioned::Positioned;

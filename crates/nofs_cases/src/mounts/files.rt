@@ -4,7 +4,7 @@ ghost use Rattle.nofs_shared.specs.Mount.Invariant.{IsSoundDisk};
 ghost use Rattle.nofs_shared.specs.Laws.{IsBlankDisk};
 ghost use Rattle.nofs_cases.specs.Mounts.Open.{LeavesSound, StandsOpen};
 ghost use Rattle.nofs_disk.specs.Disk.{IsSettled};
-ghost use Rattle.nofs_filedisk.specs.Files.{cells_in};
+ghost use Rattle.nofs_disk.specs.CellsOfBytes.{cells_in};
 
 use crate::mounts::mounts::{Unmade, format_disk};
 use nofs_cache::Cached;

@@ -17,14 +17,14 @@ use Rattle.nofs_versions.proofs.OnMemory.Cells.{flush_of, flush_present, may_of,
 use Rattle.nofs_versions.proofs.OnMemory.Images.{leaves_flush, leaves_rest, leaves_write}
 use Rattle.nofs_versions.proofs.OnMemory.Sizes.{sized_flush, sized_write}
 use Rattle.nofs_filedisk.specs.Bytes.{HostFileState}
-use Rattle.nofs_filedisk.specs.Cells.{cell_in}
-use Rattle.nofs_filedisk.specs.Files.{FileSized, LastsWithin, cells_in, file_held, file_state, length-cells_in}
+use Rattle.nofs_filedisk.specs.Files.{FileSized, LastsWithin, file_held, file_state}
 use Rattle.nofs_filedisk.specs.Present.{IsPresent, LastsOrPresent, StaysPresent, TakesCell}
 use Rattle.nofs_filedisk.specs.Told.{telling_disk}
 use Rattle.nofs_filedisk.specs.declared.run.Run.{Run}
 use Rattle.std.proofs.lemmas.Bool.{cases_eq}
 use Rattle.std.proofs.Common.{inl, inr}
 use Rattle.nofs_disk.specs.Held.{Held, written_here, written_other}
+use Rattle.nofs_disk.specs.CellsOfBytes.{cell_in, cells_in, length-cells_in}
 use Rattle.nofs_filedisk.proofs.OnFiledisk.Present.{present-all}
 
 -- A disk that tells or not

@@ -11,22 +11,11 @@ use Rattle.nofs_disk.specs.Number.{put_bytes}
 use Rattle.nofs_disk.specs.Parts.{length-put_bytes}
 use Rattle.nofs_disk.specs.declared.tag.Cell.{Cell}
 use Rattle.nofs_disk.specs.Disk.{cell_at, no_cell}
+use Rattle.nofs_disk.specs.CellsOfBytes.{at-cells_in, cell_in, cells_in, part-is, part-range, part_of}
 use Rattle.nofs_filedisk.specs.Bytes.{IsPartlyPut, IsPut}
-use Rattle.nofs_filedisk.specs.Cells.{cell_in, part_of}
-use Rattle.nofs_filedisk.specs.Files.{at-cells_in, cells_in}
 use Rattle.nofs_filedisk.specs.Present.{HasPlace, IsPresent, run_bytes}
 use Rattle.nofs_filedisk.specs.declared.run.Run.{Run}
 use Rattle.nofs_filedisk.proofs.OnMoving.Bytes.{put-before, put-behind, put-inside}
-
--- a part of some bytes
-part-is : (bytes part : List ℕ) (at n : ℕ)
-    → length part ≡ n → ((k : ℕ) → k < n → slice_index bytes (at + k) ≡ slice_index part k) → part_of bytes at n ≡ part
-unfolding part_of
-part-is bytes part at n size same =
-    let len = length-map-range_with_len (slice_index bytes) at n in
-    ext_get_or 0 (part_of bytes at n) part (len ∙ sym size) (λ k low.
-    let small : k < n = omega arith in
-    get_or-map-range_with_len (slice_index bytes) at n k (at + k) 0 small refl ∙ same k small)
 
 -- the same bytes at another place
 part-same : (a b : List ℕ) (p q n : ℕ) → ((k : ℕ) → k < n → slice_index a (p + k) ≡ slice_index b (q + k))
@@ -241,15 +230,6 @@ present-put bytes run next now block cell has there first end here others size p
     }
 
 -- a cell that was taken out of some bytes
-range-is : (bytes : List ℕ) (at n : ℕ) → at + n ≤ length bytes → slice_range bytes at (at + n) ≡ part_of bytes at n
-range-is bytes at n fits =
-    let cut : at + n - at ≡ n = omega arith in
-    let rest = length-drop at bytes in
-    let len : length (take n (drop at bytes)) ≡ n = length-take-le n (drop at bytes) (omega arith) in
-    ap (λ k. take k (drop at bytes)) cut
-    ∙ sym (part-is bytes (take n (drop at bytes)) at n len
-    (λ k low. sym (get_or-take n (drop at bytes) k 0 low ∙ get_or-drop at bytes k 0)))
-
 pub cell-taken : (bytes : List ℕ) (j at : ℕ) (cell : Cell) → at ≡ 1056 * j → at + 1056 ≤ length bytes
     → cell.payload ≡ slice_range bytes at (at + 1024)
     → cell.tag ≡ slice_range bytes (at + 1024) (at + 1056) → cell ≡ cell_in bytes j
@@ -257,7 +237,7 @@ unfolding cell_in
 cell-taken bytes j at cell is fits payload tag =
     let end : at + 1056 ≡ at + 1024 + 32 = omega arith in
     let rest : at + 1024 ≡ 1056 * j + 1024 = omega arith in
-    let one = payload ∙ range-is bytes at 1024 (omega arith) ∙ ap (λ k. part_of bytes k 1024) is in
+    let one = payload ∙ part-range bytes at 1024 (omega arith) ∙ ap (λ k. part_of bytes k 1024) is in
     let two = tag ∙ ap (λ k. slice_range bytes (at + 1024) k) end
-    ∙ range-is bytes (at + 1024) 32 (omega arith) ∙ ap (λ k. part_of bytes k 32) rest in
+    ∙ part-range bytes (at + 1024) 32 (omega arith) ∙ ap (λ k. part_of bytes k 32) rest in
     λ x. record { payload = one x; tag = two x }

@@ -3,60 +3,27 @@ use Rattle.std.proofs.Common.{◌≡◌, ℕ, ◌+◌, ◌*◌, ◌<◌, List, [
 use Rattle.std.specs.Prelude.{Contains, IsTrue}
 use Rattle.nofs_disk.specs.declared.tag.Cell.{Cell}
 use Rattle.nofs_disk.specs.Disk.{IsSettled, IsSizedCell, cell_at}
-use Rattle.nofs_disk.specs.Number.{IsBytes}
 use Rattle.nofs_disk.specs.Cells.{Contains-known}
+use Rattle.nofs_disk.specs.CellsOfBytes.{IsSizedCell-cell_in, at-cells_in, cell_in, cells_in, length-cells_in}
 use Rattle.nofs_versions.specs.declared.call.Call.{Call}
 use Rattle.nofs_versions.specs.Memory.{within}
 use Rattle.nofs_versions.specs.Laws.{within_from}
 use Rattle.nofs_versions.proofs.OnMemory.Cells.{after_none, settled_none}
 use Rattle.nofs_versions.proofs.OnMemory.Sizes.{sized_base}
 use Rattle.nofs_filedisk.specs.Bytes.{HostFileState, IsHostFile, IsSynced}
-use Rattle.nofs_filedisk.specs.Cells.{cell_in, part_of}
-use Rattle.nofs_filedisk.specs.Files.{FileSized, LastsWithin, at-cells_in, cells_in, file_held, file_state}
-use Rattle.nofs_filedisk.specs.Files.{length-cells_in}
+use Rattle.nofs_filedisk.specs.Files.{FileSized, LastsWithin, file_held, file_state}
 use Rattle.nofs_filedisk.specs.Present.{IsPresent}
 use Rattle.nofs_filedisk.specs.declared.run.Run.{Run}
-use Rattle.std.proofs.lemmas.List.FromFn.{get_or-map-range_with_len, length-map-range_with_len}
-use Rattle.std.proofs.Math.ListN.{get_or-eq_default}
-use Rattle.std.proofs.lemmas.Bool.{cases_lt}
-use Rattle.std.specs.Prelude.{slice_index}
-use Rattle.std.specs.List.{range_with_len}
-use Rattle.std.proofs.Common.{inl, inr, map}
 use Rattle.nofs_filedisk.proofs.OnFiledisk.Present.{present-first}
 use Rattle.nofs_filedisk.proofs.OnFiledisk.Calls.{rest_leaves, has_present}
 
 -- a disk that was just made
-sized_part : (bytes : List ℕ) (at n : ℕ) → ((k : ℕ) → slice_index bytes k < 256) → IsBytes n (part_of bytes at n)
-unfolding part_of
-sized_part bytes at n small =
-    let len = length-map-range_with_len (slice_index bytes) at n in
-    record {
-      len = len;
-      each = λ k. elim (cases_lt k n) [
-        | inl low ↦
-            let e = get_or-map-range_with_len (slice_index bytes) at n k (at + k) 0 low refl in
-            let s = small (at + k) in
-            below e s
-        | inr past ↦
-            let e = get_or-eq_default (map (slice_index bytes) (range_with_len at n)) 0 {n = k} (omega arith) in
-            below e (omega arith)
-      ];
-    }
-  where
-    below : {x y : ℕ} → x ≡ y → y < 256 → x < 256
-    below e low = omega arith
-
-sized_in : (bytes : List ℕ) (b : ℕ) → ((k : ℕ) → slice_index bytes k < 256) → IsSizedCell (cell_in bytes b)
-unfolding cell_in
-sized_in bytes b small =
-    record { payload = sized_part bytes (1056 * b) 1024 small; tag = sized_part bytes (1056 * b + 1024) 32 small }
-
 pub start_sized : (file : HostFileState) (calls : List Call) → IsHostFile file → calls ≡ [] → FileSized file calls
 start_sized file calls is none =
     let len = length-cells_in file.bytes in
     sized_base (cells_in file.bytes) calls none (λ b low.
     let F : Cell → Type 0 = λ x. IsSizedCell x in
-    subst F (sym (at-cells_in file.bytes b (omega arith))) (sized_in file.bytes b is.small))
+    subst F (sym (at-cells_in file.bytes b (omega arith))) (IsSizedCell-cell_in file.bytes b is.small))
 
 pub start_now : (file : HostFileState) (calls : List Call)
     → calls ≡ [] → (file_held file calls).now ≡ cells_in file.bytes

@@ -1,5 +1,5 @@
 use Rattle.std.proofs.Common.{ap, arith, refl, ◌∙◌}
-use Rattle.nofs_filedisk.specs.Files.{cells_in, length-cells_in}
+use Rattle.nofs_disk.specs.CellsOfBytes.{cells_in, length-cells_in}
 use Rattle.nofs_cases.proofs.OnMounts.Sound.{settled-sound}
 use Rattle.nofs_cases.proofs.mounts.files.reopened.Goals as goal
 
