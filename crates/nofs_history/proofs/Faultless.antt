@@ -5,7 +5,8 @@ use Rattle.nofs_model.specs.Files.{FileState, entry_at}
 use Rattle.nofs_model.specs.declared.image.value.Value.{Value}
 use Rattle.nofs_model.specs.declared.image.value.Value.TheVariants.{Hole, Bytes, Lost}
 use Rattle.nofs_history.specs.Search.{least_from, first_of}
-use Rattle.nofs_history.specs.Machine.{found, value_of, is_hole, is_lost, link_to, generation_of, is_fault}
+use Rattle.nofs_history.specs.Machine.{found, value_of, is_hole, is_lost, link_to, generation_of}
+use Rattle.nofs_history.specs.Faults.{is_fault}
 use Rattle.nofs_history.specs.World.{World}
 use Rattle.nofs_history.specs.Refusals.{rows}
 use Rattle.nofs_history.specs.Answers.{found_file, found_entry, found_reply, dropped_entry, dropped_reply}

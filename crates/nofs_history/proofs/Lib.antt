@@ -4,3 +4,4 @@ pub mod Names
 pub mod Rows
 pub mod Faultless
 pub mod OnAccepted
+pub mod Faults

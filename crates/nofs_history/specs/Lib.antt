@@ -1,4 +1,5 @@
 pub mod Steps
+pub mod Faults
 pub mod HistoryState
 pub mod Meta
 pub mod Search

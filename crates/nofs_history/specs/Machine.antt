@@ -355,12 +355,6 @@ abbrev pub is_write_fault : Reply → Bool
 is_write_fault (reply.Refused refusal.WriteFault) = true
 is_write_fault _ = false
 
--- whether a call of the device failed
-abbrev pub is_fault : Reply → Bool
-is_fault (reply.Refused refusal.ReadFault) = true
-is_fault (reply.Refused refusal.WriteFault) = true
-is_fault _ = false
-
 -- whether a step was done, or may have been
 abbrev pub may_give : Reply → Bool
 may_give reply = not (is_refused reply) || is_write_fault reply

@@ -9,8 +9,8 @@
 //! - `accepted`: the values that a history accepted for a slot. They are read off the files of the
 //!   base in memory, by what each entry gives.
 //! - `specs/`: `Machine` (what a step gives), `Refusals`, `Answers`, `Claims` and `Next` (a step of the
-//!   machine), `World` (its state), `Since`, `Marks` and `Allowed` (what a crash may leave),
-//!   `Accepted` (words of the part `accepted` alone).
+//!   machine), `World` (its state), `Faults` (whether the device failed), `Since`, `Marks` and `Allowed`
+//!   (what a crash may leave), `Accepted` (words of the part `accepted` alone).
 #![tactic(auto)]
 
 mod accepted;

@@ -1,7 +1,8 @@
 -- The world and the step decide all but claims, faults and what becomes known.
 use Rattle.std.proofs.Common.{◌≡◌, ◌+◌, Bool, true, false, Option, Some, None, refl, sym, ap, ◌∙◌, ◌⊎◌, inl, inr}
 use Rattle.nofs_history.specs.Search.{first_of}
-use Rattle.nofs_history.specs.Machine.{gives, files_after, is_fault}
+use Rattle.nofs_history.specs.Machine.{gives, files_after}
+use Rattle.nofs_history.specs.Faults.{is_fault}
 use Rattle.nofs_history.specs.World.{World, inodes_needed, blocks_needed}
 use Rattle.nofs_history.specs.Refusals.{rows, reads_nothing}
 use Rattle.nofs_history.specs.Answers.{reply_of}

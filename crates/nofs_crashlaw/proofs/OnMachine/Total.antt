@@ -4,7 +4,8 @@ use Rattle.std.proofs.Common.{◌≡◌, ◌≢◌, ℕ, ◌+◌, ◌⊎◌, inl
 use Rattle.std.proofs.Common.{refl, subst}
 use Rattle.nofs_model.specs.Files.{Files}
 use Rattle.nofs_history.specs.Search.{first_of}
-use Rattle.nofs_history.specs.Machine.{gives, files_after, is_fault}
+use Rattle.nofs_history.specs.Machine.{gives, files_after}
+use Rattle.nofs_history.specs.Faults.{is_fault}
 use Rattle.nofs_history.specs.World.{World, uses_inode, uses_block, inodes_needed, blocks_needed}
 use Rattle.nofs_history.specs.Refusals.{rows}
 use Rattle.nofs_history.specs.Answers.{reply_of}

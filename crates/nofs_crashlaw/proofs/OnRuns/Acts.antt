@@ -5,7 +5,8 @@ use Rattle.nofs_dirent.specs.declared.entry.Entry.{Entry}
 use Rattle.nofs_model.specs.Files.{Files, entry_at}
 use Rattle.nofs_history.specs.Search.{first_of}
 use Rattle.nofs_history.specs.Machine.{Given, nothing, gives, at_place, found, drop_given, link_to, generation_of}
-use Rattle.nofs_history.specs.Machine.{files_after, is_refused, is_fault, is_write_fault, may_give, given_by, files_by}
+use Rattle.nofs_history.specs.Machine.{files_after, is_refused, is_write_fault, may_give, given_by, files_by}
+use Rattle.nofs_history.specs.Faults.{is_fault}
 use Rattle.nofs_history.specs.World.{World}
 use Rattle.nofs_history.specs.Refusals.{rows}
 use Rattle.nofs_history.specs.Answers.{reply_of, dropped_entry, dropped_reply}

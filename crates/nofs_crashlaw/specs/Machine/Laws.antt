@@ -1,7 +1,8 @@
 -- Laws of the machine's step: it is total, and but for what is left to choice a function.
 use Rattle.std.specs.Prelude.{◌≡◌, ℕ, ◌≤◌, false, List, [], ◌∷◌, length, Some}
 use Rattle.nofs_model.specs.declared.image.value.Value.TheVariants.{Bytes}
-use Rattle.nofs_history.specs.Machine.{value_of, is_fault}
+use Rattle.nofs_history.specs.Machine.{value_of}
+use Rattle.nofs_history.specs.Faults.{is_fault}
 use Rattle.nofs_history.specs.Steps.{Fits}
 use Rattle.nofs_model.specs.Geometry.{Image}
 use Rattle.nofs_model.specs.Files.{FileState}

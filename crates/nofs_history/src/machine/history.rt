@@ -1,10 +1,11 @@
 //! The history of a mount: every step with its reply, in the order of the turn.
 //!
-//! Promise: an entry that was pushed stays, after `reserve` pushing is never refused, and there are
-//! fewer than 2^62 entries.
+//! Promise: an entry that was pushed stays, after `reserve` pushing is never refused, there are fewer
+//! than 2^62 entries, and whether a call of the device failed in one is told without looking at them.
 ghost use Rattle.std.specs.Prelude.{◌≡◌, ◌∷◌, ◌++◌, ◌<◌, ◌≤◌, ◌-◌, ◌^◌, [], length, OnOk, OnErr, slice_get};
 ghost use Rattle.std.specs.Option.{option_copied};
 ghost use Rattle.nofs_history.specs.HistoryState.{HistoryState};
+ghost use Rattle.nofs_history.specs.Faults.{has_fault};
 
 use crate::machine::replies::Reply;
 use crate::machine::steps::Step;
@@ -56,18 +57,22 @@ pub struct History {
     start: u64,
     entries: Vec<Entry1>,
     spare: u64,
+    // whether a call of the device failed in some step
+    faulty: bool,
 }
 
 impl Model for History {
-    ghost use Rattle.std.specs.Prelude.{◌+◌, ◌^◌, ◌<◌, ◌≤◌, vec_len, vec_capacity};
+    ghost use Rattle.std.specs.Prelude.{◌≡◌, ◌+◌, ◌^◌, ◌<◌, ◌≤◌, vec_len, vec_capacity};
     ghost use Rattle.nofs_history.specs.HistoryState.{HistoryState};
+    ghost use Rattle.nofs_history.specs.Faults.{has_fault};
 
     ghost Value = { HistoryState };
 
     ghost view = { λ h. record { start = h.start; entries = h.entries.items; spare = h.spare } };
 
     ghost invariant = { λ h. (vec_len h.entries + h.spare ≤ vec_capacity h.entries)
-        × (vec_len h.entries + h.spare < 2 ^ 62) };
+        × (vec_len h.entries + h.spare < 2 ^ 62)
+        × (h.faulty ≡ has_fault h.entries.items) };
 }
 
 impl History {
@@ -79,6 +84,7 @@ impl History {
             start,
             entries: Vec::new(alloc),
             spare: 0,
+            faulty: false,
         }
     }
 
@@ -110,12 +116,14 @@ impl History {
     }
 
     /// Adds an entry at the end. It takes no memory.
+    #[tactic(auto, using(crate::proofs::Faults::fault_more))]
     pub fn push(&mut self, it: Entry1)
         requires { 0 < self.old.spare }
         ensures { self.new
             ≡ record { start = self.old.start; entries = self.old.entries ++ it ∷ []; spare = self.old.spare - 1 } }
     {
         self.spare -= 1;
+        self.faulty |= it.reply.is_fault();
         match self.entries.push(it) {
             Ok(()) => {}
             Err(_) => unreachable!(),
@@ -135,6 +143,13 @@ impl History {
         ensures { option_copied result ≡ slice_get self.now.entries at }
     {
         self.entries.get(at as usize)
+    }
+
+    /// Whether a call of the device failed in some step.
+    pub fn has_fault(&self) -> bool
+        ensures { result ≡ has_fault self.now.entries }
+    {
+        self.faulty
     }
 
     /// The moment at which the mount was made.

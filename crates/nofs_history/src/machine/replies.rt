@@ -2,6 +2,7 @@
 
 ghost use Rattle.std.specs.Prelude.{◌≡◌};
 ghost use Rattle.nofs_history.specs.Steps.{is_out_of_memory};
+ghost use Rattle.nofs_history.specs.Faults.{is_fault};
 
 use nofs_dirent::{Content, ListOf, Name};
 use nofs_inode::inode::FileKind;
@@ -79,6 +80,16 @@ impl Reply {
         ensures { result ≡ is_out_of_memory self.now }
     {
         matches!(self, Reply::Refused(Refusal::OutOfMemory))
+    }
+
+    /// Whether a call of the device failed.
+    pub fn is_fault(&self) -> bool
+        ensures { result ≡ is_fault self.now }
+    {
+        matches!(
+            self,
+            Reply::Refused(Refusal::ReadFault | Refusal::WriteFault)
+        )
     }
 }
 

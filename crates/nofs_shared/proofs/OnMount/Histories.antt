@@ -7,7 +7,8 @@ use Rattle.nofs_history.specs.Allowed.{IsAllowed}
 use Rattle.nofs_history.specs.History.{NoWriteFault}
 use Rattle.nofs_history.specs.Since.{is_flushed, agreed_files, files_along}
 use Rattle.nofs_model.specs.Files.{Files}
-use Rattle.nofs_history.specs.Machine.{files_by, is_write_fault, is_refused, is_fault}
+use Rattle.nofs_history.specs.Machine.{files_by, is_write_fault, is_refused}
+use Rattle.nofs_history.specs.Faults.{is_fault}
 use Rattle.nofs_history.specs.Next.{takes_time}
 use Rattle.nofs_history.specs.Steps.{is_out_of_memory}
 use Rattle.nofs_history.specs.HistoryState.{HistoryState}

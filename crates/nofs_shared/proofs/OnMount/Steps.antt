@@ -9,7 +9,8 @@ use Rattle.nofs_super.specs.declared.superblock.SuperBlock.{SuperBlock}
 use Rattle.nofs_model.specs.Geometry.{Image}
 use Rattle.nofs_history.specs.Allowed.{IsAllowed}
 use Rattle.nofs_history.specs.Since.{is_flushed, agreed_files, files_along}
-use Rattle.nofs_history.specs.Machine.{is_write_fault, is_fault}
+use Rattle.nofs_history.specs.Machine.{is_write_fault}
+use Rattle.nofs_history.specs.Faults.{is_fault}
 use Rattle.nofs_history.specs.Next.{takes_time}
 use Rattle.nofs_history.specs.Steps.{is_out_of_memory}
 use Rattle.nofs_history.specs.HistoryState.{HistoryState}

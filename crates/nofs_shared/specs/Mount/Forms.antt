@@ -1,6 +1,7 @@
 -- The form of a history, over any disk.
 use Rattle.std.specs.Prelude.{◌≡◌, ℕ, ◌+◌, ◌*◌, ◌<◌, ◌≤◌, Bool, true, false, ◌||◌, ◌⊎◌, List, [], ◌∷◌, if◌then◌else◌}
-use Rattle.nofs_history.specs.Machine.{is_fault, is_write_fault}
+use Rattle.nofs_history.specs.Machine.{is_write_fault}
+use Rattle.nofs_history.specs.Faults.{is_fault}
 use Rattle.nofs_history.specs.Next.{takes_time}
 use Rattle.nofs_history.specs.Steps.{is_out_of_memory}
 use Rattle.nofs_history.specs.declared.machine.history.Entry1.{Entry1}

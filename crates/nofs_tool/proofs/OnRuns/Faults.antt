@@ -7,7 +7,7 @@ use native.Mathlib.Bridge.{le_prop}
 use Rattle.nofs_disk.specs.Disk.{DiskState, Rose}
 use Rattle.nofs_history.specs.HistoryState.{HistoryState}
 use Rattle.nofs_history.specs.declared.machine.history.Entry1.{Entry1}
-use Rattle.nofs_history.specs.Machine.{is_fault}
+use Rattle.nofs_history.specs.Faults.{is_fault}
 use Rattle.nofs_shared.specs.Mount.Forms.{faults_in}
 use Rattle.nofs_tool.specs.Session.Entries.{has_fault}
 use Rattle.nofs_tool.specs.Session.Whole.{Finished}

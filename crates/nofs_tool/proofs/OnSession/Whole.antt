@@ -9,7 +9,8 @@ use Rattle.nofs_model.specs.Files.{Files, is_special}
 use Rattle.nofs_history.specs.declared.machine.callers.TheConstants.{BLOCK_SWEEPER, INODE_SWEEPER}
 use Rattle.nofs_history.specs.Good.{IsGood}
 use Rattle.nofs_history.specs.History.{FilesMatch, NoWriteFault}
-use Rattle.nofs_history.specs.Machine.{is_write_fault, is_fault}
+use Rattle.nofs_history.specs.Machine.{is_write_fault}
+use Rattle.nofs_history.specs.Faults.{is_fault}
 use Rattle.nofs_history.specs.Next.{Run}
 use Rattle.nofs_history.specs.World.{World, world_of}
 use Rattle.nofs_history.specs.declared.machine.history.Entry1.{Entry1}

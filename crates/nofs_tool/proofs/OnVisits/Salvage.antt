@@ -18,7 +18,8 @@ use Rattle.nofs_io.specs.Texts.{AppendsAll}
 use Rattle.nofs_history.specs.History.{SameFile}
 use Rattle.nofs_history.specs.Since.{agreed_files}
 use Rattle.nofs_history.specs.HistoryState.{HistoryState}
-use Rattle.nofs_history.specs.Machine.{is_write_fault, is_fault}
+use Rattle.nofs_history.specs.Machine.{is_write_fault}
+use Rattle.nofs_history.specs.Faults.{is_fault}
 use Rattle.nofs_history.specs.Next.{Run}
 use Rattle.nofs_history.specs.Search.{first_of}
 use Rattle.nofs_history.specs.Steps.{Made}

@@ -2,7 +2,7 @@
 use Rattle.std.specs.Prelude.{ℕ, ◌+◌, List, [], ◌∷◌, Bool, true, false, if◌then◌else◌, map, ◌++◌, flat_map}
 use Rattle.nofs_history.specs.declared.machine.history.Entry1.{Entry1}
 use Rattle.nofs_history.specs.Callers.{steps_by}
-use Rattle.nofs_history.specs.Machine.{is_fault}
+use Rattle.nofs_history.specs.Faults.{is_fault}
 use Rattle.nofs_client.specs.declared.task.commands.Command.{Command}
 use Rattle.nofs_client.specs.declared.task.lines.Line.{Line}
 use Rattle.nofs_client.specs.Driver.{lines_of, made_reply}

@@ -10,7 +10,7 @@ ghost use Rattle.nofs_history.specs.Steps.{is_out_of_memory};
 ghost use Rattle.nofs_history.specs.declared.machine.history.Entry1.{Entry1};
 ghost use Rattle.nofs_history.specs.declared.machine.steps.Step.TheVariants as step;
 ghost use Rattle.nofs_history.specs.declared.machine.replies.Reply.{Reply};
-ghost use Rattle.nofs_history.specs.Machine.{is_fault as is_fault_in};
+ghost use Rattle.nofs_history.specs.Faults.{is_fault as is_fault_in};
 ghost use Rattle.nofs_client.specs.Task.Commands.{AreWellFormed};
 ghost use Rattle.nofs_client.specs.declared.task.lines.Line.{Line};
 ghost use Rattle.nofs_script.specs.Session.{IsSession};
