@@ -1,5 +1,5 @@
 -- What is known of inodes, and how more becomes known on the way up from one.
-use Rattle.std.proofs.Common.{◌≡◌, ℕ, ◌-◌, ◌<◌, ◌≤◌, ◌≢◌, inl, inr, Bool, true, false, IsTrue, List, [], length, get_or}
+use Rattle.std.proofs.Common.{◌≡◌, ℕ, ◌-◌, ◌<◌, ◌≤◌, ◌≢◌, inl, inr, Bool, true, false, IsTrue, List, length, get_or}
 use Rattle.std.proofs.Common.{Option, Some, None, IfSome, Result, Ok}
 use Rattle.std.proofs.Common.{Err, IsErr, OnErr, slice_set, replicate, refl, sym, ap, ◌∙◌, subst, arith, leb}
 use Rattle.std.proofs.lemmas.Bool.{cases_lt}
@@ -55,11 +55,6 @@ told-nothing n i = elim (cases_lt i 1) [
   | inl none ↦ rw (leb-not 1 i none) refl
   | inr some ↦ rw (leb-le 1 i some) (none-of n (i - 1))
 ]
-
--- so what is known is true where there is a place for no inode
-pub AreTrue-none : (X : Image) → AreTrue X []
-AreTrue-none X i =
-    subst (λ (o : Option Bool). IfSome o (λ a. agreed (files_in X) i ≡ a)) (sym (told-nothing 0 i)) tt
 
 pub told-set : (known : List (Option Bool)) (i : ℕ) (v : Option Bool) (a : Bool)
     → 1 ≤ i → known_agreement (slice_set known (i - 1) v) i ≡ Some a → v ≡ Some a
