@@ -62,6 +62,11 @@ abbrev pub is_named : List ℕ → Option (List ℕ) → Bool
 is_named name None = false
 is_named name (Some found) = bytes_eq found name
 
+-- the size and the bytes of this name stand in 64 bytes
+abbrev pub carries_name : List ℕ → List ℕ → Bool
+carries_name bytes name = nat_le (length name) longest_name
+    && ((number_at 4 4 bytes == length name) && bytes_eq (take (length name) (drop 16 bytes)) name)
+
 -- the entry at this place of a directory cell has this name
 unfoldable pub has_name : List ℕ → List ℕ → ℕ → Bool
 has_name payload name j = is_named name (name_of (entry_in payload j))

@@ -3,8 +3,12 @@ use Rattle.std.proofs.Common.{◌≡◌, ℕ, ◌+◌, ◌-◌, ◌^◌, ◌<◌
 use Rattle.std.proofs.Common.{Option, Some, None, if◌then◌else◌}
 use Rattle.std.proofs.Common.{◌==◌, arith, refl, sym, ap, ◌∙◌, le-leb, replicate}
 use Rattle.std.specs.List.{list_all}
-use Rattle.std.proofs.lemmas.Bool.{and_from}
+use Rattle.std.proofs.Common.{bytes_eq, eq-eqb, eqb-true, is_some, leb-true, nat_le}
+use Rattle.std.proofs.Math.Bool.{and-false}
+use Rattle.std.proofs.lemmas.Bool.{and_from, and_parts}
 use Rattle.std.proofs.lemmas.Option.{none-some}
+use Rattle.std.proofs.lemmas.Slice.Eq.{bytes_eq-Decides}
+use Rattle.std.proofs.lemmas.List.{length-drop}
 use Rattle.std.proofs.lemmas.List.{drop_at, drop-drop, take_at, length-take-le, drop-replicate}
 use Rattle.std.proofs.lemmas.List.Elements.{All-replicate}
 use Rattle.std.proofs.lemmas.List.Sums.{list_all-from_AllPass}
@@ -14,7 +18,7 @@ use Rattle.nofs_disk.specs.Parts.{drop-put_number, length-put_bytes}
 use Rattle.nofs_dirent.specs.Names.{NameOk}
 use Rattle.nofs_dirent.specs.NameLaws.{is_name-Decides}
 use Rattle.nofs_dirent.specs.Entries.{HasEntrySpelling, entry_fields, entry_of, entry_with, has_entry_spelling}
-use Rattle.nofs_dirent.specs.Entries.{has_zeros_after, name_of, spelled_entry}
+use Rattle.nofs_dirent.specs.Entries.{carries_name, has_zeros_after, is_named, name_of, spelled_entry}
 use Rattle.nofs_dirent.specs.declared.entry.Entry.{Entry}
 
 -- these 64 bytes are read as this entry
@@ -134,30 +138,49 @@ spelled_entry-spells inode generation name some small from below ok =
     ∙ sym (drop-drop (length name) 16 (spelled_entry inode generation name)) ∙ ap (drop (length name)) tail)
     ∙ zeros-after inode generation name short)
 
--- The name of the entry that bytes spell
+-- Whether bytes spell an entry, and its name
 
-pub name_of-some : (bytes : List ℕ) (n : ℕ) (name : List ℕ) → n ≡ number_at 4 4 bytes
-    → take n (drop 16 bytes) ≡ name → has_zeros_after bytes n ≡ true
-    → has_entry_spelling (entry_with (number_at 4 0 bytes) (number_at 8 8 bytes) name) ≡ true
-    → Some name ≡ name_of (entry_of bytes)
-unfolding entry_of entry_fields
-name_of-some bytes n name e is rest has =
-    let named : take (number_at 4 4 bytes) (drop 16 bytes) ≡ name = ap (λ k. take k (drop 16 bytes)) (sym e) ∙ is in
-    rw (named, sym e, rest, has) refl
+some-if : (b : Bool) (e : Entry) → is_some (if b then Some e else None) ≡ b
+some-if true e = refl
+some-if false e = refl
 
-pub name_of-rest : (bytes : List ℕ) (n : ℕ) → n ≡ number_at 4 4 bytes
-    → has_zeros_after bytes n ≡ false → None ≡ name_of (entry_of bytes)
+-- where zeros follow the name, they do if the fields have a spelling
+pub is_entry-when : (bytes : List ℕ) (size : ℕ) → size ≡ number_at 4 4 bytes → has_zeros_after bytes size ≡ true
+    → has_entry_spelling (entry_with (number_at 4 0 bytes) (number_at 8 8 bytes) (take size (drop 16 bytes)))
+    ≡ is_some (entry_of bytes)
 unfolding entry_of entry_fields
-name_of-rest bytes n e rest = rw (sym e, rest) refl
+is_entry-when bytes size e rest =
+    let spelled : ℕ → Bool = λ n. has_entry_spelling
+    (entry_with (number_at 4 0 bytes) (number_at 8 8 bytes) (take n (drop 16 bytes))) in
+    ap spelled e
+    ∙ ap (λ b. b && spelled (number_at 4 4 bytes)) (sym rest ∙ ap (has_zeros_after bytes) e)
+    ∙ sym (some-if _ _)
 
-pub name_of-none : (bytes : List ℕ) (n : ℕ) (name : List ℕ) → n ≡ number_at 4 4 bytes
-    → take n (drop 16 bytes) ≡ name → has_zeros_after bytes n ≡ true
-    → has_entry_spelling (entry_with (number_at 4 0 bytes) (number_at 8 8 bytes) name) ≡ false
-    → None ≡ name_of (entry_of bytes)
+pub is_entry-else : (bytes : List ℕ) (size : ℕ) → size ≡ number_at 4 4 bytes → has_zeros_after bytes size ≡ false
+    → false ≡ is_some (entry_of bytes)
 unfolding entry_of entry_fields
-name_of-none bytes n name e is rest has =
-    let named : take (number_at 4 4 bytes) (drop 16 bytes) ≡ name = ap (λ k. take k (drop 16 bytes)) (sym e) ∙ is in
-    rw (named, sym e, rest, has) refl
+is_entry-else bytes size e rest =
+    ap (λ b. b && has_entry_spelling (entry_fields bytes)) (sym rest ∙ ap (has_zeros_after bytes) e) ∙ sym (some-if _ _)
+
+-- an entry names no inode 0
+pub is_entry-zero : (bytes : List ℕ) → number_at 4 0 bytes ≡ 0 → false ≡ is_some (entry_of bytes)
+unfolding entry_of entry_fields
+is_entry-zero bytes e =
+    let name = take (number_at 4 4 bytes) (drop 16 bytes) in
+    let rest = has_zeros_after bytes (number_at 4 4 bytes) in
+    sym (some-if _ _ ∙ ap (λ n. rest && has_entry_spelling (entry_with n (number_at 8 8 bytes) name)) e
+    ∙ and-false rest)
+
+pub name_of-some : (bytes : List ℕ) (size : ℕ) → size ≡ number_at 4 4 bytes → is_some (entry_of bytes) ≡ true
+    → Some (take size (drop 16 bytes)) ≡ name_of (entry_of bytes)
+unfolding entry_of entry_fields
+name_of-some bytes size e some =
+    go (has_zeros_after bytes (number_at 4 4 bytes) && has_entry_spelling (entry_fields bytes)) some
+  where
+    go : (b : Bool) → is_some (if b then Some (entry_fields bytes) else None) ≡ true
+        → Some (take size (drop 16 bytes)) ≡ name_of (if b then Some (entry_fields bytes) else None)
+    go true h = ap (λ n. Some (take n (drop 16 bytes))) e
+    go false h = cc
 
 abbrev name_or : List ℕ → Option (List ℕ) → List ℕ
 name_or d None = d
@@ -177,3 +200,58 @@ entry_of-named bytes name e =
         ap (name_or (take (number_at 4 4 bytes) (drop 16 bytes))) (sym e) in
         ap (λ n. Some (entry_with (number_at 4 0 bytes) (number_at 8 8 bytes) n)) same
     go false e = absurd (none-some name (sym e))
+
+-- Whether the entry that bytes spell has a name
+
+-- an entry in bytes that carry the name has it
+pub named-carried : (bytes name : List ℕ) → carries_name bytes name ≡ true
+    → is_some (entry_of bytes) ≡ is_named name (name_of (entry_of bytes))
+unfolding entry_of entry_fields
+named-carried bytes name h = go (has_zeros_after bytes (number_at 4 4 bytes) && has_entry_spelling (entry_fields bytes))
+  where
+    parts : ((number_at 4 4 bytes == length name) && bytes_eq (take (length name) (drop 16 bytes)) name) ≡ true
+    parts = (and_parts (nat_le (length name) 48)
+        ((number_at 4 4 bytes == length name) && bytes_eq (take (length name) (drop 16 bytes)) name) h).1
+
+    both : ((number_at 4 4 bytes == length name) ≡ true) × (bytes_eq (take (length name) (drop 16 bytes)) name ≡ true)
+    both = and_parts (number_at 4 4 bytes == length name) (bytes_eq (take (length name) (drop 16 bytes)) name) parts
+
+    same : bytes_eq (take (number_at 4 4 bytes) (drop 16 bytes)) name ≡ true
+    same =
+        ap (λ n. bytes_eq (take n (drop 16 bytes)) name) (eqb-true (number_at 4 4 bytes) (length name) both.0) ∙ both.1
+
+    go : (b : Bool) → is_some (if b then Some (entry_fields bytes) else None)
+        ≡ is_named name (name_of (if b then Some (entry_fields bytes) else None))
+    go true = sym same
+    go false = refl
+
+-- an entry in other bytes has another name
+pub named-else : (bytes name : List ℕ) → length bytes ≡ 64 → carries_name bytes name ≡ false
+    → false ≡ is_named name (name_of (entry_of bytes))
+unfolding entry_of entry_fields
+named-else bytes name len h = go (has_zeros_after bytes n && has_entry_spelling (entry_fields bytes)) refl
+  where
+    n : ℕ
+    n = number_at 4 4 bytes
+
+    differs : n ≤ 48 → (b : Bool) → bytes_eq (take n (drop 16 bytes)) name ≡ b → false ≡ b
+    differs short false e = refl
+    differs short true e =
+        let same : take n (drop 16 bytes) ≡ name = (bytes_eq-Decides (take n (drop 16 bytes)) name).0 e in
+        let size : n ≡ length name = sym (length-take-le n (drop 16 bytes) (omega (arith, length-drop 16 bytes)))
+        ∙ ap length same in
+        let fits : nat_le (length name) 48 ≡ true = ap (λ k. nat_le k 48) (sym size) ∙ le-leb n 48 short in
+        let bytes_are : bytes_eq (take (length name) (drop 16 bytes)) name ≡ true =
+        ap (λ k. bytes_eq (take k (drop 16 bytes)) name) (sym size) ∙ e in
+        sym h ∙ and_from (nat_le (length name) 48)
+        ((n == length name) && bytes_eq (take (length name) (drop 16 bytes)) name) fits
+        (and_from (n == length name) (bytes_eq (take (length name) (drop 16 bytes)) name)
+        (eq-eqb n (length name) size) bytes_are)
+
+    go : (b : Bool) → (has_zeros_after bytes n && has_entry_spelling (entry_fields bytes)) ≡ b
+        → false ≡ is_named name (name_of (if b then Some (entry_fields bytes) else None))
+    go true t =
+        let after = (and_parts (has_zeros_after bytes n) (has_entry_spelling (entry_fields bytes)) t).0 in
+        let short = (and_parts (nat_le n 48) (list_all (λ b. b == 0) (drop (16 + n) bytes)) after).0 in
+        differs (leb-true n 48 short) (bytes_eq (take n (drop 16 bytes)) name) refl
+    go false t = refl

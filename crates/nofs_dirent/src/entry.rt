@@ -3,14 +3,15 @@
 //!
 //! Promise: what is written is read, an entry has one spelling, and other bytes stay.
 ghost use Rattle.std.specs.Prelude.{◌≡◌, ◌≢◌, ◌+◌, ◌*◌, ◌<◌, ◌≤◌, false, IfOk, IfSome, IfNone, None, Some, length};
-ghost use Rattle.std.specs.Prelude.{nat_eq, ℕ};
+ghost use Rattle.std.specs.Prelude.{IsTrue, drop, is_some, nat_eq, ℕ};
 ghost use Rattle.std.specs.List.{list_all};
 ghost use Rattle.std.specs.Option.{option_copied as copied};
-ghost use Rattle.nofs_disk.specs.Number.{put_bytes, zeros};
+ghost use Rattle.nofs_disk.specs.Number.{number_at, put_bytes, zeros};
+ghost use Rattle.nofs_dirent.specs.Names.{longest_name};
 ghost use Rattle.nofs_dirent.specs.EntryLaws.{Spells};
-ghost use Rattle.nofs_dirent.specs.Entries.{HasEntrySpelling, IsFirstNamed, entry_bytes, entry_in, entry_of};
-ghost use Rattle.nofs_dirent.specs.Entries.{entry_with, has_entry_spelling, has_name, has_zeros_after, name_of};
-ghost use Rattle.nofs_dirent.specs.Entries.{spelled_entry};
+ghost use Rattle.nofs_dirent.specs.Entries.{HasEntrySpelling, IsFirstNamed, carries_name, entry_bytes, entry_in};
+ghost use Rattle.nofs_dirent.specs.Entries.{entry_of, entry_with, has_entry_spelling, has_name, has_zeros_after};
+ghost use Rattle.nofs_dirent.specs.Entries.{name_of, spelled_entry};
 
 use crate::lists::Name;
 use crate::name::name_ok;
@@ -49,10 +50,21 @@ pub fn has_name(payload: &[u8; 1024], name: &[u8], at: u32) -> bool
     requires { at < 16 }
     ensures { result ≡ has_name payload.now name.now at }
 {
-    match name_of(bytes_of(payload, at)) {
-        None => false,
-        Some(found) => found == name,
+    let bytes = bytes_of(payload, at);
+    if !carries_name(bytes, name) {
+        return false;
     }
+    is_entry(bytes)
+}
+
+// Whether the size and the bytes of a name stand in these 64 bytes. Most entries have another name, so this is asked
+// before whether they spell an entry.
+fn carries_name(bytes: &[u8], name: &[u8]) -> bool
+    requires { length bytes.now ≡ 64 }
+    ensures { result ≡ carries_name bytes.now name.now }
+{
+    let size = name.len();
+    size <= 48 && read_u32_at(bytes, 4) as usize == size && &bytes[16..16 + size] == name
 }
 
 /// The first place at or after `from` whose entry has this name; `None` exactly where there is none.
@@ -125,16 +137,29 @@ fn name_of(bytes: &[u8]) -> Option<&[u8]>
     requires { length bytes.now ≡ 64 }
     ensures { copied result ≡ name_of (entry_of bytes.now) }
 {
-    let size = read_u32_at(bytes, 4) as usize;
-    if !has_zeros_after(bytes, size) {
+    if !is_entry(bytes) {
         return None;
     }
-    let name = &bytes[16..16 + size];
-    if has_spelling(read_u32_at(bytes, 0), read_u64_at(bytes, 8), name) {
-        Some(name)
-    } else {
-        None
+    let size = read_u32_at(bytes, 4) as usize;
+    Some(&bytes[16..16 + size])
+}
+
+/// Whether these 64 bytes spell an entry. Those of an empty place, which are zeros, are told by their inode.
+#[inline(never)]
+pub fn is_entry(bytes: &[u8]) -> bool
+    requires { length bytes.now ≡ 64 }
+    ensures value { result ≡ is_some (entry_of bytes.now) }
+    ensures short { IsTrue result → number_at 4 4 bytes.now ≤ longest_name }
+{
+    let inode = read_u32_at(bytes, 0);
+    if inode == 0 {
+        return false;
     }
+    let size = read_u32_at(bytes, 4) as usize;
+    if !has_zeros_after(bytes, size) {
+        return false;
+    }
+    has_spelling(inode, read_u64_at(bytes, 8), &bytes[16..16 + size])
 }
 
 // Whether some bytes spell this entry.
@@ -149,7 +174,24 @@ pub fn has_zeros_after(bytes: &[u8], size: usize) -> bool
     requires { length bytes.now ≡ 64 }
     ensures { result ≡ has_zeros_after bytes.now size }
 {
-    size <= 48 && are_zero(&bytes[16 + size..64])
+    size <= 48 && are_zero_from(bytes, 16 + size)
+}
+
+// Whether the bytes from a place on are zeros. It goes by words of eight bytes, of which the last one overlaps, since
+// most names are short.
+fn are_zero_from(bytes: &[u8], from: usize) -> bool
+    requires len { length bytes.now ≡ 64 }
+    requires place { from ≤ 64 }
+    ensures { result ≡ list_all (λ b. nat_eq b 0) (drop from bytes.now) }
+{
+    if from > 56 {
+        return are_zero(&bytes[from..64]);
+    }
+    let mut all = read_u64_at(bytes, 56) == 0;
+    for word in 0..(64 - from) / 8 {
+        all &= read_u64_at(bytes, from + 8 * word) == 0;
+    }
+    all
 }
 
 fn are_zero(bytes: &[u8]) -> bool

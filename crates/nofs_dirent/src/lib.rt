@@ -9,8 +9,8 @@ mod lists;
 mod name;
 
 pub use entry::{
-    ENTRY_LIMIT, Entry, bytes_of, clear_entry, find_name, has_name, has_zeros_after, read_entry,
-    write_entry,
+    ENTRY_LIMIT, Entry, bytes_of, clear_entry, find_name, has_name, has_zeros_after, is_entry,
+    read_entry, write_entry,
 };
 pub use lists::{Content, ListOf, Name, PathNames};
 pub use name::name_ok;
