@@ -109,7 +109,7 @@ module _ {T E F : Type 0} (entries : T → List E) (fixed : T → F) (f : F) (st
         of_turn = x.of_turn;
         seen = x.seen;
         heard = x.heard;
-        turn = λ has. turn has;
+        turn = turn;
         rising = x.rising;
         mine = x.mine;
         stands = x.stands;
@@ -124,7 +124,7 @@ module _ {T E F : Type 0} (entries : T → List E) (fixed : T → F) (f : F) (st
         taken = r.taken;
         holder = r.holder;
         bit = r.bit;
-        home = λ free. r.home free;
+        home = r.home;
         words = same;
         small = r.small;
         grown = r.grown;
