@@ -29,7 +29,8 @@ use Rattle.nofs_io.specs.Calls.{SinkState}
 use Rattle.nofs_io.specs.Texts.{AppendsAll}
 use Rattle.nofs_shared.specs.Mount.Entries.{AddsStep}
 use Rattle.nofs_serve.specs.Session.{TeamMade}
-use Rattle.nofs_tool.specs.Session.Entries.{has_fault, session_lines}
+use Rattle.nofs_history.specs.Faults.{has_fault}
+use Rattle.nofs_tool.specs.Session.Entries.{session_lines}
 use Rattle.nofs_tool.specs.Session.Serve.{AreSwept}
 use Rattle.nofs_tool.specs.declared.drill.reads.FileRead.{FileRead}
 

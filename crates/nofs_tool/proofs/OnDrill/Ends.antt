@@ -14,7 +14,7 @@ use Rattle.nofs_client.specs.declared.task.lines.Line.{Line}
 use Rattle.nofs_client.specs.Driver.{LinesFollow}
 use Rattle.nofs_shared.specs.Mount.Entries.{AddsStep}
 use Rattle.nofs_serve.specs.Session.{TeamMade, TeamServed}
-use Rattle.nofs_tool.specs.Session.Entries.{has_fault}
+use Rattle.nofs_history.specs.Faults.{has_fault}
 use Rattle.nofs_tool.specs.Session.Whole.{IsWholeScan, ShowsDisk}
 use Rattle.nofs_history.specs.HistoryState.{HistoryState}
 use Rattle.nofs_io.specs.Calls.{SinkState}

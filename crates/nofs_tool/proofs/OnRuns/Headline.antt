@@ -20,7 +20,7 @@ use Rattle.nofs_tool.specs.declared.begin.mounts.Numbers.{Numbers}
 use Rattle.nofs_tool.specs.Begin.Mounts.{IsRaisedFrom}
 use Rattle.nofs_tool.specs.Drill.{IsDrillFollowed}
 use Rattle.nofs_tool.specs.Session.Serve.{FollowsScripts, IsFollowed, IsClosed}
-use Rattle.nofs_tool.specs.Session.Entries.{has_fault}
+use Rattle.nofs_history.specs.Faults.{has_fault}
 use Rattle.nofs_tool.specs.Session.Whole.{Finished, IsMet, IsWholeScan, ShowsDisk}
 use Rattle.nofs_history.specs.Next.{Run}
 use Rattle.nofs_history.specs.World.{World, world_of}

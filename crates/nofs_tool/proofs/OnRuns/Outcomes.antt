@@ -5,7 +5,7 @@ use Rattle.nofs_disk.specs.Disk.{DiskState, Rose}
 use Rattle.nofs_io.specs.Calls.{SinkState}
 use Rattle.nofs_history.specs.HistoryState.{HistoryState}
 use Rattle.nofs_tool.specs.declared.begin.words.Request.TheVariants.{Upgrade}
-use Rattle.nofs_tool.specs.Session.Entries.{has_fault}
+use Rattle.nofs_history.specs.Faults.{has_fault}
 use Rattle.nofs_tool.specs.Session.Whole.{Finished}
 use Rattle.nofs_tool.specs.Runs.Statuses.{KeepsDevice}
 use Rattle.nofs_tool.specs.Runs.Tool.{MountEnds, SessionEnds}

@@ -30,7 +30,7 @@ use Rattle.nofs_shared.specs.Mount.Invariant.{IsMount}
 use Rattle.nofs_state.proofs.OnBooks.Counts.{count-same}
 use Rattle.nofs_tool.specs.Session.Counts.{CountsDisk, CountsMachine, IsCounted, IsScanned, SaysCounts, counts_line}
 use Rattle.nofs_tool.specs.Runs.Says.{Prints}
-use Rattle.nofs_tool.specs.Session.Entries.{has_fault}
+use Rattle.nofs_history.specs.Faults.{has_fault}
 use Rattle.nofs_tool.specs.Session.Serve.{IsSessionRun}
 use Rattle.nofs_tool.specs.Session.Whole.{IsMet, IsWholeScan, ShowsDisk, found_world}
 use Rattle.nofs_tool.proofs.OnRuns.Said.{told-text}

@@ -20,10 +20,9 @@ use Rattle.nofs_history.specs.declared.machine.replies.Reply.TheVariants as repl
 use Rattle.nofs_history.specs.declared.machine.replies.Refusal.{Refusal}
 use Rattle.nofs_history.specs.declared.machine.replies.Refusal.TheVariants as refusal
 use Rattle.nofs_history.specs.Callers.{done_of, is_by, steps_by, made_step}
-use Rattle.nofs_history.specs.Faults.{is_fault}
+use Rattle.nofs_history.specs.Faults.{is_fault, has_fault}
 use Rattle.nofs_shared.specs.Mount.Entries.{AddsStep}
 use Rattle.nofs_workers.specs.Sweep.{Sweeps, see_of}
-use Rattle.nofs_tool.specs.Session.Entries.{has_fault}
 
 -- from W to V the mount was not stopped, nothing known was forgotten, and what these steps examine is known
 pub record GoesOn (W : World) (has : Step → Type 0) (V : World) : Type 0 where

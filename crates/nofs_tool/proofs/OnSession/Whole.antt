@@ -10,7 +10,7 @@ use Rattle.nofs_history.specs.declared.machine.callers.TheConstants.{BLOCK_SWEEP
 use Rattle.nofs_history.specs.Good.{IsGood}
 use Rattle.nofs_history.specs.History.{FilesMatch, NoWriteFault}
 use Rattle.nofs_history.specs.Machine.{is_write_fault}
-use Rattle.nofs_history.specs.Faults.{is_fault}
+use Rattle.nofs_history.specs.Faults.{is_fault, has_fault}
 use Rattle.nofs_history.specs.Next.{Run}
 use Rattle.nofs_history.specs.World.{World, world_of}
 use Rattle.nofs_history.specs.declared.machine.history.Entry1.{Entry1}
@@ -30,7 +30,6 @@ use Rattle.nofs_shared.specs.Mount.Entries.{AddsStep}
 use Rattle.nofs_shared.proofs.OnMount.End.{mount-ends}
 use Rattle.nofs_client.specs.declared.task.commands.Command.{Command}
 use Rattle.nofs_client.specs.declared.task.lines.Line.{Line}
-use Rattle.nofs_tool.specs.Session.Entries.{has_fault}
 use Rattle.nofs_history.specs.declared.machine.steps.ElementKind.TheVariants.{Inode, Block}
 use Rattle.nofs_history.specs.Callers.{steps_by}
 use Rattle.nofs_workers.specs.Sweep.{Sweeps}

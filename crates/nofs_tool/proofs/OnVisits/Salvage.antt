@@ -19,7 +19,7 @@ use Rattle.nofs_history.specs.History.{SameFile}
 use Rattle.nofs_history.specs.Since.{agreed_files}
 use Rattle.nofs_history.specs.HistoryState.{HistoryState}
 use Rattle.nofs_history.specs.Machine.{is_write_fault}
-use Rattle.nofs_history.specs.Faults.{is_fault}
+use Rattle.nofs_history.specs.Faults.{is_fault, has_fault}
 use Rattle.nofs_history.specs.Next.{Run}
 use Rattle.nofs_history.specs.Search.{first_of}
 use Rattle.nofs_history.specs.Steps.{Made}
@@ -35,7 +35,6 @@ use Rattle.nofs_history.specs.Callers.{done_of, is_by, steps_by}
 use Rattle.nofs_client.specs.declared.task.lines.Line.TheVariants as line
 use Rattle.nofs_script.specs.Text.{text_of}
 use Rattle.nofs_shared.specs.Mount.Forms.{Forms}
-use Rattle.nofs_tool.specs.Session.Entries.{has_fault}
 use Rattle.nofs_tool.specs.Runs.Says.{Prints}
 use Rattle.nofs_tool.specs.Session.Whole.{Finished, found_world}
 use Rattle.nofs_tool.specs.Begin.Words.{picks_in}

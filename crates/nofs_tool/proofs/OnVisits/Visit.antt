@@ -12,7 +12,7 @@ use Rattle.nofs_history.specs.declared.machine.replies.Reply.{Reply}
 use Rattle.nofs_history.specs.Callers.{steps_by}
 use Rattle.nofs_shared.specs.Mount.Entries.{AddsStep}
 use Rattle.nofs_serve.specs.Visit.{VisitMade, VisitServed}
-use Rattle.nofs_tool.specs.Session.Entries.{has_fault}
+use Rattle.nofs_history.specs.Faults.{has_fault}
 use Rattle.nofs_tool.specs.Session.Whole.{IsWholeScan, ShowsDisk}
 use Rattle.nofs_serve.proofs.OnTeams.Gathered.{neither}
 use Rattle.nofs_serve.proofs.OnSession.{team-unserved}

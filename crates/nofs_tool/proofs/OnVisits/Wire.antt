@@ -11,7 +11,7 @@ use Rattle.nofs_history.specs.Steps.{Made}
 use Rattle.nofs_history.specs.Callers.{steps_by, made_step}
 use Rattle.nofs_shared.specs.Mount.Invariant.{IsMount}
 use Rattle.nofs_state.specs.declared.books.maps.Books.{Books}
-use Rattle.nofs_tool.specs.Session.Entries.{has_fault}
+use Rattle.nofs_history.specs.Faults.{has_fault}
 use Rattle.nofs_tool.specs.Session.Serve.{IsClosed}
 use Rattle.nofs_tool.specs.Session.Whole.{Finished}
 use Rattle.nofs_wire.specs.Frames.Split.{front_of, rest_of, IsBad, IsCut}

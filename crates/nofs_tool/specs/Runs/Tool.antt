@@ -13,7 +13,8 @@ use Rattle.nofs_tool.specs.declared.begin.words.Request.{Request}
 use Rattle.nofs_tool.specs.declared.begin.words.Request.TheVariants.{New, Run, Scan, Drill, Upgrade, Salvage, Wire}
 use Rattle.nofs_tool.specs.declared.begin.mounts.Numbers.{Numbers}
 use Rattle.nofs_tool.specs.Begin.Mounts.{IsMountRefusal, IsRefusedFormat}
-use Rattle.nofs_tool.specs.Session.Entries.{session_text, has_fault}
+use Rattle.nofs_history.specs.Faults.{has_fault}
+use Rattle.nofs_tool.specs.Session.Entries.{session_text}
 use Rattle.nofs_tool.specs.Begin.Lines.{fixed_line}
 use Rattle.nofs_tool.specs.declared.begin.lines.FixedLine.TheVariants.{Upgraded as UpgradedLine}
 use Rattle.nofs_tool.specs.Drill.{IsDrillDone}

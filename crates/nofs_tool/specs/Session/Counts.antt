@@ -14,7 +14,7 @@ use Rattle.nofs_disk.specs.Disk.{DiskState}
 use Rattle.nofs_io.specs.Calls.{SinkState}
 use Rattle.nofs_io.specs.Texts.{AppendsAll}
 use Rattle.nofs_history.specs.HistoryState.{HistoryState}
-use Rattle.nofs_tool.specs.Session.Entries.{has_fault}
+use Rattle.nofs_history.specs.Faults.{has_fault}
 use Rattle.nofs_tool.specs.Session.Whole.{IsMet, found_world}
 use Rattle.nofs_tool.specs.Runs.Says.{Prints}
 

@@ -1,17 +1,11 @@
 -- What the entries of a history say, and the text of a session by them.
-use Rattle.std.specs.Prelude.{ℕ, ◌+◌, List, [], ◌∷◌, Bool, true, false, if◌then◌else◌, map, ◌++◌, flat_map}
+use Rattle.std.specs.Prelude.{ℕ, ◌+◌, List, [], ◌∷◌, map, ◌++◌, flat_map}
 use Rattle.nofs_history.specs.declared.machine.history.Entry1.{Entry1}
 use Rattle.nofs_history.specs.Callers.{steps_by}
-use Rattle.nofs_history.specs.Faults.{is_fault}
 use Rattle.nofs_client.specs.declared.task.commands.Command.{Command}
 use Rattle.nofs_client.specs.declared.task.lines.Line.{Line}
 use Rattle.nofs_client.specs.Driver.{lines_of, made_reply}
 use Rattle.nofs_script.specs.Text.{text_of}
-
--- the device failed in some step
-abbrev pub has_fault : List Entry1 → Bool
-has_fault [] = false
-has_fault (e ∷ es) = if is_fault e.reply then true else has_fault es
 
 -- the lines of the users from a number on, by the replies in the history
 abbrev pub session_lines : ℕ → List (List Command) → List Entry1 → List Line

@@ -11,7 +11,7 @@ use Rattle.nofs_history.specs.HistoryState.{HistoryState}
 use Rattle.nofs_history.specs.World.{World, uses_block, uses_inode, world_of}
 use Rattle.nofs_shared.specs.Mount.End.{Ends}
 use Rattle.nofs_shared.specs.Mount.Invariant.{IsSoundDisk}
-use Rattle.nofs_tool.specs.Session.Entries.{has_fault}
+use Rattle.nofs_history.specs.Faults.{has_fault}
 
 -- The premises, by the disk that the mount found: it tells what it holds and keeps the model of a device, and each
 -- image that it may leave as the mount begins is one that this file system made. A format leaves such a disk, a run

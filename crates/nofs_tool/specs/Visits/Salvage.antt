@@ -16,7 +16,7 @@ use Rattle.nofs_history.specs.declared.machine.replies.Refusal.TheVariants as re
 use Rattle.nofs_history.specs.Callers.{steps_by}
 use Rattle.nofs_client.specs.declared.task.lines.Line.TheVariants as line
 use Rattle.nofs_script.specs.Text.{text_of}
-use Rattle.nofs_tool.specs.Session.Entries.{has_fault}
+use Rattle.nofs_history.specs.Faults.{has_fault}
 use Rattle.nofs_tool.specs.Session.Whole.{IsMet, found_world}
 use Rattle.nofs_tool.specs.Runs.Says.{Prints}
 use Rattle.nofs_salvage.specs.Walk.Answers.{AreAnswered}

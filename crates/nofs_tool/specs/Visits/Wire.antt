@@ -10,7 +10,7 @@ use Rattle.nofs_history.specs.HistoryState.{HistoryState}
 use Rattle.nofs_history.specs.Steps.{Made}
 use Rattle.nofs_history.specs.declared.machine.steps.Step.{Step}
 use Rattle.nofs_history.specs.Callers.{steps_by, made_step}
-use Rattle.nofs_tool.specs.Session.Entries.{has_fault}
+use Rattle.nofs_history.specs.Faults.{has_fault}
 use Rattle.nofs_wire.specs.Frames.Split.{frames_of}
 use Rattle.nofs_wire.specs.Server.Serve.{Serves}
 use Rattle.nofs_wire.specs.declared.server.serve.WireEnd.{WireEnd}

@@ -7,12 +7,12 @@ ghost use Rattle.nofs_disk.specs.Disk.{Rose};
 ghost use Rattle.nofs_io.specs.Texts.{AppendsAll};
 ghost use Rattle.nofs_tool.specs.Begin.Lines.{cause_line};
 ghost use Rattle.nofs_tool.specs.Begin.Mounts.{status_of as status_in};
-ghost use Rattle.nofs_tool.specs.Session.Entries.{has_fault};
+ghost use Rattle.nofs_history.specs.Faults.{has_fault};
 ghost use Rattle.nofs_tool.specs.Runs.Says.{Prints, PrintsOrNot};
 
 use crate::begin::lines::cause_text;
 use crate::begin::mounts::{Refused, status_of};
-use crate::session::serve::{Ran, has_fault_in};
+use crate::session::serve::Ran;
 use nofs_dirent::Content;
 use nofs_disk::Disk;
 use nofs_history::History;
@@ -120,7 +120,7 @@ pub(crate) fn written<K: Sink, D: Disk>(sink: &mut K, ran: Ran<D>) -> Outcome<D>
     } = ran;
     let status = match text {
         None => 7,
-        Some(text) => status_after(sink, &text, has_fault_in(&history)),
+        Some(text) => status_after(sink, &text, history.has_fault()),
     };
     Outcome {
         status,

@@ -4,13 +4,11 @@
 //! names; the flusher makes no entry, and the program itself the last one, a flush of the whole disk. The text is that
 //! of the session by the replies in the history; there is none where memory was wanting.
 
-ghost use Rattle.std.specs.Prelude.{◌≡◌, ◌≤◌, ◌<◌, ◌++◌, [], None, Some, slice_get, true, false, not, map, flat_map};
+ghost use Rattle.std.specs.Prelude.{◌≡◌, ◌≤◌, ◌++◌, [], true, false, not, map, flat_map};
 ghost use Rattle.std.specs.Prelude.{All, List, vec_len, IfOk, IfSome, OnOk};
 ghost use Rattle.nofs_history.specs.Steps.{is_out_of_memory};
-ghost use Rattle.nofs_history.specs.declared.machine.history.Entry1.{Entry1};
 ghost use Rattle.nofs_history.specs.declared.machine.steps.Step.TheVariants as step;
 ghost use Rattle.nofs_history.specs.declared.machine.replies.Reply.{Reply};
-ghost use Rattle.nofs_history.specs.Faults.{is_fault as is_fault_in};
 ghost use Rattle.nofs_client.specs.Task.Commands.{AreWellFormed};
 ghost use Rattle.nofs_client.specs.declared.task.lines.Line.{Line};
 ghost use Rattle.nofs_script.specs.Session.{IsSession};
@@ -18,7 +16,7 @@ ghost use Rattle.nofs_script.specs.Text.{text_of};
 ghost use Rattle.nofs_serve.specs.Session.{TeamServed};
 ghost use Rattle.nofs_shared.specs.Mount.Entries.{AddsStep};
 ghost use Rattle.nofs_state.specs.declared.books.maps.Counts.{Counts};
-ghost use Rattle.nofs_tool.specs.Session.Entries.{has_fault, session_text};
+ghost use Rattle.nofs_tool.specs.Session.Entries.{session_text};
 ghost use Rattle.nofs_tool.specs.Session.Counts.{IsCounted, counts_line};
 ghost use Rattle.nofs_tool.specs.Session.Serve.{AreSwept, IsClosed, IsFollowed, IsSessionRun};
 ghost use Rattle.nofs_tool.specs.Session.Whole.{Finished};
@@ -27,7 +25,7 @@ use crate::session::counts::counts_text;
 use nofs_client::{Line, LineList};
 use nofs_dirent::Content;
 use nofs_disk::Disk;
-use nofs_history::{Entry1, History, MOST_USERS, PROGRAM, Refusal, Reply, Step};
+use nofs_history::{History, MOST_USERS, PROGRAM, Step};
 use nofs_script::{Session, line_text};
 use nofs_serve::{Plan, Served, Sweeps, WriteOuts, serve};
 use nofs_shared::Mount;
@@ -98,37 +96,6 @@ fn plans_of(alloc: Global, session: Session) -> Result<Vec<Plan<OpenGate>>, Allo
         })?;
     }
     Ok(plans)
-}
-
-fn is_fault(entry: &Entry1) -> bool
-    ensures { result ≡ is_fault_in entry.now.reply }
-{
-    match &entry.reply {
-        Reply::Refused(Refusal::ReadFault) => true,
-        Reply::Refused(Refusal::WriteFault) => true,
-        _ => false,
-    }
-}
-
-fn is_fault_at(history: &History, at: u64) -> bool
-    ensures { (entry : Entry1) → slice_get history.now.entries at ≡ Some entry → result ≡ is_fault_in entry.reply }
-{
-    match history.entry(at) {
-        Some(entry) => is_fault(entry),
-        None => false,
-    }
-}
-
-/// Whether a call of the device failed in some step.
-pub(crate) fn has_fault_in(history: &History) -> bool
-    ensures { result ≡ has_fault history.now.entries }
-{
-    for at in 0..history.len() {
-        if is_fault_at(history, at) {
-            return true;
-        }
-    }
-    false
 }
 
 /// Serves users, each beside the sweeps and the flusher, which writes out as often as the disk has blocks. At a

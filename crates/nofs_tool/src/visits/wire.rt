@@ -18,7 +18,6 @@ ghost use Rattle.nofs_history.specs.Callers.{steps_by};
 
 use crate::begin::mounts::mount;
 use crate::runs::outcomes::{Outcome, refused};
-use crate::session::serve::has_fault_in;
 use crate::visits::visit::visit_and_close;
 use nofs_disk::Disk;
 use nofs_history::{History, Steps};
@@ -170,7 +169,7 @@ fn mounted<R: Threads + Wait + Sync, Q: Source, K: Sink, D: Disk + Drop + Send>(
         end,
         out_of_memory,
     } = run_wire(rt, alloc, source, sink, mount);
-    let status = wire_status(out_of_memory, end, has_fault_in(&history));
+    let status = wire_status(out_of_memory, end, history.has_fault());
     Outcome {
         status,
         disk,

@@ -1,5 +1,5 @@
 use Rattle.std.proofs.Common.{◌≡◌, ◌∙◌, sym, ap}
-use Rattle.nofs_tool.specs.Session.Entries.{has_fault}
+use Rattle.nofs_history.specs.Faults.{has_fault}
 use Rattle.nofs_tool.specs.Visits.Wire.{wire_status}
 use Rattle.nofs_tool.proofs.OnVisits.Wire.{serves-most, short-seven, wire-ends, wire-headline, zero-end}
 use Rattle.nofs_tool.proofs.visits.wire.mounted.Goals as goal
@@ -10,7 +10,7 @@ returns-clause-ends g c =
     let e = c.run_wire-disk.ensures in
     wire-ends (g.D.Disk.state c.args.mount.found.value) (g.D.Disk.state r.disk)
     _ _ _ _ c.args.mount.first c.wire_status-status.result r.out_of_memory r.end r.history
-    (c.wire_status-status.ensures ∙ ap (wire_status r.out_of_memory r.end) c.has_fault_in.ensures) e.served
+    (c.wire_status-status.ensures ∙ ap (wire_status r.out_of_memory r.end) c.has_fault.ensures) e.served
     e.source_fault e.sink_fault e.ends
 
 pub returns-clause-headline : goal.returns-clause-headline
@@ -21,7 +21,7 @@ returns-clause-headline g c =
     let e = c.run_wire-disk.ensures in
     let f = has_fault r.history.entries in
     let is : c.wire_status-status.result ≡ wire_status r.out_of_memory r.end f =
-    c.wire_status-status.ensures ∙ ap (wire_status r.out_of_memory r.end) c.has_fault_in.ensures in
+    c.wire_status-status.ensures ∙ ap (wire_status r.out_of_memory r.end) c.has_fault.ensures in
     wire-headline _ (S m.found.value) (S m.core.disk) (S r.disk)
     m.first c.wire_status-status.result m.core.books r.out_of_memory r.history c.requires.first m.stands
     c.requires.raised e.ends
