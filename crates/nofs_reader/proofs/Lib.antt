@@ -1,6 +1,5 @@
 mod OnDisk
 mod OnReads
-mod OnChain
 mod OnCounts
 mod OnDirectories
 mod OnEntries

@@ -1,58 +1,68 @@
 -- The disk of an image: its reads, and its writes, which are refused.
-use Rattle.std.proofs.Common.{◌≡◌, ℕ, ◌+◌, ◌-◌, ◌<◌, ◌≤◌, List, ◌++◌, length, take, drop, Ok, Err, arith}
-use Rattle.std.proofs.Common.{refl, sym, ap, ◌∙◌, inl}
-use Rattle.std.specs.Prelude.{slice_range}
-use Rattle.std.proofs.Math.Seq.{take-append-add}
-use Rattle.std.proofs.lemmas.List.{drop_all, drop-replicate, length-drop, take-append-le, take-replicate, take_all}
+use Rattle.std.proofs.Common.{◌≡◌, ℕ, zero, suc, ◌+◌, ◌-◌, ◌<◌, ◌≤◌, List, [], ◌++◌, length, take, drop, Ok, Err, arith}
+use Rattle.std.proofs.Common.{refl, sym, ap, ◌∙◌, inl, inr}
+use Rattle.std.specs.Prelude.{slice_index}
+use Rattle.std.proofs.Math.Seq.{get_or-append_right}
+use Rattle.std.proofs.lemmas.Bool.{cases_lt}
+use Rattle.std.proofs.lemmas.List.{drop-replicate, get_or-drop, get_or_append_left, get_or_past, length-append}
+use Rattle.std.proofs.lemmas.List.{length-drop, take_all}
+use Rattle.nofs_disk.specs.CellsOfBytes.{at-cells_in, cell_in, part-is, part_of}
 use Rattle.nofs_disk.specs.declared.tag.Cell.{Cell}
 use Rattle.nofs_disk.specs.Chains.{StaysButFaults-refl}
 use Rattle.nofs_disk.specs.Disk.{Flushes, IsDisk, Reads, Writes}
-use Rattle.nofs_disk.specs.Number.{put_bytes, zeros}
-use Rattle.nofs_reader.specs.Image.{at-image_of, bytes_from, cell_of, image_disk}
+use Rattle.nofs_disk.specs.Number.{length-zeros, put_bytes, zeros}
+use Rattle.nofs_reader.specs.Image.{image_disk}
 
--- bytes that are all there
-pub bytes_inside : (bytes : List ℕ) (at n end : ℕ) → end ≡ at + n → end ≤ length bytes
-    → slice_range bytes at end ≡ bytes_from bytes at n
-unfolding bytes_from
-bytes_inside bytes at n end e fits =
-    let len = length-drop at bytes in
-    ap (λ k. take k (drop at bytes)) (omega (arith, e))
-    ∙ sym (take-append-le n (drop at bytes) (zeros n) (omega (arith, e, fits, len)))
+zeros-at : (n k : ℕ) → slice_index (zeros n) k ≡ 0
+unfolding zeros
+zeros-at zero k = get_or_past [] k 0 (omega arith)
+zeros-at (suc n) zero = refl
+zeros-at (suc n) (suc k) = zeros-at n k
 
--- the last ones, with zeros behind them
-bytes_at_end : (bytes : List ℕ) (at n : ℕ) → at ≤ length bytes → length bytes < at + n
-    → put_bytes 0 (drop at bytes) (zeros n) ≡ bytes_from bytes at n
-unfolding put_bytes bytes_from zeros
-bytes_at_end bytes at n low short =
-    let part : List ℕ = drop at bytes in
-    let len = length-drop at bytes in
-    let whole : length part + (n - length part) ≡ n = omega (arith, len, short) in
-    let rest : drop (0 + length part) (zeros n) ≡ take (n - length part) (zeros n) =
-    drop-replicate (0 + length part) n 0 ∙ ap (λ k. zeros k) (omega arith)
-    ∙ sym (take-replicate (n - length part) n 0 (omega arith)) in
-    ap (λ l. part ++ l) rest
-    ∙ sym (take-append-add part (zeros n) (n - length part))
-    ∙ ap (λ k. take k (part ++ zeros n)) whole
-
-pub bytes_to_end : (bytes into was : List ℕ) (at n : ℕ) → at ≤ length bytes → length bytes < at + n → was ≡ zeros n
-    → into ≡ put_bytes 0 (take (length bytes - at) (drop at bytes)) was → into ≡ bytes_from bytes at n
-bytes_to_end bytes into was at n low short clear put =
-    let len = length-drop at bytes in
-    put ∙ ap (λ l. put_bytes 0 l was) (take_all (length bytes - at) (drop at bytes) (omega (arith, len)))
-    ∙ ap (put_bytes 0 (drop at bytes)) clear ∙ bytes_at_end bytes at n low short
+zeros-behind : (m n : ℕ) → drop m (zeros n) ≡ zeros (n - m)
+unfolding zeros
+zeros-behind m n = drop-replicate m n 0
 
 -- zeros alone, past the end
-pub bytes_past : (bytes : List ℕ) (at n : ℕ) → length bytes ≤ at → zeros n ≡ bytes_from bytes at n
-unfolding bytes_from zeros
-bytes_past bytes at n past =
-    sym (ap (λ l. take n (l ++ zeros n)) (drop_all at bytes past) ∙ take-replicate n n 0 (omega arith))
+pub bytes-past : (bytes : List ℕ) (at n : ℕ) → length bytes ≤ at → zeros n ≡ part_of bytes at n
+bytes-past bytes at n past =
+    sym (part-is bytes (zeros n) at n (length-zeros n) (λ k low.
+    get_or_past bytes (at + k) 0 (omega (arith, past)) ∙ sym (zeros-at n k)))
+
+-- the last ones, with zeros behind them
+bytes-last : (bytes : List ℕ) (at n : ℕ) → at ≤ length bytes → length bytes < at + n
+    → put_bytes 0 (drop at bytes) (zeros n) ≡ part_of bytes at n
+unfolding put_bytes
+bytes-last bytes at n low short =
+    let part : List ℕ = drop at bytes in
+    let len = length-drop at bytes in
+    let behind = zeros-behind (0 + length part) n in
+    let size = length-append part (drop (0 + length part) (zeros n)) in
+    let rest = ap length behind ∙ length-zeros (n - (0 + length part)) in
+    sym (part-is bytes (part ++ drop (0 + length part) (zeros n)) at n (omega (arith, size, rest, len, short))
+    (λ k small. elim (cases_lt k (length part)) [
+      | inl inside ↦
+          sym (get_or_append_left part (drop (0 + length part) (zeros n)) 0 k inside ∙ get_or-drop at bytes k 0)
+      | inr past ↦
+          get_or_past bytes (at + k) 0 (omega (arith, len, past))
+          ∙ sym (get_or-append_right part (drop (0 + length part) (zeros n)) k 0 past
+          ∙ ap (λ l. slice_index l (k - length part)) behind
+          ∙ zeros-at (n - (0 + length part)) (k - length part))
+    ]))
+
+pub bytes-to_end : (bytes into was : List ℕ) (at n : ℕ) → at ≤ length bytes → length bytes < at + n → was ≡ zeros n
+    → into ≡ put_bytes 0 (take (length bytes - at) (drop at bytes)) was → into ≡ part_of bytes at n
+bytes-to_end bytes into was at n low short clear put =
+    let len = length-drop at bytes in
+    put ∙ ap (λ l. put_bytes 0 l was) (take_all (length bytes - at) (drop at bytes) (omega (arith, len)))
+    ∙ ap (put_bytes 0 (drop at bytes)) clear ∙ bytes-last bytes at n low short
 
 -- a read
-pub reads : (bytes : List ℕ) (refused spare block : ℕ) (cell : Cell) → block < 1048576 → cell ≡ cell_of bytes block
+pub reads : (bytes : List ℕ) (refused spare block : ℕ) (cell : Cell) → block < 1048576 → cell ≡ cell_in bytes block
     → Reads (image_disk bytes refused spare) (image_disk bytes refused spare) block cell (Ok tt)
 reads bytes refused spare block cell low is = record {
   stays = StaysButFaults-refl (image_disk bytes refused spare);
-  cell = λ t. is ∙ sym (at-image_of bytes block low);
+  cell = λ t. is ∙ sym (at-cells_in bytes block low);
   cause = tt;
   no_fault = refl;
 }
@@ -84,16 +94,16 @@ pub flushes : (bytes : List ℕ) (refused spare : ℕ) → IsDisk (image_disk by
 flushes bytes refused spare is some = record {
   disk = record { blocks = refl; tells = refl; holds_back = refl; faults = omega arith };
   past = record { was = λ m low. refl; no_more = λ m X low left. left; no_less = λ m X low left. left };
+  during = λ X left. is.at_rest X left;
   moment = omega arith;
   spare = omega arith;
-  now = refl;
+  cause = omega arith;
   may = λ b c low has. has;
+  dirty = λ b has. has;
+  now = refl;
+  err = refl;
   settled = tt;
   was = tt;
   clean = tt;
-  err = refl;
-  dirty = λ b has. has;
-  during = λ X left. is.at_rest X left;
-  cause = omega arith;
   no_fault = tt;
 }

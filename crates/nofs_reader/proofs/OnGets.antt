@@ -133,14 +133,13 @@ pub run-ends : (bytes : List ℕ) (i from most room : ℕ) (kind : RunKind) (int
     → Running bytes i from most room kind into last slots → most ≤ slots
     → IsRun (image_of bytes) i from into (record { kind = kind; slots = most })
 run-ends bytes i from most room kind into last slots run whole =
-    let r = run.range in
     let l = run.low in
     let f = run.fits in
     let e = run.len in
     let s = run.some in
     record {
       some = omega (arith, s, l);
-      range = r;
+      range = run.range;
       fits = omega (arith, f, e);
       each = λ k small. run.each k (omega (arith, small, whole));
     }

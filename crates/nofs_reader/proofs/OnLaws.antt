@@ -69,17 +69,8 @@ paired_by F d e o = elim o [
 
 module _ (X : Image) (d e : ℕ) (it : Entry) (a : agreed (files_in X) d ≡ true)
     (at : entry_at (files_in X) d e ≡ Some it) where
-  abbrev i : ℕ
-  i = it.inode
-
-  abbrev F : Files
-  F = files_in X
-
   abbrev A : Files
   A = agreed_files X
-
-  abbrev link : BackLink
-  link = link_to d e (inode X d).generation
 
   entry-there : entry_at A d e ≡ Some it
   entry-there = ap (λ o. entry_in_file o e) (file-agreed X d a) ∙ at
@@ -89,11 +80,20 @@ module _ (X : Image) (d e : ℕ) (it : Entry) (a : agreed (files_in X) d ≡ tru
       ap (λ (o : Option FileState). elim o [ None ↦ 0 | Some f ↦ f.generation ]) (file-agreed X d a)
       ∙ generation-is X d e it (inode X d).kind at
 
+  abbrev i : ℕ
+  i = it.inode
+
+  abbrev link : BackLink
+  link = link_to d e (inode X d).generation
+
   tested : is_paired A d e ≡ (list_any (λ l. same_link l link) (links_of A i) && is_pair A i link)
   tested =
       ap (paired_by A d e) entry-there
       ∙ (λ j. list_any (λ l. same_link l (link_to d e (generation-there j)) && is_pair A i l) (links_of A i))
       ∙ any_same (λ l. is_pair A i l) link (links_of A i)
+
+  abbrev F : Files
+  F = files_in X
 
   -- the links of a free inode are no pairs
   by-kind : (kind : Option FileKind)

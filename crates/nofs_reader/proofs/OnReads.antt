@@ -1,25 +1,18 @@
 -- The superblock of an image.
-use Rattle.std.proofs.Common.{◌≡◌, Bool, true, false, cond, IsTrue, List, ℕ, Some, None, Result, Ok, Err, IfOk}
+use Rattle.std.proofs.Common.{◌≡◌, true, IsTrue, List, ℕ, Some, Result, Ok, Err, IfOk}
 use Rattle.nofs_disk.specs.Disk.{cell_at}
 use Rattle.nofs_super.specs.declared.superblock.MountFault.{MountFault}
 use Rattle.nofs_super.specs.declared.superblock.SuperBlock.{SuperBlock}
-use Rattle.nofs_super.specs.Super.{CanMount, is_super, super_in, super_of}
+use Rattle.nofs_super.specs.Super.{CanMount, super_of}
+use Rattle.nofs_model.proofs.OnGeometry.Super.{spells}
 use Rattle.nofs_model.specs.Geometry.{Image, super_at}
 use Rattle.nofs_agree.specs.Reads.{IsAt}
 use Rattle.nofs_reader.specs.Image.{disk_of, image_of}
 
 -- its numbers are those in block 0
-numbers-of : (payload : List ℕ) (it : SuperBlock) → super_of payload ≡ Some it → super_in payload ≡ it
-unfolding super_of
-numbers-of payload it e = go (is_super payload) e
-  where
-    go : (b : Bool) → cond b (Some (super_in payload)) None ≡ Some it → super_in payload ≡ it
-    go true h = cc
-    go false h = cc
-
 super-is : (X : Image) (it : SuperBlock) → super_of (cell_at X 0).payload ≡ Some it → super_at X ≡ it
 unfolding super_at
-super-is X it e = numbers-of (cell_at X 0).payload it e
+super-is X it e = (spells (cell_at X 0).payload it e).numbers
 
 pub superblock-at : (bytes : List ℕ) (res : Result SuperBlock MountFault) → IfOk res (CanMount 1048576)
     → IfOk res (λ it. IsTrue true → super_of (cell_at (image_of bytes) 0).payload ≡ Some it)

@@ -9,7 +9,7 @@ use Rattle.nofs_super.specs.Super.{check_super}
 use Rattle.nofs_model.specs.Geometry.{Image, inode}
 use Rattle.nofs_model.specs.Files.{agreed, files_in}
 use Rattle.nofs_agree.specs.Chain.{is_agreed_link}
-use Rattle.nofs_agree.specs.Reads.{KnowsInode}
+use Rattle.nofs_agree.specs.Reads.{KnowsDirectory, KnowsInode}
 use Rattle.nofs_reader.specs.Image.{disk_of, image_of}
 use Rattle.nofs_reader.specs.declared.opened.Opened.{Opened}
 use Rattle.nofs_reader.specs.declared.opened.Unread.{Unread}
@@ -60,9 +60,18 @@ any_unread X i = inode_unread wanted.Any X i
 abbrev pub directory_unread : Image → ℕ → Option Unread
 directory_unread X i = inode_unread wanted.Directories X i
 
+-- the record is that of the inode
+abbrev pub IsKnown : List ℕ → Opened → Type 0
+IsKnown bytes it = KnowsInode (disk_of bytes) it.at it.inode it.record
+
+-- and it is a directory
+abbrev pub IsDirectoryKnown : List ℕ → Opened → Type 0
+IsDirectoryKnown bytes it = KnowsDirectory (disk_of bytes) it.at it.inode it.record.generation it.record
+
 -- an inode that was opened
 pub record IsOpened (bytes : List ℕ) (w : Wanted) (i : ℕ) (it : Opened) : Type 0 where
-  pub known : KnowsInode (disk_of bytes) it.at i it.record
+  pub inode : it.inode ≡ i
+  pub known : IsKnown bytes it
   pub agreed : agreed (files_in (image_of bytes)) i ≡ true
   pub kind : it.record.kind ≡ Some it.kind
   pub wanted : live_unread w it.kind ≡ None

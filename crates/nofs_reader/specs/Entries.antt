@@ -9,10 +9,10 @@ use Rattle.nofs_model.specs.Files.{agreed, entry_at, files_in, is_pair}
 use Rattle.nofs_model.specs.Geometry.{Image, inode}
 use Rattle.nofs_model.specs.Slots.{value}
 use Rattle.nofs_model.specs.declared.image.value.Value.TheVariants.{Lost}
-use Rattle.nofs_reader.specs.declared.entries.Line.{Line}
 use Rattle.nofs_reader.specs.declared.entries.Named.{Named}
 use Rattle.nofs_reader.specs.declared.entries.Stands.{Stands}
 use Rattle.nofs_reader.specs.declared.entries.Stands.TheVariants as stands
+use Rattle.nofs_reader.specs.declared.lists.Line.{Line}
 
 -- the entry that was read
 abbrev pub entry_in : Named → Entry

@@ -1,5 +1,4 @@
 pub mod Image
-pub mod Chain
 pub mod Answers
 pub mod Gets
 pub mod Entries

@@ -3,9 +3,10 @@
 //! Promise: block `b` is the 1,056 bytes from `1056 * b` on, the payload first, with zeros past the end, as of a disk
 //! in a file (docs/FORMAT.md, "Cells"). A read never fails. A write and a flush always do, and each counts
 //! as one fault, so that a call that makes no moment counts none.
-ghost use Rattle.std.specs.Prelude.{◌≡◌, ◌+◌, ◌*◌, ◌^◌, ◌<◌, ◌≤◌, ℕ, IsTrue, length, slice_index};
+ghost use Rattle.std.specs.Prelude.{◌≡◌, ◌+◌, ◌*◌, ◌^◌, ◌<◌, ℕ, IsTrue, length, slice_index};
+ghost use Rattle.nofs_disk.specs.CellsOfBytes.{cell_in, part_of};
 ghost use Rattle.nofs_disk.specs.Number.{zeros};
-ghost use Rattle.nofs_reader.specs.Image.{bytes_from, cell_of, image_of};
+ghost use Rattle.nofs_reader.specs.Image.{image_of};
 
 use nofs_disk::{Cell, Disk, Failed, clear, write_bytes_at};
 use std::alloc::AllocError;
@@ -92,10 +93,10 @@ impl<'a> Disk for ImageDisk<'a> {
 }
 
 // Reads the cell of a block.
-#[tactic(auto, unfolding(crate::specs::Image::cell_of))]
+#[tactic(auto, unfolding(nofs_disk::specs::CellsOfBytes::cell_in))]
 fn read_cell(bytes: &[u8], block: u64, into: &mut Cell)
     requires { block < 1048576 }
-    ensures { into.new ≡ cell_of bytes.now block }
+    ensures { into.new ≡ cell_in bytes.now block }
 {
     let at = 1056 * block as usize;
     read_bytes(bytes, at, &mut into.payload);
@@ -105,7 +106,7 @@ fn read_cell(bytes: &[u8], block: u64, into: &mut Cell)
 // Copies the bytes from a place on, with zeros past the end.
 fn read_bytes(bytes: &[u8], at: usize, into: &mut [u8])
     requires { at + length into.old < 2 ^ 63 }
-    ensures { into.new ≡ bytes_from bytes.now at (length into.old) }
+    ensures { into.new ≡ part_of bytes.now at (length into.old) }
 {
     let end = at + into.len();
     if end <= bytes.len() {
@@ -118,7 +119,7 @@ fn read_bytes(bytes: &[u8], at: usize, into: &mut [u8])
 // Copies what there is from a place on, which is less than is asked for, and zeros behind it.
 fn read_end(bytes: &[u8], at: usize, into: &mut [u8])
     requires { length bytes.now < at + length into.old }
-    ensures { into.new ≡ bytes_from bytes.now at (length into.old) }
+    ensures { into.new ≡ part_of bytes.now at (length into.old) }
 {
     clear(into);
     if at < bytes.len() {

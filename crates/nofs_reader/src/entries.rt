@@ -4,20 +4,20 @@
 //! names it back.
 ghost use Rattle.std.specs.Prelude.{◌≡◌, ◌<◌, ◌≤◌, IfSome, bytes_eq, length, take};
 ghost use Rattle.std.specs.List.{list_any};
-ghost use Rattle.nofs_agree.specs.Reads.{IsLast, KnowsDirectory};
+ghost use Rattle.nofs_agree.specs.Reads.{IsLast};
 ghost use Rattle.nofs_dirent.specs.Entries.{entry_limit, entry_of, entry_with, has_entry_spelling};
+ghost use Rattle.nofs_reader.specs.Answers.{IsDirectoryKnown};
 ghost use Rattle.nofs_reader.specs.Entries.{StandsAt, entry_read, is_same_link, kind_named};
 ghost use Rattle.nofs_reader.specs.Image.{disk_of, image_of};
 
-use crate::chain::is_agreed;
-use crate::pairs::paired_directory;
-use crate::reads::{record, slot};
+use crate::chain::{is_agreed, is_pair};
+use crate::opened::{Opened, slot};
+use crate::reads::record;
 use nofs_agree::{LastRead, PathAnswer};
 use nofs_dirent::{bytes_of, has_zeros_after, name_ok};
 use nofs_disk::{clear, read_u32_at, read_u64_at, write_bytes_at};
-use nofs_inode::{BackLink, FileKind, Record};
+use nofs_inode::{BackLink, FileKind};
 use nofs_model::place_of;
-use nofs_super::SuperBlock;
 
 /// An entry of a directory as its 64 bytes spell it.
 #[derive(Clone, Copy, Debug, PartialEq, Eq)]
@@ -32,16 +32,6 @@ pub struct Named {
     pub name: [u8; 48],
 }
 
-/// An entry of a directory, and what it leads to.
-#[derive(Clone, Copy, Debug, PartialEq, Eq)]
-pub struct Line {
-    /// The place of the entry, counted from 0 over the directory's whole content.
-    pub place: u32,
-    pub named: Named,
-    /// The kind of the inode that it names; `None` where the entry is dead.
-    pub kind: Option<FileKind>,
-}
-
 /// What stands at a place of a directory.
 #[derive(Clone, Copy)]
 pub(crate) enum Stands {
@@ -52,28 +42,14 @@ pub(crate) enum Stands {
 }
 
 /// What stands at a place of a directory.
-pub(crate) fn read_place(
-    bytes: &[u8],
-    at: &SuperBlock,
-    directory: u32,
-    it: &Record,
-    place: u32,
-    last: &mut LastRead,
-) -> Stands
-    requires directory { KnowsDirectory (disk_of bytes.now) at.now directory it.now.generation it.now }
+pub(crate) fn read_place(bytes: &[u8], it: &Opened, place: u32, last: &mut LastRead) -> Stands
+    requires directory { IsDirectoryKnown bytes.now it.now }
     requires place { place < entry_limit }
     requires last { IsLast (disk_of bytes.now) last.old }
-    ensures stands { StandsAt (image_of bytes.now) directory place result }
+    ensures stands { StandsAt (image_of bytes.now) it.now.inode place result }
     ensures last { IsLast (disk_of bytes.now) last.new }
 {
-    match slot(
-        bytes,
-        at,
-        directory,
-        it,
-        place_of(u64::from(place / 16)),
-        last,
-    ) {
+    match slot(bytes, it, place_of(u64::from(place / 16)), last) {
         PathAnswer::Hole => Stands::Nothing,
         PathAnswer::Lost => Stands::Lost,
         PathAnswer::Holds(_) => match spelled(bytes_of(&last.cell.payload, place % 16)) {
@@ -127,27 +103,20 @@ fn copy_name(name: &[u8], into: &mut [u8; 48])
 
 /// The kind of the inode that an entry of a directory names; `None` where the entry is dead: where the inode is not
 /// agreed, or has no back link to the entry that is a pair.
-pub(crate) fn kind_named(
-    bytes: &[u8],
-    at: &SuperBlock,
-    directory: u32,
-    it: &Record,
-    place: u32,
-    inode: u32,
-) -> Option<FileKind>
-    requires { KnowsDirectory (disk_of bytes.now) at.now directory it.now.generation it.now }
-    ensures { result ≡ kind_named (image_of bytes.now) directory place inode }
+pub(crate) fn kind_named(bytes: &[u8], it: &Opened, place: u32, inode: u32) -> Option<FileKind>
+    requires { IsDirectoryKnown bytes.now it.now }
+    ensures { result ≡ kind_named (image_of bytes.now) it.now.inode place inode }
 {
     let link = BackLink {
-        directory,
+        directory: it.inode,
         entry: place,
-        generation: it.generation,
+        generation: it.record.generation,
     };
     let mut last = LastRead::NONE;
-    let found = record(bytes, at, inode, &mut last);
+    let found = record(bytes, &it.at, inode, &mut last);
     if has_link(&found.links, &link)
-        && paired_directory(bytes, at, inode, &found, &link, &mut last).is_some()
-        && is_agreed(bytes, at, inode, &found)
+        && is_pair(bytes, &it.at, inode, &found, &link)
+        && is_agreed(bytes, &it.at, inode)
     {
         found.kind
     } else {

@@ -1,20 +1,17 @@
 //! What the slots of a file hold.
 ghost use Rattle.std.specs.Prelude.{◌≡◌, ◌+◌, ◌*◌, ◌<◌, ◌≤◌, IfOk, IsTrue, OnErr, length, slice_range, take};
-ghost use Rattle.nofs_agree.specs.Reads.{IsLast, KnowsInode};
+ghost use Rattle.nofs_agree.specs.Reads.{IsLast};
 ghost use Rattle.nofs_model.specs.Slots.{value};
 ghost use Rattle.nofs_ptrs.specs.Paths.{slot_limit};
-ghost use Rattle.nofs_reader.specs.Answers.{unread};
+ghost use Rattle.nofs_reader.specs.Answers.{IsKnown, unread};
 ghost use Rattle.nofs_reader.specs.Gets.{IsRun, get_unread, value_as};
 ghost use Rattle.nofs_reader.specs.Image.{disk_of, image_of};
 
-use crate::opened::{Unread, Wanted, open};
-use crate::reads::slot;
+use crate::opened::{Opened, Unread, Wanted, open, slot};
 use nofs_agree::{LastRead, PathAnswer};
 use nofs_disk::write_bytes_at;
-use nofs_inode::Record;
 use nofs_model::place_of;
 use nofs_ptrs::SLOT_LIMIT;
-use nofs_super::SuperBlock;
 
 /// What each slot of a run is.
 #[derive(Clone, Copy, Debug, PartialEq, Eq)]
@@ -56,34 +53,25 @@ pub fn get(bytes: &[u8], inode: u32, from: u64, into: &mut [u8]) -> Result<Run, 
         return Err(Unread::TooLarge);
     }
     match open(bytes, Wanted::Files, inode) {
-        Ok(it) => Ok(read_run(bytes, &it.at, inode, &it.record, from, into)),
+        Ok(it) => Ok(read_run(bytes, &it, from, into)),
         Err(why) => Err(why),
     }
 }
 
 // Reads the run of slots from one on.
-fn read_run(
-    bytes: &[u8],
-    at: &SuperBlock,
-    inode: u32,
-    it: &Record,
-    from: u64,
-    into: &mut [u8],
-) -> Run
-    requires known { KnowsInode (disk_of bytes.now) at.now inode it.now }
+fn read_run(bytes: &[u8], it: &Opened, from: u64, into: &mut [u8]) -> Run
+    requires known { IsKnown bytes.now it.now }
     requires from { from < slot_limit }
     requires room { 1024 ≤ length into.old }
     ensures len { length into.new ≡ length into.old }
-    ensures run { IsRun (image_of bytes.now) inode from into.new result }
+    ensures run { IsRun (image_of bytes.now) it.now.inode from into.new result }
 {
     let most = (into.len() as u64 / 1024).min(SLOT_LIMIT - from);
     let mut last = LastRead::NONE;
-    let kind = read_slot(bytes, at, inode, it, from, 0, into, &mut last);
+    let kind = read_slot(bytes, it, from, 0, into, &mut last);
     for slots in 1..most {
         let next = read_slot(
             bytes,
-            at,
-            inode,
             it,
             from + slots,
             1024 * slots as usize,
@@ -106,25 +94,23 @@ fn is_same(a: RunKind, b: RunKind) -> bool
 // Reads a slot: where it has bytes, they go to a place. What stands before the place stays.
 fn read_slot(
     bytes: &[u8],
-    at: &SuperBlock,
-    inode: u32,
-    it: &Record,
+    it: &Opened,
     number: u64,
     place: usize,
     into: &mut [u8],
     last: &mut LastRead,
 ) -> RunKind
-    requires known { KnowsInode (disk_of bytes.now) at.now inode it.now }
+    requires known { IsKnown bytes.now it.now }
     requires number { number < slot_limit }
     requires room { place + 1024 ≤ length into.old }
     requires last { IsLast (disk_of bytes.now) last.old }
     ensures len { length into.new ≡ length into.old }
     ensures before { take place into.new ≡ take place into.old }
-    ensures value { value (image_of bytes.now) inode number
+    ensures value { value (image_of bytes.now) it.now.inode number
         ≡ value_as result (slice_range into.new place (place + 1024)) }
     ensures last { IsLast (disk_of bytes.now) last.new }
 {
-    match slot(bytes, at, inode, it, place_of(number), last) {
+    match slot(bytes, it, place_of(number), last) {
         PathAnswer::Hole => RunKind::Holes,
         PathAnswer::Lost => RunKind::Lost,
         PathAnswer::Holds(_) => {

@@ -7,10 +7,9 @@
 //! The parts, from the lowest up:
 //!
 //! - `disk`: the bytes as a disk, whose reads never fail and whose writes always do
-//! - `reads`: its superblock, a record, and a slot
-//! - `pairs`, `chain`: whether an inode is agreed. The checks of `nofs_agree` ask for a place for each inode in memory;
-//!   these ask for none
-//! - `opened`: the inode that a call names
+//! - `reads`: its superblock, a record, a block, and what stands in a slot
+//! - `chain`: whether an inode is agreed, and whether a back link is a pair
+//! - `opened`: the inode that a call names, and its slots
 //! - `entries`: an entry of a directory, and whether it is a pair
 //! - `stats`, `gets`, `lists`, `looks`, `usage`: the calls
 //! - `laws`: that a mount of the same image answers the same
@@ -24,16 +23,15 @@ mod laws;
 mod lists;
 mod looks;
 mod opened;
-mod pairs;
 mod reads;
 mod stats;
 mod usage;
 
 pub use disk::ImageDisk;
-pub use entries::{Line, Named};
+pub use entries::Named;
 pub use gets::{Run, RunKind, get};
 pub use laws::{law_entries, law_names};
-pub use lists::{NextLine, next_line};
+pub use lists::{Line, NextLine, next_line};
 pub use looks::{Looked, look};
 pub use opened::Unread;
 pub use reads::superblock;

@@ -1,16 +1,31 @@
-//! The inode that a call names.
+//! The inode that a call names, and its slots.
 //!
-//! Promise: it is agreed, and of the kind that is wanted, or the answer says why it is not.
+//! Promise: it is agreed, and of the kind that is wanted, or the answer says why it is not. Each slot is that of the
+//! image.
 ghost use Rattle.std.specs.Prelude.{◌≡◌, IfOk, Some};
-ghost use Rattle.nofs_agree.specs.Reads.{IsAt};
-ghost use Rattle.nofs_reader.specs.Answers.{IsOpened, agreed_unread, inode_unread, kind_unread, live_unread, unread};
+ghost use Rattle.nofs_agree.specs.Path.{IsCellOf};
+ghost use Rattle.nofs_agree.specs.Reads.{IsAt, IsLast};
+ghost use Rattle.nofs_model.specs.Places.{IsPlace, place_path};
+ghost use Rattle.nofs_model.specs.Slots as slots;
+ghost use Rattle.nofs_reader.specs.Answers.{IsKnown, IsOpened, agreed_unread, inode_unread, kind_unread, live_unread};
+ghost use Rattle.nofs_reader.specs.Answers.{unread};
 ghost use Rattle.nofs_reader.specs.Image.{disk_of, image_of};
 
 use crate::chain::is_agreed;
+use crate::disk::ImageDisk;
 use crate::reads::{record, superblock};
-use nofs_agree::LastRead;
+use nofs_agree::{LastRead, PathAnswer, find_slot};
 use nofs_inode::{FileKind, Record};
+use nofs_model::Place;
 use nofs_super::{MountFault, SuperBlock};
+
+/// What a call may name.
+#[derive(Clone, Copy)]
+pub(crate) enum Wanted {
+    Any,
+    Files,
+    Directories,
+}
 
 /// Why a call has no answer.
 #[derive(Clone, Copy, Debug, PartialEq, Eq)]
@@ -29,18 +44,11 @@ pub enum Unread {
     NoRoom,
 }
 
-/// What a call may name.
-#[derive(Clone, Copy)]
-pub(crate) enum Wanted {
-    Any,
-    Files,
-    Directories,
-}
-
 /// An agreed inode of an image.
 #[derive(Clone, Copy)]
 pub(crate) struct Opened {
     pub at: SuperBlock,
+    pub inode: u32,
     pub record: Record,
     pub kind: FileKind,
 }
@@ -69,11 +77,16 @@ fn open_at(bytes: &[u8], at: SuperBlock, wanted: Wanted, inode: u32) -> Result<O
 {
     let mut last = LastRead::NONE;
     let record = record(bytes, &at, inode, &mut last);
-    if !is_agreed(bytes, &at, inode, &record) {
+    if !is_agreed(bytes, &at, inode) {
         return Err(Unread::NoInode);
     }
     match wanted_kind(wanted, record.kind) {
-        Ok(kind) => Ok(Opened { at, record, kind }),
+        Ok(kind) => Ok(Opened {
+            at,
+            inode,
+            record,
+            kind,
+        }),
         Err(why) => Err(why),
     }
 }
@@ -103,5 +116,21 @@ fn wanted_live(wanted: Wanted, kind: FileKind) -> Result<FileKind, Unread>
             FileKind::File => Err(Unread::NotDirectory),
             FileKind::Directory => Ok(kind),
         },
+    }
+}
+
+/// What stands in the slot at a place of an inode. Where it holds, its block is the one that was read last.
+pub(crate) fn slot(bytes: &[u8], it: &Opened, place: Place, last: &mut LastRead) -> PathAnswer
+    requires known { IsKnown bytes.now it.now }
+    requires place { IsPlace place }
+    requires last { IsLast (disk_of bytes.now) last.old }
+    ensures found { result ≡ slots.find (image_of bytes.now) it.now.inode (place_path place) }
+    ensures cell { IsCellOf (image_of bytes.now) result last.new.cell }
+    ensures last { IsLast (disk_of bytes.now) last.new }
+{
+    let mut disk = ImageDisk::over(bytes);
+    match find_slot(&mut disk, &it.at, it.inode, &it.record, place, last) {
+        Ok(found) => found,
+        Err(_) => PathAnswer::Lost,
     }
 }

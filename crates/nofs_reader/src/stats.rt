@@ -1,15 +1,13 @@
 //! What an inode is.
 ghost use Rattle.std.specs.Prelude.{◌≡◌, IfOk, count_by};
 ghost use Rattle.nofs_agree.specs.Chain.{is_agreed_link};
-ghost use Rattle.nofs_agree.specs.Reads.{KnowsInode};
 ghost use Rattle.nofs_model.specs.Files.{files_in};
-ghost use Rattle.nofs_reader.specs.Answers.{IsStat, any_unread, unread};
-ghost use Rattle.nofs_reader.specs.Image.{disk_of, image_of};
+ghost use Rattle.nofs_reader.specs.Answers.{IsKnown, IsStat, any_unread, unread};
+ghost use Rattle.nofs_reader.specs.Image.{image_of};
 
 use crate::chain::is_agreed_link;
-use crate::opened::{Unread, Wanted, open};
-use nofs_inode::{FileKind, Record};
-use nofs_super::SuperBlock;
+use crate::opened::{Opened, Unread, Wanted, open};
+use nofs_inode::FileKind;
 
 /// A file or directory.
 #[derive(Clone, Copy, Debug, PartialEq, Eq)]
@@ -39,17 +37,19 @@ pub fn stat(bytes: &[u8], inode: u32) -> Result<InodeStat, Unread>
         kind: it.kind,
         generation: it.record.generation,
         size: it.record.size,
-        links: count_links(bytes, &it.at, inode, &it.record),
+        links: count_links(bytes, &it),
     })
 }
 
 // How many back links of an inode are pairs with agreed directories.
-fn count_links(bytes: &[u8], at: &SuperBlock, inode: u32, it: &Record) -> u32
-    requires { KnowsInode (disk_of bytes.now) at.now inode it.now }
-    ensures { result ≡ count_by (λ link. is_agreed_link (files_in (image_of bytes.now)) inode link) it.now.links }
+fn count_links(bytes: &[u8], it: &Opened) -> u32
+    requires { IsKnown bytes.now it.now }
+    ensures { result ≡ count_by (λ link. is_agreed_link (files_in (image_of bytes.now)) it.now.inode link)
+        it.now.record.links }
 {
-    it.links
+    it.record
+        .links
         .iter()
-        .filter(|link| is_agreed_link(bytes, at, inode, it, link))
+        .filter(|link| is_agreed_link(bytes, it, link))
         .count() as u32
 }

@@ -12,13 +12,14 @@ ghost use Rattle.nofs_reader.specs.Image.{disk_of, image_of};
 
 use crate::chain::is_agreed;
 use crate::opened::Unread;
-use crate::reads::{cell, record, slot, superblock};
+use crate::reads::{cell, path, superblock};
 use nofs_agree::{LastRead, PathAnswer};
 use nofs_disk::{Tag, read_tag};
-use nofs_model::{is_slot, place_of};
+use nofs_model::is_slot;
 use nofs_super::SuperBlock;
 
-/// How much of an image is used, by the scan of the definitions. All else is free.
+/// How much of an image is used, by the scan of the definitions. All else is free. C is given it as it stands.
+#[repr(C)]
 #[derive(Clone, Copy, Debug, PartialEq, Eq)]
 pub struct Used {
     /// How many inodes there are.
@@ -51,28 +52,26 @@ pub fn counts(bytes: &[u8]) -> Result<Used, Unread>
     }
 }
 
+#[tactic(auto, using(crate::proofs::OnCounts::count_begins, crate::proofs::OnCounts::count_goes))]
 fn count_inodes(bytes: &[u8], at: &SuperBlock) -> u64
     requires { IsAt (disk_of bytes.now) at.now }
     ensures { result ≡ count_below (is_used_place (image_of bytes.now)) at.now.inodes }
 {
     let mut used = 0;
     for number in 0..at.inodes {
-        if is_used_inode(bytes, at, number as u32 + 1) {
-            used += 1;
-        }
+        used += u64::from(is_used_inode(bytes, at, number as u32 + 1));
     }
     used
 }
 
+#[tactic(auto, using(crate::proofs::OnCounts::count_begins, crate::proofs::OnCounts::count_goes))]
 fn count_blocks(bytes: &[u8], at: &SuperBlock) -> u64
     requires { IsAt (disk_of bytes.now) at.now }
     ensures { result ≡ count_below (owners.is_used_block (image_of bytes.now)) at.now.blocks }
 {
     let mut used = 0;
     for block in 0..at.blocks {
-        if is_used_block(bytes, at, block) {
-            used += 1;
-        }
+        used += u64::from(is_used_block(bytes, at, block));
     }
     used
 }
@@ -84,9 +83,7 @@ fn is_used_inode(bytes: &[u8], at: &SuperBlock, inode: u32) -> bool
     if inode == 1 || inode == 2 {
         return true;
     }
-    let mut last = LastRead::NONE;
-    let it = record(bytes, at, inode, &mut last);
-    is_agreed(bytes, at, inode, &it)
+    is_agreed(bytes, at, inode)
 }
 
 fn is_used_block(bytes: &[u8], at: &SuperBlock, block: u64) -> bool
@@ -123,13 +120,9 @@ fn owns(bytes: &[u8], at: &SuperBlock, tag: &Tag, block: u64) -> bool
     if !is_slot(tag.slot) {
         return false;
     }
-    let mut last = LastRead::NONE;
-    let it = record(bytes, at, tag.inode, &mut last);
-    match slot(bytes, at, tag.inode, &it, place_of(tag.slot), &mut last) {
+    match path(bytes, at, tag.inode, tag.slot) {
         PathAnswer::Hole => false,
         PathAnswer::Lost => false,
-        PathAnswer::Holds(pointer) => {
-            pointer.block == block && is_agreed(bytes, at, tag.inode, &it)
-        }
+        PathAnswer::Holds(pointer) => pointer.block == block && is_agreed(bytes, at, tag.inode),
     }
 }

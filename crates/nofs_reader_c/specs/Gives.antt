@@ -3,32 +3,23 @@ use Rattle.std.specs.Prelude.{◌≡◌, ℕ, List, Ok}
 use Rattle.nofs_super.specs.declared.superblock.SuperBlock.{SuperBlock}
 use Rattle.nofs_model.specs.Geometry.{Image}
 use Rattle.nofs_reader.specs.Answers.{IsStat, superblock_of}
-use Rattle.nofs_reader.specs.Counts.{IsUsed}
 use Rattle.nofs_reader.specs.Directories.{IsLooked, IsNext}
 use Rattle.nofs_reader.specs.Gets.{IsRun}
 use Rattle.nofs_reader.specs.declared.gets.Run.{Run}
 use Rattle.nofs_reader.specs.declared.lists.NextLine.{NextLine}
 use Rattle.nofs_reader.specs.declared.looks.Looked.{Looked}
 use Rattle.nofs_reader.specs.declared.stats.InodeStat.{InodeStat}
-use Rattle.nofs_reader.specs.declared.usage.Used.{Used}
 use Rattle.nofs_reader_c.specs.Outs as outs
 use Rattle.nofs_reader_c.specs.declared.outs.CLine.{CLine}
 use Rattle.nofs_reader_c.specs.declared.outs.CRun.{CRun}
 use Rattle.nofs_reader_c.specs.declared.outs.CStat.{CStat}
 use Rattle.nofs_reader_c.specs.declared.outs.CSuperblock.{CSuperblock}
-use Rattle.nofs_reader_c.specs.declared.outs.CUsed.{CUsed}
 
 -- the superblock of the image
 pub record GivesSuperblock (X : Image) (given : CSuperblock) : Type 0 where
   pub it : SuperBlock
   pub is : superblock_of X ≡ Ok it
   pub out : given ≡ outs.superblock_of it
-
--- how much of it is used
-pub record GivesUsed (X : Image) (given : CUsed) : Type 0 where
-  pub it : Used
-  pub is : IsUsed X it
-  pub out : given ≡ outs.used_of it
 
 -- what the inode is
 pub record GivesStat (X : Image) (i : ℕ) (given : CStat) : Type 0 where

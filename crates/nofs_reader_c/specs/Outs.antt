@@ -4,34 +4,23 @@ use Rattle.nofs_disk.specs.Number.{zeros}
 use Rattle.nofs_inode.specs.declared.inode.FileKind.{FileKind}
 use Rattle.nofs_inode.specs.declared.inode.FileKind.TheVariants as kind
 use Rattle.nofs_super.specs.declared.superblock.SuperBlock.{SuperBlock}
-use Rattle.nofs_reader.specs.declared.entries.Line.{Line}
 use Rattle.nofs_reader.specs.declared.gets.Run.{Run}
 use Rattle.nofs_reader.specs.declared.gets.RunKind.{RunKind}
 use Rattle.nofs_reader.specs.declared.gets.RunKind.TheVariants as run
+use Rattle.nofs_reader.specs.declared.lists.Line.{Line}
 use Rattle.nofs_reader.specs.declared.lists.NextLine.{NextLine}
 use Rattle.nofs_reader.specs.declared.lists.NextLine.TheVariants as next
 use Rattle.nofs_reader.specs.declared.looks.Looked.{Looked}
 use Rattle.nofs_reader.specs.declared.looks.Looked.TheVariants as looked
 use Rattle.nofs_reader.specs.declared.stats.InodeStat.{InodeStat}
-use Rattle.nofs_reader.specs.declared.usage.Used.{Used}
 use Rattle.nofs_reader_c.specs.declared.outs.CLine.{CLine}
 use Rattle.nofs_reader_c.specs.declared.outs.CRun.{CRun}
 use Rattle.nofs_reader_c.specs.declared.outs.CStat.{CStat}
 use Rattle.nofs_reader_c.specs.declared.outs.CSuperblock.{CSuperblock}
-use Rattle.nofs_reader_c.specs.declared.outs.CUsed.{CUsed}
 
 -- the numbers of an image
 abbrev pub superblock_of : SuperBlock → CSuperblock
 superblock_of it = record { version = it.version; blocks = it.blocks; inodes = it.inodes; mount = it.mount }
-
--- how much of it is used
-abbrev pub used_of : Used → CUsed
-used_of it = record {
-  inodes = it.inodes;
-  used_inodes = it.used_inodes;
-  blocks = it.blocks;
-  used_blocks = it.used_blocks;
-}
 
 -- 1 is a file, 2 a directory
 abbrev pub kind_number : FileKind → ℕ

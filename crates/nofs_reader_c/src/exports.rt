@@ -4,24 +4,24 @@
 //! `specs/Codes.antt` numbers the causes; then what `out` points to is unchanged.
 ghost use Rattle.std.specs.Prelude.{◌≡◌, ◌≤◌, None, length};
 ghost use Rattle.nofs_reader.specs.Answers.{any_unread, directory_unread, image_unread, superblock_of};
+ghost use Rattle.nofs_reader.specs.Counts.{IsUsed};
 ghost use Rattle.nofs_reader.specs.Gets.{get_unread};
 ghost use Rattle.nofs_reader.specs.Image.{image_of};
 ghost use Rattle.nofs_reader_c.specs.Codes.{code_of};
-ghost use Rattle.nofs_reader_c.specs.Gives.{GivesLooked, GivesNext, GivesRun, GivesStat, GivesSuperblock, GivesUsed};
+ghost use Rattle.nofs_reader_c.specs.Gives.{GivesLooked, GivesNext, GivesRun, GivesStat, GivesSuperblock};
 
 use crate::codes::{fault_code, unread_code};
 use crate::outs::{
-    CLine, CRun, CStat, CSuperblock, CUsed, looked_of, next_of, run_of, stat_of, superblock_of,
-    used_of,
+    CLine, CRun, CStat, CSuperblock, looked_of, next_of, run_of, stat_of, superblock_of,
 };
-use nofs_reader::{counts, get, look, next_line, stat, superblock};
+use nofs_reader::{Used, counts, get, look, next_line, stat, superblock};
 
 /// The numbers of the superblock of an image.
 #[unsafe(no_mangle)]
 pub extern "C" fn nofs_reader_superblock(image: &[u8], out: &mut CSuperblock) -> u32
     ensures code { result ≡ code_of (image_unread (superblock_of (image_of image.now)) None) }
-    ensures given { result ≡ 0 → GivesSuperblock (image_of image.now) out.new }
     ensures unchanged { 1 ≤ result → out.new ≡ out.old }
+    ensures given { result ≡ 0 → GivesSuperblock (image_of image.now) out.new }
 {
     match superblock(image) {
         Ok(it) => {
@@ -34,14 +34,14 @@ pub extern "C" fn nofs_reader_superblock(image: &[u8], out: &mut CSuperblock) ->
 
 /// How many inodes and blocks of an image are used.
 #[unsafe(no_mangle)]
-pub extern "C" fn nofs_reader_counts(image: &[u8], out: &mut CUsed) -> u32
+pub extern "C" fn nofs_reader_counts(image: &[u8], out: &mut Used) -> u32
     ensures code { result ≡ code_of (image_unread (superblock_of (image_of image.now)) None) }
-    ensures given { result ≡ 0 → GivesUsed (image_of image.now) out.new }
+    ensures given { result ≡ 0 → IsUsed (image_of image.now) out.new }
     ensures unchanged { 1 ≤ result → out.new ≡ out.old }
 {
     match counts(image) {
         Ok(it) => {
-            *out = used_of(&it);
+            *out = it;
             0
         }
         Err(why) => unread_code(why),

@@ -12,4 +12,4 @@ pub use exports::{
     nofs_reader_counts, nofs_reader_get, nofs_reader_look, nofs_reader_next, nofs_reader_stat,
     nofs_reader_superblock,
 };
-pub use outs::{CLine, CRun, CStat, CSuperblock, CUsed};
+pub use outs::{CLine, CRun, CStat, CSuperblock};

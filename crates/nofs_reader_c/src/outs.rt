@@ -1,13 +1,13 @@
-//! Answers as structs of C.
+//! Answers as structs of C, but for how much is used, which is given as it is.
 //!
 //! Promise: each has the fields of the answer of `nofs_reader` that it is made of.
 ghost use Rattle.std.specs.Prelude.{◌≡◌};
 ghost use Rattle.nofs_reader_c.specs.Outs.{HasPlace, bare_line, kind_number, last_beside, line_of, looked_of, next_of};
-ghost use Rattle.nofs_reader_c.specs.Outs.{run_kind_number, run_of, stat_of, superblock_of, used_of};
+ghost use Rattle.nofs_reader_c.specs.Outs.{run_kind_number, run_of, stat_of, superblock_of};
 
 use nofs_disk::clear;
 use nofs_inode::FileKind;
-use nofs_reader::{InodeStat, Line, Looked, NextLine, Run, RunKind, Used};
+use nofs_reader::{InodeStat, Line, Looked, NextLine, Run, RunKind};
 use nofs_super::SuperBlock;
 
 /// The numbers of an image.
@@ -18,16 +18,6 @@ pub struct CSuperblock {
     pub blocks: u64,
     pub inodes: u64,
     pub mount: u64,
-}
-
-/// How much of an image is used.
-#[repr(C)]
-#[derive(Clone, Copy)]
-pub struct CUsed {
-    pub inodes: u64,
-    pub used_inodes: u64,
-    pub blocks: u64,
-    pub used_blocks: u64,
 }
 
 /// A file or directory.
@@ -76,17 +66,6 @@ pub(crate) fn superblock_of(it: &SuperBlock) -> CSuperblock
     }
 }
 
-pub(crate) fn used_of(it: &Used) -> CUsed
-    ensures { result ≡ used_of it.now }
-{
-    CUsed {
-        inodes: it.inodes,
-        used_inodes: it.used_inodes,
-        blocks: it.blocks,
-        used_blocks: it.used_blocks,
-    }
-}
-
 fn kind_number(kind: FileKind) -> u32
     ensures { result ≡ kind_number kind }
 {
@@ -100,10 +79,10 @@ pub(crate) fn stat_of(it: &InodeStat) -> CStat
     ensures { result ≡ stat_of it.now }
 {
     CStat {
-        kind: kind_number(it.kind),
         links: it.links,
         generation: it.generation,
         size: it.size,
+        kind: kind_number(it.kind),
     }
 }
 

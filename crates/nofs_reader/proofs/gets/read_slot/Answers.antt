@@ -10,6 +10,6 @@ returns-in-Holds-clause-before c =
 
 pub returns-in-Holds-clause-value : goal.returns-in-Holds-clause-value
 returns-in-Holds-clause-value c =
-    slot-value (image_of c.args.bytes.now) c.args.inode c.args.number _ c.in-Holds.field-0 c.slot.new.last.cell
+    slot-value (image_of c.args.bytes.now) c.args.it.now.inode c.args.number _ c.in-Holds.field-0 c.slot.new.last.cell
     c.args.into.now c.write_bytes_at.new.bytes c.args.place c.in-Holds.ensures.found c.place_of.ensures.path
     c.in-Holds.ensures.cell c.note_sizes.ensures c.requires.room c.write_bytes_at.ensures

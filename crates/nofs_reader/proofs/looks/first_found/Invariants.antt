@@ -4,4 +4,4 @@ use Rattle.nofs_reader.proofs.OnDirectories.{Looking}
 use Rattle.nofs_reader.proofs.looks.first_found.Given as goal
 
 abbrev pub invariant-loop-place : goal.invariant-loop-place
-invariant-loop-place l = Looking l.bytes l.last (is_found_at (image_of l.bytes) l.directory l.name) l.place
+invariant-loop-place l = Looking l.bytes l.last (is_found_at (image_of l.bytes) l.it.inode l.name) l.place

@@ -4,4 +4,4 @@ use Rattle.nofs_reader.proofs.OnDirectories.{Looking}
 use Rattle.nofs_reader.proofs.looks.first_lost.Given as goal
 
 abbrev pub invariant-loop-slot : goal.invariant-loop-slot
-invariant-loop-slot l = Looking l.bytes l.last (is_lost_at (image_of l.bytes) l.directory) l.slot
+invariant-loop-slot l = Looking l.bytes l.last (is_lost_at (image_of l.bytes) l.it.inode) l.slot
