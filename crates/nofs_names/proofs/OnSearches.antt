@@ -2,6 +2,7 @@
 pub mod Entries
 pub mod PairTests
 pub mod Progress
+pub mod Holes
 pub mod Loops
 pub mod Directories
 pub mod HeldSlots

@@ -1,6 +1,6 @@
 -- What was found for a Link lies in its directory, and stands after more reads.
 use Rattle.std.proofs.Common.{◌≡◌, ℕ, zero, suc, ◌+◌, ◌<◌, Bool, true, false, cond, List, ◌++◌}
-use Rattle.std.proofs.Common.{Option, Some, None, IsTrue, sym, ◌∙◌, subst, arith}
+use Rattle.std.proofs.Common.{Option, Some, None, IsTrue, refl, sym, ◌∙◌, subst, arith}
 use Rattle.std.specs.Prelude.{IfSome}
 use Rattle.nofs_dirent.specs.Entries.{entry_limit}
 use Rattle.nofs_disk.specs.Disk.{DiskState, StaysButFaults}
@@ -40,10 +40,11 @@ inside : (test : ℕ → Bool) (n : ℕ) (o : Option ℕ) → least_from test 0 
 inside test n None h = tt
 inside test n (Some e) h = let l = least-in test 0 n e h in omega (arith, l)
 
-pub passed-inside : (F : Files) (d : ℕ) (name : List ℕ) (u : Unfound) → Passed F d name entry_limit 72 u → LiesInside u
+pub passed-inside : (F : Files) (d : ℕ) (name : List ℕ) (u : Unfound) → Passed F d name true entry_limit 72 u
+    → LiesInside u
 passed-inside F d name u p = record {
   dead = inside _ entry_limit u.dead p.dead;
-  empty = inside _ entry_limit u.empty p.empty;
+  empty = inside _ entry_limit u.empty (p.empty refl);
   hole =
       inside _ 72 u.hole p.hole;
 }

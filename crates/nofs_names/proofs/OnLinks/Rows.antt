@@ -181,7 +181,7 @@ module _ (old : DiskState) (k : Books) (d g : ℕ) (name : List ℕ) (i of : ℕ
       module _ (mid : DiskState) (names records : LastRead) (u : Unfound)
           (none : FindsNone old mid d name names records (Ok u)) where
         passed : IsTrue old.tells → (H : List Entry1) (p : Past) → IsOpen old k H p
-            → Passed p.world.files d name entry_limit 72 u
+            → Passed p.world.files d name true entry_limit 72 u
         passed t H p o = none.seen t (there-d t H p o) p.world.files (open-files old k H p o)
 
         lead-many : Leads old k (step.Link d g name i of)

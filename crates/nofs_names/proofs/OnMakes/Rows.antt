@@ -73,10 +73,11 @@ some-test : (n : ℕ) → 1 ≤ n → eqb n 0 ≡ false
 some-test n h = grind (arith, nat_tests)
 
 -- what was seen of a directory lies in it
-pub passed-inside : (F : Files) (d : ℕ) (name : List ℕ) (u : Unfound) → Passed F d name entry_limit 72 u → LiesInside u
+pub passed-inside : (F : Files) (d : ℕ) (name : List ℕ) (u : Unfound) → Passed F d name true entry_limit 72 u
+    → LiesInside u
 passed-inside F d name u p = record {
   dead = bound _ entry_limit u.dead p.dead;
-  empty = bound _ entry_limit u.empty p.empty;
+  empty = bound _ entry_limit u.empty (p.empty refl);
   hole = bound _ 72 u.hole p.hole;
 }
   where
@@ -139,9 +140,9 @@ module _ (old : DiskState) (k : Books) (d g : ℕ) (name : List ℕ) (kind : Fil
         stays = StaysButFaults-trans old mid new opens.stays none.stays
 
         passed : IsTrue old.tells → (H : List Entry1) (p : Past) → IsOpen old k H p
-            → Passed p.world.files d name entry_limit 72 u
+            → Passed p.world.files d name true entry_limit 72 u
         passed t H p o = subst (λ (X : Image). IsThere d X → FilesMatch p.world.files X
-            → Passed p.world.files d name entry_limit 72 u) opens.stays.cells.now
+            → Passed p.world.files d name true entry_limit 72 u) opens.stays.cells.now
             (λ b m. none.seen (told-on old mid opens.stays t) b p.world.files m)
             (opens.there t (are-agreed old k H p safe o)) (open-files old k H p o)
 

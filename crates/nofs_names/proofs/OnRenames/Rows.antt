@@ -121,8 +121,8 @@ module _ (old : DiskState) (k : Books) (d g : ℕ) (name other : List ℕ) (is :
               let told : IsTrue old.tells = subst (λ (b : Bool). IsTrue b) stays.disk.tells t in
               let before : IsOpen old k H p = open-back old end (reads-keep old end stays) k H p o in
               let a = opens.there told (are-agreed old k H p safe before) in
-              let passed : Passed p.world.files d other entry_limit 72 u =
+              let passed : Passed p.world.files d other true entry_limit 72 u =
               subst (λ (X : Image). IsThere d X → FilesMatch p.world.files X
-              → Passed p.world.files d other entry_limit 72 u) to-new.cells.now
+              → Passed p.world.files d other true entry_limit 72 u) to-new.cells.now
               (λ b m. none.seen (told-on old new to-new told) b p.world.files m) a (open-files old k H p before) in
               to-exists told H p before V ∙ (let n = exists-none p.world d other u passed in rw n refl)

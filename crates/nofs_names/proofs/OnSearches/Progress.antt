@@ -1,6 +1,6 @@
 -- How a search of a directory goes on, place by place and slot by slot.
 use Rattle.std.proofs.Common.{◌≡◌, ℕ, ◌+◌, ◌*◌, ◌/◌, ◌%◌, ◌<◌, ◌≤◌, Bool, true, false, cond, ltb, ◌&&◌, not, List}
-use Rattle.std.proofs.Common.{Option, Some, None, is_some, refl, sym, ap, ◌∙◌, subst, arith, lt-ltb}
+use Rattle.std.proofs.Common.{Option, Some, None, is_some, IsTrue, refl, sym, ap, ◌∙◌, subst, arith, lt-ltb}
 use Rattle.std.specs.Prelude.{bytes_eq}
 use Rattle.std.proofs.lemmas.Slice.Eq.{bytes_eq-Decides}
 use Rattle.nofs_dirent.specs.Entries.{entry_limit, entry_in}
@@ -20,28 +20,13 @@ use Rattle.nofs_history.specs.Machine.{link_to}
 use Rattle.nofs_history.specs.History.{FilesMatch}
 use Rattle.nofs_crashlaw.proofs.OnUntouched.Matches.{matched-agreed}
 use Rattle.nofs_state.proofs.OnBooks.Machine.{agreed-live}
-use Rattle.nofs_names.specs.Searches.Slots.{first_or, where_true, named_in, paired_kind, IsNamed, IsSeen, finds}
+use Rattle.nofs_names.specs.Searches.Slots.{first_or, other_seen, where_true, named_in, paired_kind, IsNamed, finds}
 use Rattle.nofs_names.specs.Searches.Slots.{is_dead, is_empty, is_lost_slot, is_hole_slot, Passed, IsFoundEntry}
 use Rattle.nofs_names.specs.declared.searches.entries.Named.{Named}
 use Rattle.nofs_names.specs.declared.searches.slots.Paired.{Paired}
 use Rattle.nofs_names.specs.declared.searches.slots.Unfound.{Unfound}
-use Rattle.nofs_names.specs.declared.searches.slots.Seen.{Seen}
-use Rattle.nofs_names.specs.declared.searches.slots.Seen.TheVariants as seen
 use Rattle.nofs_names.proofs.OnEntries.Least.{least-next, least-skip, least-found, or-none}
 use Rattle.nofs_names.proofs.OnSearches.PairTests.{dir-folder, named_by, paired-is, paired-agreed}
-
--- what is kept of a place
-abbrev pub noted : Unfound → ℕ → Seen → Unfound
-noted v e seen.Empty = record v { empty = first_or v.empty (Some e) }
-noted v e seen.Other = v
-noted v e seen.Dead = record v { dead = first_or v.dead (Some e) }
-noted v e (seen.Found p) = v
-
-abbrev pub is_found : Seen → Bool
-is_found seen.Empty = false
-is_found seen.Other = false
-is_found seen.Dead = false
-is_found (seen.Found p) = true
 
 abbrev name_test : List ℕ → Option Entry → Bool
 name_test name o = elim o [ None ↦ false | Some entry ↦ bytes_eq entry.name name ]
@@ -58,41 +43,28 @@ cell-name payload name place = refl
 abbrev value_in_file : ℕ → Option FileState → Value
 value_in_file k o = elim o [ None ↦ Hole | Some f ↦ f.values k ]
 
--- one more entry was tested
-one-more : (F : Files) (d : ℕ) (name : List ℕ) (n k : ℕ) (v : Unfound) → Passed F d name n k v
-    → finds F d name n ≡ false
-    → Passed F d name (n + 1) k (record v {
-      dead = first_or v.dead (where_true (is_dead F d name n) n);
-      empty =
-          first_or v.empty (where_true (is_empty F d n) n);
-    })
-one-more F d name n k v p nope = record {
+-- one more entry was tested, which is no pair
+one-as : (F : Files) (d : ℕ) (name : List ℕ) (w : Bool) (n k : ℕ) (v : Unfound) (dead : Bool) (empty : Option ℕ)
+    → Passed F d name w n k v → finds F d name n ≡ false → is_dead F d name n ≡ dead
+    → (IsTrue w → first_or v.empty (where_true (is_empty F d n) n) ≡ empty)
+    → Passed F d name w (n + 1) k (record v { dead = first_or v.dead (where_true dead n); empty = empty })
+one-as F d name w n k v dead empty p nope ed ee = record {
   none = least-next (finds F d name) n ∙ (λ j. first_or (p.none j) (where_true (nope j) n));
-  dead = least-next (is_dead F d name) n ∙ ap (λ (o : Option ℕ). first_or o (where_true (is_dead F d name n) n)) p.dead;
-  empty = least-next (is_empty F d) n ∙ ap (λ (o : Option ℕ). first_or o (where_true (is_empty F d n) n)) p.empty;
+  dead = least-next (is_dead F d name) n ∙ (λ j. first_or (p.dead j) (where_true (ed j) n));
+  empty = λ t. least-next (is_empty F d) n
+      ∙ ap (λ (o : Option ℕ). first_or o (where_true (is_empty F d n) n)) (p.empty t) ∙ ee t;
   lost = p.lost;
   hole = p.hole;
 }
 
-one-as : (F : Files) (d : ℕ) (name : List ℕ) (n k : ℕ) (v : Unfound) (dead empty : Bool) → Passed F d name n k v
-    → finds F d name n ≡ false
-    → is_dead F d name n ≡ dead → is_empty F d n ≡ empty
-    → Passed F d name (n + 1) k
-    (record v { dead = first_or v.dead (where_true dead n); empty = first_or v.empty (where_true empty n) })
-one-as F d name n k v dead empty p nope ed ee =
-    subst (λ (w : Unfound). Passed F d name (n + 1) k w) (λ j. record v {
-      dead = first_or v.dead (where_true (ed j) n);
-      empty =
-          first_or v.empty (where_true (ee j) n);
-    }) (one-more F d name n k v p nope)
-
 -- one more slot was tested
-slot-as : (F : Files) (d : ℕ) (name : List ℕ) (n k : ℕ) (v : Unfound) (lost hole : Bool) → Passed F d name n k v
+slot-as : (F : Files) (d : ℕ) (name : List ℕ) (w : Bool) (n k : ℕ) (v : Unfound) (lost hole : Bool)
+    → Passed F d name w n k v
     → is_lost_slot F d k ≡ lost
     → is_hole_slot F d k ≡ hole
-    → Passed F d name n (k + 1)
+    → Passed F d name w n (k + 1)
     (record v { lost = first_or v.lost (where_true lost k); hole = first_or v.hole (where_true hole k) })
-slot-as F d name n k v lost hole p el eh = record {
+slot-as F d name w n k v lost hole p el eh = record {
   none = p.none;
   dead = p.dead;
   empty = p.empty;
@@ -101,9 +73,10 @@ slot-as F d name n k v lost hole p el eh = record {
 }
 
 -- the entries of a slot without bytes
-skipped : (F : Files) (d : ℕ) (name : List ℕ) (k : ℕ) (v : Unfound) → ((e : ℕ) → e / 16 ≡ k → entry_at F d e ≡ None)
-    → is_bytes (machine.value_of F d k) ≡ false → Passed F d name (16 * k) k v → Passed F d name (16 * (k + 1)) k v
-skipped F d name k v none no_bytes p =
+skipped : (F : Files) (d : ℕ) (name : List ℕ) (w : Bool) (k : ℕ) (v : Unfound)
+    → ((e : ℕ) → e / 16 ≡ k → entry_at F d e ≡ None) → is_bytes (machine.value_of F d k) ≡ false
+    → Passed F d name w (16 * k) k v → Passed F d name w (16 * (k + 1)) k v
+skipped F d name w k v none no_bytes p =
     let size : 16 * (k + 1) ≡ 16 * k + 16 = omega arith in
     let quiet : (e : ℕ) → 16 * k ≤ e → e < 16 * k + 16 → machine.entry_has_name F d name e ≡ false =
     λ e low high. ap (name_test name) (none e (omega (arith, low, high))) in
@@ -116,7 +89,8 @@ skipped F d name k v none no_bytes p =
       dead = (λ j. least_from (is_dead F d name) 0 (size j))
           ∙ least-skip (is_dead F d name) (16 * k) 16
           (λ e low high. (λ j. quiet e low high j && not (machine.is_paired F d e))) ∙ p.dead;
-      empty = (λ j. least_from (is_empty F d) 0 (size j)) ∙ least-skip (is_empty F d) (16 * k) 16 vacant ∙ p.empty;
+      empty = λ t. (λ j. least_from (is_empty F d) 0 (size j)) ∙ least-skip (is_empty F d) (16 * k) 16 vacant
+          ∙ p.empty t;
       lost = p.lost;
       hole = p.hole;
     }
@@ -139,32 +113,34 @@ module _ (F : Files) (X : Image) (d : ℕ) (dr : Record) (match : FilesMatch F X
       let w : m.file.values (e / 16) ≡ v = ap m.file.values at ∙ m.values k (omega (arith, low)) ∙ ev in
       ap (λ (o : Option FileState). entry_in_file o e) m.is ∙ (λ j. cond (t j) (entry_held (w j) e) None)
 
-  pub ends-bytes : (n k : ℕ) (payload name : List ℕ) (v : Unfound) → k < 72 → value X d k ≡ Bytes payload
-      → Passed F d name n k v → Passed F d name n (k + 1) v
-  ends-bytes n k payload name v low b p =
+  pub ends-bytes : (n k : ℕ) (payload name : List ℕ) (w : Bool) (v : Unfound) → k < 72 → value X d k ≡ Bytes payload
+      → Passed F d name w n k v → Passed F d name w n (k + 1) v
+  ends-bytes n k payload name w v low b p =
       let e = value-at k (Bytes payload) low b in
-      subst (λ (w : Unfound). Passed F d name n (k + 1) w)
+      subst (λ (u : Unfound). Passed F d name w n (k + 1) u)
       (λ j. record v { lost = or-none v.lost j; hole = or-none v.hole j })
-      (slot-as F d name n k v false false p (ap machine.is_lost e) (ap machine.is_hole e))
+      (slot-as F d name w n k v false false p (ap machine.is_lost e) (ap machine.is_hole e))
 
-  pub ends-hole : (k : ℕ) (name : List ℕ) (v : Unfound) → k < 72 → value X d k ≡ Hole → Passed F d name (16 * k) k v
-      → Passed F d name (16 * (k + 1)) (k + 1) (record v { hole = first_or v.hole (Some k) })
-  ends-hole k name v low b p =
+  pub ends-hole : (k : ℕ) (name : List ℕ) (w : Bool) (v : Unfound) → k < 72 → value X d k ≡ Hole
+      → Passed F d name w (16 * k) k v
+      → Passed F d name w (16 * (k + 1)) (k + 1) (record v { hole = first_or v.hole (Some k) })
+  ends-hole k name w v low b p =
       let e = value-at k Hole low b in
-      subst (λ (o : Option ℕ). Passed F d name (16 * (k + 1)) (k + 1)
+      subst (λ (o : Option ℕ). Passed F d name w (16 * (k + 1)) (k + 1)
       (record v { lost = o; hole = first_or v.hole (Some k) })) (or-none v.lost)
-      (slot-as F d name (16 * (k + 1)) k v false true
-      (skipped F d name k v (λ n at. held-at n k Hole low at b) (ap is_bytes e) p) (ap machine.is_lost e)
+      (slot-as F d name w (16 * (k + 1)) k v false true
+      (skipped F d name w k v (λ n at. held-at n k Hole low at b) (ap is_bytes e) p) (ap machine.is_lost e)
       (ap machine.is_hole e))
 
-  pub ends-lost : (k : ℕ) (name : List ℕ) (v : Unfound) → k < 72 → value X d k ≡ Lost → Passed F d name (16 * k) k v
-      → Passed F d name (16 * (k + 1)) (k + 1) (record v { lost = first_or v.lost (Some k) })
-  ends-lost k name v low b p =
+  pub ends-lost : (k : ℕ) (name : List ℕ) (w : Bool) (v : Unfound) → k < 72 → value X d k ≡ Lost
+      → Passed F d name w (16 * k) k v
+      → Passed F d name w (16 * (k + 1)) (k + 1) (record v { lost = first_or v.lost (Some k) })
+  ends-lost k name w v low b p =
       let e = value-at k Lost low b in
-      subst (λ (o : Option ℕ). Passed F d name (16 * (k + 1)) (k + 1)
+      subst (λ (o : Option ℕ). Passed F d name w (16 * (k + 1)) (k + 1)
       (record v { lost = first_or v.lost (Some k); hole = o })) (or-none v.hole)
-      (slot-as F d name (16 * (k + 1)) k v true false
-      (skipped F d name k v (λ n at. held-at n k Lost low at b) (ap is_bytes e) p) (ap machine.is_lost e)
+      (slot-as F d name w (16 * (k + 1)) k v true false
+      (skipped F d name w k v (λ n at. held-at n k Lost low at b) (ap is_bytes e) p) (ap machine.is_lost e)
       (ap machine.is_hole e))
 
   -- In a slot that holds
@@ -190,9 +166,9 @@ module _ (F : Files) (X : Image) (d : ℕ) (dr : Record) (match : FilesMatch F X
     named-by (Some it) named en = (it, refl, sym (cc en))
 
     -- what was seen of the place says whether it is a pair
-    paired-as : (s : Seen) (named : Named) → named_in (entry_in payload place) ≡ Some named
+    paired-as : (s : Option Paired) (named : Named) → named_in (entry_in payload place) ≡ Some named
         → IsNamed X (link_to d e dr.generation) named s
-        → machine.is_paired F d e ≡ is_found s
+        → machine.is_paired F d e ≡ is_some s
     paired-as s named en is =
         let (it, eo, ei) = named-by (entry_in payload place) named en in
         let p : is_some (paired_kind (inode X named.inode) named (link_to d e dr.generation))
@@ -202,56 +178,48 @@ module _ (F : Files) (X : Image) (d : ℕ) (dr : Record) (match : FilesMatch F X
         (paired-is F X d e dr match a same folder it (entry-is ∙ eo) (inode X it.inode) refl) in
         sym p ∙ go s is
       where
-        go : (s : Seen) → IsNamed X (link_to d e dr.generation) named s
-            → is_some (paired_kind (inode X named.inode) named (link_to d e dr.generation)) ≡ is_found s
-        go seen.Empty is = absurd is
-        go seen.Other is = absurd is
-        go seen.Dead is = ap is_some is
-        go (seen.Found p) is = ap is_some is.0
+        go : (s : Option Paired) → IsNamed X (link_to d e dr.generation) named s
+            → is_some (paired_kind (inode X named.inode) named (link_to d e dr.generation)) ≡ is_some s
+        go None is = ap is_some is
+        go (Some p) is = ap is_some is.0
 
     some-place : (named : Named) → named_in (entry_in payload place) ≡ Some named
         → is_some (entry_in payload place) ≡ true
     some-place named en = let (it, eo, ei) = named-by (entry_in payload place) named en in ap is_some eo
 
-    not-named : cells.has_name payload name place ≡ false → machine.entry_has_name F d name e ≡ false
-    not-named h = name-is ∙ h
-
-    no-entry : entry_in payload place ≡ None → cells.has_name payload name place ≡ false
-    no-entry en = cell-name payload name place ∙ ap (λ (o : Option Entry). cells.is_named name (cells.name_of o)) en
-
-    -- the place was passed
-    pub passes : (v : Unfound) (s : Seen)
-        → is_found s ≡ false → IsSeen X (link_to d e dr.generation) payload place name s → Passed F d name e k v
-        → Passed F d name (e + 1) k (noted v e s)
-    passes v seen.Empty nf is p =
-        let h = not-named (no-entry is) in
-        subst (λ (o : Option ℕ). Passed F d name (e + 1) k (record v { dead = o; empty = first_or v.empty (Some e) }))
+    -- the place was passed: its entry has another name
+    pub passes-other : (w : Bool) (v : Unfound) → cells.has_name payload name place ≡ false → Passed F d name w e k v
+        → Passed F d name w (e + 1) k (other_seen w (entry_in payload place) e v)
+    passes-other w v other p =
+        let h : machine.entry_has_name F d name e ≡ false = name-is ∙ other in
+        let o = first_or v.empty (where_true (w && not (is_some (entry_in payload place))) e) in
+        subst (λ (dead : Option ℕ). Passed F d name w (e + 1) k (record v { dead = dead; empty = o }))
         (or-none v.dead)
-        (one-as F d name e k v false true p (rw h refl) (rw h refl)
-        (empty-is ∙ ap (λ (o : Option Entry). not (is_some o)) is))
-    passes v seen.Other nf is p =
-        let h = not-named is.1 in
-        subst (λ (w : Unfound). Passed F d name (e + 1) k w)
-        (λ j. record v { dead = or-none v.dead j; empty = or-none v.empty j })
-        (one-as F d name e k v false false p (rw h refl) (rw h refl) (empty-is ∙ ap not is.0))
-    passes v seen.Dead nf is p =
-        let h = name-is ∙ is.0 in
-        let (named, en, nm) = is.1 in
-        let q = paired-as seen.Dead named en nm in
-        subst (λ (o : Option ℕ). Passed F d name (e + 1) k (record v { dead = first_or v.dead (Some e); empty = o }))
-        (or-none v.empty)
-        (one-as F d name e k v true false p (rw (h, q) refl) (rw (h, q) refl) (empty-is ∙ ap not (some-place named en)))
-    passes v (seen.Found x) nf is p = cc nf
+        (one-as F d name w e k v false o p (rw h refl) (rw h refl)
+        (λ t. ap (λ (b : Bool). first_or v.empty (where_true b e))
+        (empty-is ∙ ap (λ (b : Bool). b && not (is_some (entry_in payload place))) (sym t))))
+
+    -- or it has the name, and is no pair
+    pub passes-dead : (w : Bool) (v : Unfound) (named : Named) → cells.has_name payload name place ≡ true
+        → named_in (entry_in payload place) ≡ Some named → IsNamed X (link_to d e dr.generation) named None
+        → Passed F d name w e k v
+        → Passed F d name w (e + 1) k (record v { dead = first_or v.dead (Some e) })
+    passes-dead w v named has en is p =
+        let h = name-is ∙ has in
+        let q = paired-as None named en is in
+        one-as F d name w e k v true v.empty p (rw (h, q) refl) (rw (h, q) refl)
+        (λ t. ap (λ (b : Bool). first_or v.empty (where_true b e)) (empty-is ∙ ap not (some-place named en))
+        ∙ or-none v.empty)
 
     -- the place has the pair
-    pub found-here : (v : Unfound) (x : Paired) → IsSeen X (link_to d e dr.generation) payload place name (seen.Found x)
-        → Passed F d name e k v
+    pub found-here : (w : Bool) (v : Unfound) (x : Paired) (named : Named) → cells.has_name payload name place ≡ true
+        → named_in (entry_in payload place) ≡ Some named → IsNamed X (link_to d e dr.generation) named (Some x)
+        → Passed F d name w e k v
         → IsFoundEntry F X d name x
     unfolding machine.found
-    found-here v x is p =
-        let h = name-is ∙ is.0 in
-        let (named, en, nm) = is.1 in
-        let q = paired-as (seen.Found x) named en nm in
+    found-here w v x named has en nm p =
+        let h = name-is ∙ has in
+        let q = paired-as (Some x) named en nm in
         let (it, eo, ei) = named-by (entry_in payload place) named en in
         let range : e < entry_limit = omega (arith, low, at) in
         let here : x.entry ≡ e = nm.3 in
@@ -266,7 +234,7 @@ module _ (F : Files) (X : Image) (d : ℕ) (dr : Record) (match : FilesMatch F X
             entry = it;
             at = ap (entry_at F d) here ∙ entry-is ∙ eo;
             names = number;
-            named = has-that-name it eo is.0;
+            named = has-that-name it eo has;
             paired = ap (machine.is_paired F d) here ∙ q;
             agreed = subst (λ (n : ℕ). agreed (files_in X) n ≡ true) number ag.0;
             generation =

@@ -1,5 +1,6 @@
 -- The rows of refusals of the parts that steps on names share.
-use Rattle.std.proofs.Common.{◌≡◌, ℕ, true, false, List, [], ◌∷◌, Option, Some, None, option_map, IsTrue, Result, Ok}
+use Rattle.std.proofs.Common.{◌≡◌, ℕ, Bool, true, false, List, [], ◌∷◌, Option, Some, None, option_map, IsTrue, Result}
+use Rattle.std.proofs.Common.{Ok}
 use Rattle.std.proofs.Common.{Err, IfErr, refl, sym, ap, ◌∙◌, subst}
 use Rattle.nofs_dirent.specs.Entries.{entry_limit}
 use Rattle.nofs_disk.specs.Disk.{DiskState}
@@ -102,12 +103,12 @@ module _ (old new : DiskState) (k : Books) (d g : ℕ) (last : LastRead) (res : 
 
 -- The name
 
-missing-is : (F : Files) (W : World) (d : ℕ) (name : List ℕ) (u : Unfound)
-    → W.files ≡ F → Passed F d name entry_limit 72 u → missing W d name ≡ missing_in u
+missing-is : (F : Files) (W : World) (d : ℕ) (name : List ℕ) (w : Bool) (u : Unfound)
+    → W.files ≡ F → Passed F d name w entry_limit 72 u → missing W d name ≡ missing_in u
 unfolding found first_dead first_lost_slot
-missing-is F W d name u e p =
-    let q : Passed W.files d name entry_limit 72 u =
-    subst (λ (G : Files). Passed G d name entry_limit 72 u) (sym e) p in
+missing-is F W d name w u e p =
+    let q : Passed W.files d name w entry_limit 72 u =
+    subst (λ (G : Files). Passed G d name w entry_limit 72 u) (sym e) p in
     rw (q.none, q.dead, q.lost) refl
 
 plain-missing : (u : Unfound) (why : Refusal) → Some why ≡ missing_in u → is_plain why ≡ true
@@ -130,7 +131,7 @@ range-missing u why e = go u.dead u.lost (e)
     go None None h = let s : why ≡ refusal.Missing = cc h in subst (λ (w : Refusal). InRange w) (sym s) tt
 
 module _ (old new : DiskState) (at : SuperBlock) (d : ℕ) (name : List ℕ) (names records : LastRead) where
-  pub pair-found : (s : Searched) (res : Result Paired Refusal) → Searches old new at d name names records (Ok s)
+  pub pair-found : (s : Searched) (res : Result Paired Refusal) → Searches old new at d name false names records (Ok s)
       → IsPairOf s res
       → FindsPair old new at d name names records res
   pair-found (searched.Found p) res search is =
@@ -149,10 +150,10 @@ module _ (old new : DiskState) (at : SuperBlock) (d : ℕ) (name : List ℕ) (na
         found = tt;
         kept = tt;
         refused = ByRow (plain-missing u why ew) (range-missing u why ew) (λ t there W match. let m =
-            missing-is W.files W d name u refl (search.answer t W.files match there) ∙ sym ew in rw m refl);
+            missing-is W.files W d name false u refl (search.answer t W.files match there) ∙ sym ew in rw m refl);
       })
 
-  pub name-unused : (s : Searched) (res : Result Unfound Refusal) → Searches old new at d name names records (Ok s)
+  pub name-unused : (s : Searched) (res : Result Unfound Refusal) → Searches old new at d name true names records (Ok s)
       → res ≡ unused_in s
       → FindsNone old new d name names records res
   name-unused (searched.Found p) res search is =
@@ -172,12 +173,12 @@ module _ (old new : DiskState) (at : SuperBlock) (d : ℕ) (name : List ℕ) (na
 
 -- where no pair has the name, no row of an existing name comes, and this is the place of a new entry
 
-pub exists-none : (W : World) (d : ℕ) (name : List ℕ) (u : Unfound) → Passed W.files d name entry_limit 72 u
+pub exists-none : (W : World) (d : ℕ) (name : List ℕ) (u : Unfound) → Passed W.files d name true entry_limit 72 u
     → exists W d name ≡ None
 unfolding found
 exists-none W d name u p = let n = p.none in rw n refl
 
-pub place-is : (F : Files) (d : ℕ) (name : List ℕ) (u : Unfound) → Passed F d name entry_limit 72 u
+pub place-is : (F : Files) (d : ℕ) (name : List ℕ) (u : Unfound) → Passed F d name true entry_limit 72 u
     → place_for F d name ≡ place_of_entry u
 unfolding place_for first_dead
-place-is F d name u p = λ j. first_of (p.dead j ∷ p.empty j ∷ hole_place (p.hole j) ∷ [])
+place-is F d name u p = λ j. first_of (p.dead j ∷ p.empty refl j ∷ hole_place (p.hole j) ∷ [])

@@ -102,7 +102,7 @@ pub record FindsNone (old new : DiskState) (d : ℕ) (name : List ℕ) (names re
     (result : Result Unfound Refusal) : Type 0 where
   pub stays : StaysButFaults old new
   pub seen : IfOk result (λ u. IsTrue old.tells → IsThere d old.now → (F : Files) → FilesMatch F old.now
-      → Passed F d name entry_limit 72 u)
+      → Passed F d name true entry_limit 72 u)
   pub kept : OnOk result (IsLast new names × IsLast new records)
   pub refused : IfErr result (Fails old new (IsThere d) (exists_rows d name))
 

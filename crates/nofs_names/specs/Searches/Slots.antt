@@ -24,8 +24,6 @@ use Rattle.nofs_agree.specs.declared.reads.LastRead.{LastRead}
 use Rattle.nofs_names.specs.declared.searches.entries.Named.{Named}
 use Rattle.nofs_names.specs.declared.searches.slots.Paired.{Paired}
 use Rattle.nofs_names.specs.declared.searches.slots.Unfound.{Unfound}
-use Rattle.nofs_names.specs.declared.searches.slots.Seen.{Seen}
-use Rattle.nofs_names.specs.declared.searches.slots.Seen.TheVariants as seen
 use Rattle.nofs_names.specs.declared.searches.slots.Searched.{Searched}
 use Rattle.nofs_names.specs.declared.searches.slots.Searched.TheVariants as searched
 
@@ -61,12 +59,10 @@ first_or (Some x) o = Some x
 abbrev pub where_true : Bool → ℕ → Option ℕ
 where_true b n = if b then Some n else None
 
--- what an entry with the name is, by the record of the inode that it names
-abbrev pub IsNamed : Image → BackLink → Named → Seen → Type 0
-IsNamed X link named seen.Empty = ⊥
-IsNamed X link named seen.Other = ⊥
-IsNamed X link named seen.Dead = paired_kind (inode X named.inode) named link ≡ None
-IsNamed X link named (seen.Found p) = (paired_kind (inode X named.inode) named link ≡ Some p.kind)
+-- what an entry with the name is, by the record of the inode that it names: a pair, or none
+abbrev pub IsNamed : Image → BackLink → Named → Option Paired → Type 0
+IsNamed X link named None = paired_kind (inode X named.inode) named link ≡ None
+IsNamed X link named (Some p) = (paired_kind (inode X named.inode) named link ≡ Some p.kind)
     × (inode X named.inode ≡ p.record) ×
     (p.inode ≡ named.inode) × (p.entry ≡ link.entry)
 
@@ -75,39 +71,18 @@ abbrev pub KnowsPaired : DiskState → SuperBlock → Paired → Type 0
 KnowsPaired d at p = KnowsInode d at p.inode p.record × (p.record.kind ≡ Some p.kind) × (1 ≤ p.inode)
     × (1 ≤ p.record.generation) × (p.entry < entry_limit)
 
--- the record of a pair was read
-abbrev pub KnowsSeen : DiskState → SuperBlock → Seen → Type 0
-KnowsSeen d at seen.Empty = Unit {0}
-KnowsSeen d at seen.Other = Unit {0}
-KnowsSeen d at seen.Dead = Unit {0}
-KnowsSeen d at (seen.Found p) = KnowsPaired d at p
-
+-- what an entry with the name is
 pub record SeesNamed (old new : DiskState) (at : SuperBlock) (link : BackLink) (named : Named) (last : LastRead)
-    (result : Result Seen Failed) : Type 0 where
+    (result : Result (Option Paired) Failed) : Type 0 where
   pub stays : StaysButFaults old new
-  pub known : IfOk result (KnowsSeen new at)
+  pub known : IfOk result (λ it. IfSome it (KnowsPaired new at))
   pub seen : IfOk result (λ it. IsTrue old.tells → IsNamed old.now link named it)
   pub kept : OnOk result (IsLast new last)
   pub cause : OnErr result (Rose old.faults new.faults)
 
--- what stands in a place of a cell
-abbrev pub IsSeen : Image → BackLink → List ℕ → ℕ → List ℕ → Seen → Type 0
-IsSeen X link payload place name seen.Empty = entry_in payload place ≡ None
-IsSeen X link payload place name seen.Other = (is_some (entry_in payload place) ≡ true)
-    × (cells.has_name payload name place ≡ false)
-IsSeen X link payload place name seen.Dead = (cells.has_name payload name place ≡ true) ×
-    ((named : Named) × (named_in (entry_in payload place) ≡ Some named) × IsNamed X link named seen.Dead)
-IsSeen X link payload place name (seen.Found p) = (cells.has_name payload name place ≡ true) ×
-    ((named : Named) × (named_in (entry_in payload place) ≡ Some named) × IsNamed X link named (seen.Found p))
-
-pub record SeesPlace (old new : DiskState) (at : SuperBlock) (link : BackLink) (payload : List ℕ) (place : ℕ)
-    (name : List ℕ) (last : LastRead)
-    (result : Result Seen Failed) : Type 0 where
-  pub stays : StaysButFaults old new
-  pub known : IfOk result (KnowsSeen new at)
-  pub seen : IfOk result (λ it. IsTrue old.tells → IsSeen old.now link payload place name it)
-  pub kept : OnOk result (IsLast new last)
-  pub cause : OnErr result (Rose old.faults new.faults)
+-- what was seen, with a place where the name is not: it is the first empty one, where one is wanted
+abbrev pub other_seen : Bool → Option Entry → ℕ → Unfound → Unfound
+other_seen w here e u = record u { empty = first_or u.empty (where_true (w && not (is_some here)) e) }
 
 -- The tests of a search, entry by entry and slot by slot
 
@@ -126,13 +101,18 @@ is_lost_slot F d k = machine.is_lost (machine.value_of F d k)
 abbrev pub is_hole_slot : Files → ℕ → ℕ → Bool
 is_hole_slot F d k = machine.is_hole (machine.value_of F d k)
 
--- the first n entries and the first k slots were passed: none finds a file, and these are the first of their kinds
-pub record Passed (F : Files) (d : ℕ) (name : List ℕ) (n k : ℕ) (u : Unfound) : Type 0 where
+-- the first n entries and the first k slots were passed: none finds a file, and these are the first of their kinds,
+-- of empty places where one is wanted
+pub record Passed (F : Files) (d : ℕ) (name : List ℕ) (w : Bool) (n k : ℕ) (u : Unfound) : Type 0 where
   pub none : least_from (finds F d name) 0 n ≡ None
   pub dead : least_from (is_dead F d name) 0 n ≡ u.dead
-  pub empty : least_from (is_empty F d) 0 n ≡ u.empty
+  pub empty : IsTrue w → least_from (is_empty F d) 0 n ≡ u.empty
   pub lost : least_from (is_lost_slot F d) 0 k ≡ u.lost
   pub hole : least_from (is_hole_slot F d) 0 k ≡ u.hole
+
+-- each slot from this one on is a hole
+abbrev pub with_holes : ℕ → Unfound → Unfound
+with_holes k u = if nat_lt k 72 then record u { hole = first_or u.hole (Some k) } else u
 
 -- an entry of the directory d that is a pair, and what it names
 pub record IsPairFound (F : Files) (X : Image) (d : ℕ) (name : List ℕ) (p : Paired) : Type 0 where
@@ -151,36 +131,36 @@ pub record IsFoundEntry (F : Files) (X : Image) (d : ℕ) (name : List ℕ) (p :
   pub pair : IsPairFound F X d name p
 
 -- after a slot: its pair of the name, or all its entries were passed
-abbrev pub IsPast : Files → Image → ℕ → List ℕ → ℕ → ℕ → Unfound → Option Paired → Type 0
-IsPast F X d name n k v None = Passed F d name n k v
-IsPast F X d name n k v (Some p) = IsFoundEntry F X d name p
+abbrev pub IsPast : Files → Image → ℕ → List ℕ → Bool → ℕ → ℕ → Unfound → Option Paired → Type 0
+IsPast F X d name w n k v None = Passed F d name w n k v
+IsPast F X d name w n k v (Some p) = IsFoundEntry F X d name p
 
 -- a search from the first n entries and k slots on to the first m and l, over any files that match the disk
-pub record SearchesOn (old new : DiskState) (at : SuperBlock) (d : ℕ) (name : List ℕ) (n k m l : ℕ) (u v : Unfound)
-    (last : LastRead)
+pub record SearchesOn (old new : DiskState) (at : SuperBlock) (d : ℕ) (name : List ℕ) (w : Bool) (n k m l : ℕ)
+    (u v : Unfound) (last : LastRead)
     (result : Result (Option Paired) Failed) : Type 0 where
   pub stays : StaysButFaults old new
   pub known : IfOk result (λ it. IfSome it (KnowsPaired new at))
   pub past : IfOk result (λ it. IsTrue old.tells → (F : Files) → FilesMatch F old.now
-      → agreed (files_in old.now) d ≡ true → Passed F d name n k u
-      → IsPast F old.now d name m l v it)
+      → agreed (files_in old.now) d ≡ true → Passed F d name w n k u
+      → IsPast F old.now d name w m l v it)
   pub kept : OnOk result (IsLast new last)
   pub cause : OnErr result (Rose old.faults new.faults)
 
 -- what a search of the whole directory answers
-abbrev pub IsSearched : Files → Image → ℕ → List ℕ → Searched → Type 0
-IsSearched F X d name (searched.Found p) = IsFoundEntry F X d name p
-IsSearched F X d name (searched.Unfound u) = Passed F d name entry_limit 72 u
+abbrev pub IsSearched : Files → Image → ℕ → List ℕ → Bool → Searched → Type 0
+IsSearched F X d name w (searched.Found p) = IsFoundEntry F X d name p
+IsSearched F X d name w (searched.Unfound u) = Passed F d name w entry_limit 72 u
 
 abbrev pub KnowsSearched : DiskState → SuperBlock → Searched → Type 0
 KnowsSearched d at (searched.Found p) = KnowsPaired d at p
 KnowsSearched d at (searched.Unfound u) = Unit {0}
 
-pub record Searches (old new : DiskState) (at : SuperBlock) (d : ℕ) (name : List ℕ) (last next : LastRead)
+pub record Searches (old new : DiskState) (at : SuperBlock) (d : ℕ) (name : List ℕ) (w : Bool) (last next : LastRead)
     (result : Result Searched Failed) : Type 0 where
   pub stays : StaysButFaults old new
   pub known : IfOk result (KnowsSearched new at)
   pub answer : IfOk result (λ it. IsTrue old.tells → (F : Files) → FilesMatch F old.now
-      → agreed (files_in old.now) d ≡ true → IsSearched F old.now d name it)
+      → agreed (files_in old.now) d ≡ true → IsSearched F old.now d name w it)
   pub kept : OnOk result (IsLast new last × IsLast new next)
   pub cause : OnErr result (Rose old.faults new.faults)

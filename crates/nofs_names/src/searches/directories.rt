@@ -103,7 +103,7 @@ pub(crate) fn find_pair<D: Disk>(
         inode: wanted.directory,
         record: *it,
     };
-    match search(disk, directory, wanted.name, names, records) {
+    match search(disk, directory, wanted.name, false, names, records) {
         Err(_) => Err(Refusal::ReadFault),
         Ok(searched) => pair_of(searched),
     }
@@ -156,7 +156,7 @@ pub(crate) fn find_unused<D: Disk>(
     requires directory { KnowsFolder (D.state disk.old) directory }
     ensures { FindsNone (D.state disk.old) (D.state disk.new) directory.inode name.now names.new records.new result }
 {
-    match search(disk, directory, name, names, records) {
+    match search(disk, directory, name, true, names, records) {
         Err(_) => Err(Refusal::ReadFault),
         Ok(searched) => unused(searched),
     }

@@ -1,11 +1,10 @@
 //! One entry of a directory's cell. It takes no memory.
-ghost use Rattle.std.specs.Prelude.{◌≡◌, ◌<◌, IfSome};
-ghost use Rattle.nofs_disk.specs.Number.{number_at};
-ghost use Rattle.nofs_dirent.specs.Entries.{entry_bytes, entry_in};
+ghost use Rattle.std.specs.Prelude.{◌≡◌, ◌<◌, IfSome, IsTrue, Some, is_some, not};
+ghost use Rattle.nofs_dirent.specs.Entries.{entry_in};
 ghost use Rattle.nofs_names.specs.Searches.Slots.{IsEntrySpelled, named_in};
 
+use nofs_dirent::{bytes_of, is_entry};
 use nofs_disk::{read_u32_at, read_u64_at};
-use nofs_model::names_inode;
 
 /// The inode that an entry names.
 #[derive(Clone, Copy)]
@@ -20,21 +19,29 @@ pub(crate) fn named_at(payload: &[u8; 1024], at: u32) -> Option<Named>
     ensures value { result ≡ named_in (entry_in payload.now at) }
     ensures some { IfSome result IsEntrySpelled }
 {
-    let here = fields_at(payload, at);
-    if names_inode(payload, at, here.inode, here.generation) {
-        Some(here)
-    } else {
+    if is_empty(payload, at) {
         None
+    } else {
+        Some(named_inode(payload, at))
     }
 }
 
-fn fields_at(payload: &[u8; 1024], at: u32) -> Named
+/// Whether a place is empty.
+pub(crate) fn is_empty(payload: &[u8; 1024], at: u32) -> bool
     requires { at < 16 }
-    ensures inode { result.inode ≡ number_at 4 0 (entry_bytes payload.now at) }
-    ensures generation { result.generation ≡ number_at 8 8 (entry_bytes payload.now at) }
+    ensures { result ≡ not (is_some (entry_in payload.now at)) }
 {
-    let at = 64 * at as usize;
-    let bytes = &payload[at..at + 64];
+    !is_entry(bytes_of(payload, at))
+}
+
+/// The inode that the entry at a place names.
+pub(crate) fn named_inode(payload: &[u8; 1024], at: u32) -> Named
+    requires place { at < 16 }
+    requires entry { IsTrue (is_some (entry_in payload.now at)) }
+    ensures value { named_in (entry_in payload.now at) ≡ Some result }
+    ensures spelled { IsEntrySpelled result }
+{
+    let bytes = bytes_of(payload, at);
     Named {
         inode: read_u32_at(bytes, 0),
         generation: read_u64_at(bytes, 8),

@@ -1,10 +1,10 @@
 //! An inode with its record, and what stands in a slot of it.
-ghost use Rattle.std.specs.Prelude.{◌<◌};
+ghost use Rattle.std.specs.Prelude.{◌≡◌, ◌<◌};
 ghost use Rattle.nofs_ptrs.specs.Paths as paths;
 ghost use Rattle.nofs_model.specs.Slots as slots;
 ghost use Rattle.nofs_agree.specs.Path.{FindsSlot};
 ghost use Rattle.nofs_agree.specs.Reads.{IsLast};
-ghost use Rattle.nofs_names.specs.Searches.Inodes.{Knows};
+ghost use Rattle.nofs_names.specs.Searches.Inodes.{Knows, slot_end};
 
 use nofs_agree::{LastRead, find_slot};
 use nofs_disk::{Disk, Failed};
@@ -36,5 +36,12 @@ impl ReadInode {
     {
         let place = place_of(u64::from(slot));
         find_slot(disk, &self.at, self.inode, &self.record, place, last)
+    }
+
+    /// The slot from which on all that a directory can have are holes, for want of a leaf; 72 where it has one.
+    pub fn slot_end(&self) -> u32
+        ensures { result ≡ slot_end self.now.record }
+    {
+        if self.record.leaf.is_null() { 8 } else { 72 }
     }
 }

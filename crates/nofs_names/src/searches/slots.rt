@@ -1,14 +1,14 @@
 //! The search of a directory for a name.
-ghost use Rattle.std.specs.Prelude.{◌≡◌, ◌+◌, ◌*◌, ◌<◌, IsTrue, OnOk, Some};
-ghost use Rattle.nofs_dirent.specs.Entries.{entry_limit};
+ghost use Rattle.std.specs.Prelude.{◌≡◌, ◌+◌, ◌*◌, ◌<◌, ◌&&◌, IsTrue, OnOk, Some, is_some, not};
+ghost use Rattle.nofs_dirent.specs.Entries.{entry_in, entry_limit};
 ghost use Rattle.nofs_model.specs.Slots.{value};
 ghost use Rattle.nofs_model.specs.declared.image.value.Value.TheVariants.{Bytes};
 ghost use Rattle.nofs_agree.specs.Reads.{IsAt, IsLast};
 ghost use Rattle.nofs_names.specs.Searches.Inodes.{KnowsFolder};
-ghost use Rattle.nofs_names.specs.Searches.Slots.{IsEntrySpelled, Searches, SearchesOn, SeesNamed, SeesPlace};
-ghost use Rattle.nofs_names.specs.Searches.Slots.{first_or};
+ghost use Rattle.nofs_names.specs.Searches.Slots.{IsEntrySpelled, Searches, SearchesOn, SeesNamed};
+ghost use Rattle.nofs_names.specs.Searches.Slots.{first_or, other_seen, where_true, with_holes};
 
-use crate::searches::entries::{Named, named_at};
+use crate::searches::entries::{Named, is_empty, named_inode};
 use crate::searches::inodes::ReadInode;
 use crate::searches::pair_tests::paired_kind;
 use nofs_agree::{LastRead, read_inode};
@@ -32,23 +32,12 @@ pub struct Paired {
 pub struct Unfound {
     /// An entry that has the name, and is no pair.
     pub dead: Option<u32>,
-    /// An empty place in a slot that holds.
+    /// An empty place in a slot that holds, where one was looked for.
     pub empty: Option<u32>,
     /// A slot that is lost.
     pub lost: Option<u32>,
     /// A slot that is a hole.
     pub hole: Option<u32>,
-}
-
-/// What stands in a place of a directory's cell.
-#[derive(Clone, Copy)]
-pub enum Seen {
-    Empty,
-    /// An entry with another name.
-    Other,
-    /// An entry that has the name, and is no pair.
-    Dead,
-    Found(Paired),
 }
 
 /// What a search of a whole directory gives.
@@ -82,49 +71,47 @@ impl Unfound {
         self.dead = first(self.dead, entry);
     }
 
-    fn see_empty(&mut self, entry: u32)
-        ensures { self.new ≡ record self.old { empty = first_or self.old.empty (Some entry) } }
+    // The entry at a place, if there is one, has another name.
+    fn see_other(&mut self, wants_place: bool, payload: &[u8; 1024], place: u32, entry: u32)
+        requires { place < 16 }
+        ensures { self.new ≡ other_seen wants_place (entry_in payload.now place) entry self.old }
     {
-        self.empty = first(self.empty, entry);
+        self.empty = match self.empty {
+            None => empty_place(wants_place, payload, place, entry),
+            Some(first) => Some(first),
+        };
     }
-}
 
-// What stands in a place of a directory's cell.
-fn see_place<D: Disk>(
-    disk: &mut D,
-    at: &SuperBlock,
-    link: &BackLink,
-    payload: &[u8; 1024],
-    place: u32,
-    name: &[u8],
-    records: &mut LastRead,
-) -> Result<Seen, Failed>
-    requires numbers { IsAt (D.state disk.old) at.now }
-    requires range { link.now.entry < entry_limit }
-    requires place { place < 16 }
-    requires last { IsLast (D.state disk.old) records.old }
-    ensures { SeesPlace (D.state disk.old)
-        (D.state disk.new) at.now link.now payload.now place name.now records.new result }
-{
-    match named_at(payload, place) {
-        None => Ok(Seen::Empty),
-        Some(named) => {
-            if !has_name(payload, name, place) {
-                return Ok(Seen::Other);
-            }
-            see_named(disk, at, link, named, records)
+    // Each slot from this one on is a hole.
+    fn see_holes(&mut self, slot: u32)
+        ensures { self.new ≡ with_holes slot self.old }
+    {
+        if slot < 72 {
+            self.hole = first(self.hole, slot);
         }
     }
 }
 
-// Whether an entry with the name, to which the back link leads, is a pair.
+// The place, where it is wanted and empty.
+fn empty_place(wants_place: bool, payload: &[u8; 1024], place: u32, entry: u32) -> Option<u32>
+    requires { place < 16 }
+    ensures { result ≡ where_true (wants_place && not (is_some (entry_in payload.now place))) entry }
+{
+    if wants_place && is_empty(payload, place) {
+        Some(entry)
+    } else {
+        None
+    }
+}
+
+// The pair of an entry with the name, to which the back link leads; `None` where the two are none.
 fn see_named<D: Disk>(
     disk: &mut D,
     at: &SuperBlock,
     link: &BackLink,
     named: Named,
     records: &mut LastRead,
-) -> Result<Seen, Failed>
+) -> Result<Option<Paired>, Failed>
     requires numbers { IsAt (D.state disk.old) at.now }
     requires range { link.now.entry < entry_limit }
     requires named { IsEntrySpelled named }
@@ -133,8 +120,8 @@ fn see_named<D: Disk>(
 {
     let record = read_inode(disk, at, named.inode, records)?;
     match paired_kind(&record, named, link) {
-        None => Ok(Seen::Dead),
-        Some(kind) => Ok(Seen::Found(Paired {
+        None => Ok(None),
+        Some(kind) => Ok(Some(Paired {
             entry: link.entry,
             inode: named.inode,
             kind,
@@ -150,6 +137,7 @@ fn search_cell<D: Disk>(
     payload: &[u8; 1024],
     slot: u32,
     name: &[u8],
+    wants_place: bool,
     unfound: &mut Unfound,
     records: &mut LastRead,
 ) -> Result<Option<Paired>, Failed>
@@ -158,20 +146,29 @@ fn search_cell<D: Disk>(
     requires cell { IsTrue (D.state disk.old).tells
         → value (D.state disk.old).now directory.inode slot ≡ Bytes payload.now }
     requires last { IsLast (D.state disk.old) records.old }
-    ensures { SearchesOn (D.state disk.old) (D.state disk.new) directory.at directory.inode name.now (16 * slot) slot
-        (16 * (slot + 1)) (slot + 1) unfound.old unfound.new records.new result }
+    ensures { SearchesOn (D.state disk.old) (D.state disk.new) directory.at directory.inode name.now wants_place
+        (16 * slot) slot (16 * (slot + 1)) (slot + 1) unfound.old unfound.new records.new result }
 {
     for place in 0..16 {
+        let entry = 16 * slot + place;
+        if !has_name(payload, name, place) {
+            unfound.see_other(wants_place, payload, place, entry);
+            continue;
+        }
         let link = BackLink {
             directory: directory.inode,
-            entry: 16 * slot + place,
+            entry,
             generation: directory.record.generation,
         };
-        match see_place(disk, &directory.at, &link, payload, place, name, records)? {
-            Seen::Empty => unfound.see_empty(link.entry),
-            Seen::Other => {}
-            Seen::Dead => unfound.see_dead(link.entry),
-            Seen::Found(it) => return Ok(Some(it)),
+        match see_named(
+            disk,
+            &directory.at,
+            &link,
+            named_inode(payload, place),
+            records,
+        )? {
+            None => unfound.see_dead(entry),
+            Some(found) => return Ok(Some(found)),
         }
     }
     Ok(None)
@@ -183,6 +180,7 @@ fn search_slot<D: Disk>(
     directory: ReadInode,
     slot: u32,
     name: &[u8],
+    wants_place: bool,
     unfound: &mut Unfound,
     names: &mut LastRead,
     records: &mut LastRead,
@@ -192,8 +190,7 @@ fn search_slot<D: Disk>(
     requires names { IsLast (D.state disk.old) names.old }
     requires last { IsLast (D.state disk.old) records.old }
     ensures search { SearchesOn (D.state disk.old) (D.state disk.new) directory.at directory.inode name.now
-        (16 * slot) slot
-        (16 * (slot + 1)) (slot + 1) unfound.old unfound.new records.new result }
+        wants_place (16 * slot) slot (16 * (slot + 1)) (slot + 1) unfound.old unfound.new records.new result }
     ensures kept { OnOk result (IsLast (D.state disk.new) names.new) }
 {
     match directory.find(disk, slot, names)? {
@@ -211,17 +208,19 @@ fn search_slot<D: Disk>(
             &names.cell.payload,
             slot,
             name,
+            wants_place,
             unfound,
             records,
         ),
     }
 }
 
-/// Searches a directory for a name.
+/// Searches a directory for a name, and for an empty place where one is wanted.
 pub(crate) fn search<D: Disk>(
     disk: &mut D,
     directory: ReadInode,
     name: &[u8],
+    wants_place: bool,
     names: &mut LastRead,
     records: &mut LastRead,
 ) -> Result<Searched, Failed>
@@ -229,14 +228,25 @@ pub(crate) fn search<D: Disk>(
     requires names { IsLast (D.state disk.old) names.old }
     requires last { IsLast (D.state disk.old) records.old }
     ensures { Searches (D.state disk.old)
-        (D.state disk.new) directory.at directory.inode name.now names.new records.new result }
+        (D.state disk.new) directory.at directory.inode name.now wants_place names.new records.new result }
 {
     let mut unfound = Unfound::NONE;
-    for slot in 0..72 {
-        match search_slot(disk, directory, slot, name, &mut unfound, names, records)? {
+    let end = directory.slot_end();
+    for slot in 0..end {
+        match search_slot(
+            disk,
+            directory,
+            slot,
+            name,
+            wants_place,
+            &mut unfound,
+            names,
+            records,
+        )? {
             None => {}
             Some(found) => return Ok(Searched::Found(found)),
         }
     }
+    unfound.see_holes(end);
     Ok(Searched::Unfound(unfound))
 }
