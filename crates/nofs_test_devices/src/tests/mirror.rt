@@ -1,43 +1,11 @@
 //! How a mirror goes on when a side fails, and what it does when both do.
-use crate::tests::disks::{
-    CallAnswer, DiskCall, byte_of, failing, first_wrong, flush, flushed, out, put, reads, wrote,
-};
+use crate::tests::disks::{failing, follow};
 use nofs_disk::Disk;
 use nofs_memdisk::MemDisk;
-use nofs_mirror::{Mirror, MirrorCause, Sides};
-use nofs_versions::{CallCounts, CallKind};
+use nofs_mirror::{Mirror, MirrorCause, MirrorFault, Sides};
+use nofs_versions::CallCounts;
 use std::alloc::{AllocError, Global};
 use std::test::Fail;
-
-const BOTH: Sides = Sides {
-    lead_in: true,
-    other_in: true,
-};
-
-const LEAD: Sides = Sides {
-    lead_in: true,
-    other_in: false,
-};
-
-const OTHER: Sides = Sides {
-    lead_in: false,
-    other_in: true,
-};
-
-const UNTOUCHED: CallCounts = CallCounts {
-    reads: 0,
-    writes: 0,
-    flushes: 0,
-};
-
-/// A call of one side that fails, and the sides that are in at the end.
-#[derive(Clone, Copy)]
-struct Case {
-    on_lead: bool,
-    call: CallKind,
-    number: u64,
-    sides: Sides,
-}
 
 /// A mirror of four blocks, where it is opened.
 fn mirrored<A: Disk + Drop, B: Disk + Drop>(lead: A, other: B) -> Result<Mirror<A, B>, AllocError> {
@@ -47,164 +15,164 @@ fn mirrored<A: Disk + Drop, B: Disk + Drop>(lead: A, other: B) -> Result<Mirror<
     }
 }
 
-/// A mirror of two disks of which a write fails: on the lead one with this number, on the other with that.
-fn failing_twice(
+/// A mirror of two disks, on each of which calls fail, after a script.
+fn followed(
     alloc: Global,
-    on_lead: u64,
-    on_other: u64,
-) -> Result<Mirror<MemDisk, MemDisk>, AllocError> {
-    let lead = failing(alloc, CallKind::Write, on_lead, false)?;
-    mirrored(lead, failing(alloc, CallKind::Write, on_other, false)?)
+    calls: (&str, &str),
+    script: &str,
+) -> Result<Mirror<MemDisk, MemDisk>, Fail> {
+    let mut mirror = mirrored(failing(alloc, 4, calls.0)?, failing(alloc, 4, calls.1)?)?;
+    follow(&mut mirror, script)?;
+    Ok(mirror)
 }
 
-/// Why two disks of so many blocks make no mirror of four, and the calls that each has then had.
-fn refused(
-    alloc: Global,
-    lead: u64,
-    other: u64,
-) -> Result<Option<(MirrorCause, CallCounts, CallCounts)>, AllocError> {
-    let lead = MemDisk::new(alloc, lead)?;
-    let other = MemDisk::new(alloc, other)?;
-    match Mirror::open(lead, other, 4) {
-        Ok(_) => Ok(None),
-        Err(fault) => Ok(Some((fault.cause, fault.lead.calls(), fault.other.calls()))),
+/// The sides that are in.
+fn name_of(sides: Sides) -> &'static str {
+    match (sides.lead_in, sides.other_in) {
+        (true, true) => "both",
+        (true, false) => "lead",
+        (false, true) => "other",
+        (false, false) => "none",
     }
 }
 
-/// A case of a side whose call with this number fails.
-fn at_call(on_lead: bool, call: CallKind, number: u64, sides: Sides) -> Case {
-    Case {
-        on_lead,
-        call,
-        number,
-        sides,
+/// The sides that are in after a script, each of which is answered then as another one says.
+fn sides_after(
+    alloc: Global,
+    calls: (&str, &str),
+    script: &str,
+    then: &str,
+) -> Result<&'static str, Fail> {
+    let mirror = followed(alloc, calls, script)?;
+    let sides = mirror.sides();
+    let (mut lead, mut other) = mirror.apart();
+    if sides.lead_in {
+        follow(&mut lead, then)?;
     }
+    if sides.other_in {
+        follow(&mut other, then)?;
+    }
+    Ok(name_of(sides))
 }
 
 #[test]
 fn a_side_that_fails_at_any_call_goes_out_and_the_other_goes_on(
     rt: HostRuntime,
 ) -> Result<(), Fail> {
-    for case in [
-        at_call(true, CallKind::Write, 1, OTHER),
-        at_call(true, CallKind::Write, 2, OTHER),
-        at_call(true, CallKind::Flush, 1, OTHER),
-        at_call(true, CallKind::Read, 5, BOTH),
-        at_call(true, CallKind::Read, 6, BOTH),
-        at_call(false, CallKind::Write, 1, LEAD),
-        at_call(false, CallKind::Write, 2, LEAD),
-        at_call(false, CallKind::Write, 3, LEAD),
-        at_call(false, CallKind::Write, 4, LEAD),
-        at_call(false, CallKind::Write, 5, LEAD),
-        at_call(false, CallKind::Write, 6, LEAD),
-        at_call(false, CallKind::Flush, 1, LEAD),
-        at_call(false, CallKind::Flush, 2, LEAD),
-        at_call(false, CallKind::Flush, 3, BOTH),
+    for (lead, other, sides) in [
+        ("write 1", "", "other"),
+        ("write 2", "", "other"),
+        ("flush 1", "", "other"),
+        ("read 5", "", "both"),
+        ("read 6", "", "both"),
+        ("", "write 1", "lead"),
+        ("", "write 2", "lead"),
+        ("", "write 3", "lead"),
+        ("", "write 4", "lead"),
+        ("", "write 5", "lead"),
+        ("", "write 6", "lead"),
+        ("", "flush 1", "lead"),
+        ("", "flush 2", "lead"),
+        ("", "flush 3", "both"),
     ] {
-        let number = case.number;
-        let good = MemDisk::new(rt.alloc(), 4)?;
-        let bad = failing(rt.alloc(), case.call, number, false)?;
-        let mut mirror = if case.on_lead {
-            mirrored(bad, good)?
-        } else {
-            mirrored(good, bad)?
-        };
-        let calls = [put(1, 5), put(3, 6), flush(true), reads(1, 5), reads(3, 6)];
-        assert_eq!(rt; first_wrong(&mut mirror, &calls)?, None, "{number}");
-        assert_eq!(rt; mirror.sides(), case.sides, "{number}");
-        let (mut lead, mut other) = mirror.apart();
-        if case.sides.lead_in {
-            assert_eq!(rt; byte_of(&mut lead, 3), Some(6), "{number}");
-        }
-        if case.sides.other_in {
-            assert_eq!(rt; byte_of(&mut other, 3), Some(6), "{number}");
-        }
+        let script = "1=5 3=6 flush 1?5 3?6";
+        let found = sides_after(rt.alloc(), (lead, other), script, "3?6")?;
+        assert_eq!(rt; found, sides, "{lead}, {other}");
     }
     Ok(())
 }
 
 #[test]
 fn a_call_that_fails_on_both_sides_keeps_the_lead(rt: HostRuntime) -> Result<(), Fail> {
-    for (call, on_lead, on_other, taken, byte) in [
-        (CallKind::Write, 1, 5, false, 0),
-        (CallKind::Write, 1, 5, true, 5),
-        (CallKind::Flush, 1, 2, false, 5),
+    for (lead, other, script, then) in [
+        ("write 1", "write 5", "1=5!", "1?0"),
+        (
+            "write 1",
+            "write 5",
+            "1=5! 1?0 3=6 flush 1?0 3?6",
+            "1?0 3?6",
+        ),
+        ("write 1 taken", "write 5", "1=5!", "1?5"),
+        (
+            "write 1 taken",
+            "write 5",
+            "1=5! 1?5 3=6 flush 1?5 3?6",
+            "1?5 3?6",
+        ),
+        ("flush 1", "flush 2", "1=5 flush!", "1?5"),
+        (
+            "flush 1",
+            "flush 2",
+            "1=5 flush! 1?5 3=6 flush 1?5 3?6",
+            "1?5 3?6",
+        ),
     ] {
-        let lead = failing(rt.alloc(), call, on_lead, taken)?;
-        let other = failing(rt.alloc(), call, on_other, false)?;
-        let mut mirror = mirrored(lead, other)?;
-        assert!(rt;
-            !(wrote(&mut mirror, 1, 5)? && flushed(&mut mirror)?),
-            "{call:?}"
-        );
-        assert_eq!(rt; mirror.sides(), LEAD, "{call:?}");
-        let calls = [
-            reads(1, byte),
-            put(3, 6),
-            flush(true),
-            reads(1, byte),
-            reads(3, 6),
-        ];
-        assert_eq!(rt; first_wrong(&mut mirror, &calls)?, None, "{call:?}");
-        assert_eq!(rt; mirror.sides(), LEAD, "{call:?}");
+        let found = sides_after(rt.alloc(), (lead, other), script, then)?;
+        assert_eq!(rt; found, "lead", "{lead}, {other}, {script}");
     }
     Ok(())
 }
 
 #[test]
 fn the_last_side_that_is_in_stays_in(rt: HostRuntime) -> Result<(), Fail> {
-    let mut mirror = failing_twice(rt.alloc(), 1, 6)?;
-    assert_eq!(rt; first_wrong(&mut mirror, &[put(1, 5)])?, None);
-    assert_eq!(rt; mirror.sides(), OTHER);
-    let refused = (DiskCall::Write(3, 6), CallAnswer::Done(false));
-    assert_eq!(rt; first_wrong(&mut mirror, &[refused])?, None);
-    assert_eq!(rt; mirror.sides(), OTHER);
-    let calls = [put(3, 7), flush(true), reads(1, 5), reads(3, 7)];
-    assert_eq!(rt; first_wrong(&mut mirror, &calls)?, None);
+    let calls = ("write 1", "write 6");
+    for (script, then) in [("1=5", "1?5"), ("1=5 3=6!", "1?5 3?0")] {
+        assert_eq!(rt; sides_after(rt.alloc(), calls, script, then)?, "other");
+    }
+    let mut mirror = followed(rt.alloc(), calls, "1=5 3=6! 3=7 flush 1?5 3?7")?;
     assert_eq!(rt; (mirror.blocks(), mirror.moment()), (4, 8));
-    assert_eq!(rt; first_wrong(&mut mirror, &[out(None)])?, None);
-    Ok(())
+    follow(&mut mirror, "out")
 }
 
 #[test]
 fn a_mirror_of_a_mirror_outlives_two_sides(rt: HostRuntime) -> Result<(), Fail> {
-    let mut inner = failing_twice(rt.alloc(), 1, 6)?;
-    assert_eq!(rt; first_wrong(&mut inner, &[put(1, 5)])?, None);
-    let third = MemDisk::new(rt.alloc(), 4)?;
-    let mut outer = mirrored(inner, third)?;
-    let calls = [put(3, 6), flush(true), reads(1, 5), reads(3, 6)];
-    assert_eq!(rt; first_wrong(&mut outer, &calls)?, None);
-    assert_eq!(rt; outer.sides(), OTHER);
+    let inner = followed(rt.alloc(), ("write 1", "write 6"), "1=5")?;
+    let mut outer = mirrored(inner, MemDisk::new(rt.alloc(), 4)?)?;
+    follow(&mut outer, "3=6 flush 1?5 3?6")?;
+    assert_eq!(rt; name_of(outer.sides()), "other");
     Ok(())
+}
+
+/// Two disks that make no mirror of four blocks, and why.
+fn refused(lead: MemDisk, other: MemDisk) -> Result<MirrorFault<MemDisk, MemDisk>, Fail> {
+    match Mirror::open(lead, other, 4) {
+        Ok(_) => Err("opened".into()),
+        Err(fault) => Ok(fault),
+    }
 }
 
 #[test]
 fn a_lead_that_cannot_be_read_comes_back(rt: HostRuntime) -> Result<(), Fail> {
-    for number in [1, 2, 3, 4] {
-        let mut lead = failing(rt.alloc(), CallKind::Read, number, false)?;
-        assert_eq!(rt; first_wrong(&mut lead, &[put(1, 5)])?, None, "{number}");
-        match Mirror::open(lead, MemDisk::new(rt.alloc(), 4)?, 4) {
-            Ok(_) => assert!(rt; false, "{number}"),
-            Err(fault) => {
-                let mut lead = fault.lead;
-                assert_eq!(rt; fault.cause, MirrorCause::ReadFault, "{number}");
-                let calls = [reads(1, 5), reads(3, 0)];
-                assert_eq!(rt; first_wrong(&mut lead, &calls)?, None, "{number}");
-            }
-        }
+    for call in ["read 1", "read 2", "read 3", "read 4"] {
+        let mut lead = failing(rt.alloc(), 4, call)?;
+        follow(&mut lead, "1=5")?;
+        let fault = refused(lead, MemDisk::new(rt.alloc(), 4)?)?;
+        assert_eq!(rt; fault.cause, MirrorCause::ReadFault, "{call}");
+        let mut lead = fault.lead;
+        follow(&mut lead, "1?5 3?0")?;
     }
     Ok(())
 }
 
+const UNTOUCHED: CallCounts = CallCounts {
+    reads: 0,
+    writes: 0,
+    flushes: 0,
+};
+
 #[test]
 fn too_few_blocks_are_told_before_any_call(rt: HostRuntime) -> Result<(), Fail> {
     for (lead, other) in [(3, 4), (4, 3), (0, 9)] {
-        let cause = MirrorCause::TooSmall { lead, other };
+        let fault = refused(
+            MemDisk::new(rt.alloc(), lead)?,
+            MemDisk::new(rt.alloc(), other)?,
+        )?;
+        assert_eq!(rt; fault.cause, MirrorCause::TooSmall { lead, other });
         assert_eq!(rt;
-            refused(rt.alloc(), lead, other)?,
-            Some((cause, UNTOUCHED, UNTOUCHED))
+            (fault.lead.calls(), fault.other.calls()),
+            (UNTOUCHED, UNTOUCHED)
         );
     }
-    assert_eq!(rt; refused(rt.alloc(), 4, 9)?, None);
+    mirrored(MemDisk::new(rt.alloc(), 4)?, MemDisk::new(rt.alloc(), 9)?)?;
     Ok(())
 }

@@ -48,26 +48,12 @@ fn is_tag_with(at: usize, byte: u8) -> bool {
 
 #[test]
 fn a_tag_has_a_kind_from_0_to_5_and_an_unused_one_has_only_zeros(rt: HostRuntime) {
-    let rules = [
-        (0, [0, 1, 5].as_slice(), [6, 255].as_slice()),
-        (1, &[0], &[1]),
-        (3, &[0], &[1]),
-        (4, &[0], &[1]),
-        (7, &[0], &[1]),
-        (8, &[0], &[1]),
-        (15, &[0], &[1]),
-        (16, &[0], &[1]),
-        (23, &[0], &[1]),
-        (24, &[0], &[1]),
-        (31, &[0], &[1]),
-    ];
-    for (at, spelled, unspelled) in rules {
-        for &byte in spelled {
-            assert!(rt; is_tag_with(at, byte), "byte {at} is {byte}");
-        }
-        for &byte in unspelled {
-            assert!(rt; !is_tag_with(at, byte), "byte {at} is {byte}");
-        }
+    for (kind, is_kind) in [(0, true), (1, true), (5, true), (6, false), (255, false)] {
+        assert_eq!(rt; is_tag_with(0, kind), is_kind, "kind {kind}");
+    }
+    for at in [1, 3, 4, 7, 8, 15, 16, 23, 24, 31] {
+        let is_spelled = (is_tag_with(at, 0), is_tag_with(at, 1));
+        assert_eq!(rt; is_spelled, (true, false), "byte {at}");
     }
 }
 
@@ -85,10 +71,18 @@ fn a_pointer_is_written_as_its_worked_bytes_and_read_from_them(rt: HostRuntime) 
 
 #[test]
 fn only_block_0_with_stamp_0_is_null(rt: HostRuntime) {
-    for (block, stamp) in [(0, 1), (1, 0), (5, S + 9)] {
-        assert!(rt; !Pointer { block, stamp }.is_null(), "({block}, {stamp})");
+    for (block, stamp, is_null) in [
+        (0, 1, false),
+        (1, 0, false),
+        (5, S + 9, false),
+        (0, 0, true),
+    ] {
+        assert_eq!(rt;
+            Pointer { block, stamp }.is_null(),
+            is_null,
+            "({block}, {stamp})"
+        );
     }
-    assert!(rt; Pointer { block: 0, stamp: 0 }.is_null());
     assert!(rt; Pointer::NULL.is_null());
 }
 
