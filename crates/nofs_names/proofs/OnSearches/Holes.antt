@@ -1,6 +1,6 @@
 -- A directory without a leaf has holes behind the slots of its record.
-use Rattle.std.proofs.Common.{◌≡◌, ℕ, zero, suc, ◌+◌, ◌*◌, ◌-◌, ◌<◌, ◌≤◌, Bool, true, false, cond, List, Option, Some, None}
-use Rattle.std.proofs.Common.{refl, ap, ◌∙◌, subst, arith}
+use Rattle.std.proofs.Common.{◌≡◌, ℕ, zero, suc, ◌+◌, ◌*◌, ◌-◌, ◌<◌, ◌≤◌, Bool, true, false, cond, List, Option, Some}
+use Rattle.std.proofs.Common.{None, refl, ap, ◌∙◌, subst, arith}
 use Rattle.nofs_disk.specs.Pointer.{is_null}
 use Rattle.nofs_ptrs.specs.Paths.{path_of, Path, InRecord, Under}
 use Rattle.nofs_ptrs.specs.PathLaws.{path-leaf}

@@ -1,6 +1,6 @@
 -- The loops of a search: over the places of a cell, and over the slots of a directory.
-use Rattle.std.proofs.Common.{◌≡◌, ℕ, ◌+◌, ◌*◌, ◌/◌, ◌%◌, ◌<◌, Bool, true, false, List, Option, Some, None, IsTrue, Result}
-use Rattle.std.proofs.Common.{Ok, Err, refl, sym, ap, ◌∙◌, subst, arith, le_refl}
+use Rattle.std.proofs.Common.{◌≡◌, ℕ, ◌+◌, ◌*◌, ◌/◌, ◌%◌, ◌<◌, Bool, true, false, List, Option, Some, None, IsTrue}
+use Rattle.std.proofs.Common.{Result, Ok, Err, refl, sym, ap, ◌∙◌, subst, arith, le_refl}
 use Rattle.std.specs.Prelude.{IfOk, OnErr}
 use Rattle.nofs_disk.specs.Disk.{DiskState, StaysButFaults, Rose}
 use Rattle.nofs_disk.specs.Chains.{StaysButFaults-trans, Rose-within}
@@ -23,14 +23,16 @@ use Rattle.nofs_agree.proofs.OnChain.{told-on}
 use Rattle.nofs_state.proofs.OnInodes.Opened.{IsLast-on}
 use Rattle.nofs_dirent.specs.Entries.{entry_in, entry_limit, has_name}
 use Rattle.nofs_names.specs.Searches.Inodes.{slot_end}
-use Rattle.nofs_names.specs.Searches.Slots.{first_or, named_in, other_seen, with_holes, IsNamed, SeesNamed, Passed, IsPast, SearchesOn, Searches}
+use Rattle.nofs_names.specs.Searches.Slots.{first_or, named_in, other_seen, with_holes, IsNamed, SeesNamed, Passed}
+use Rattle.nofs_names.specs.Searches.Slots.{IsPast, SearchesOn, Searches}
 use Rattle.nofs_names.specs.declared.searches.slots.Paired.{Paired}
 use Rattle.nofs_names.specs.declared.searches.slots.Unfound.{Unfound}
 use Rattle.nofs_names.specs.declared.searches.entries.Named.{Named}
 use Rattle.nofs_names.specs.declared.searches.slots.Searched.TheVariants as searched
 use Rattle.nofs_history.specs.Search.{least_from}
 use Rattle.nofs_names.proofs.OnSearches.Holes.{ends-all}
-use Rattle.nofs_names.proofs.OnSearches.Progress.{passes-other, passes-dead, found-here, ends-bytes, ends-hole, ends-lost}
+use Rattle.nofs_names.proofs.OnSearches.Progress.{passes-other, passes-dead, found-here, ends-bytes, ends-hole}
+use Rattle.nofs_names.proofs.OnSearches.Progress.{ends-lost}
 
 -- a search after other reads
 pub searches-after : (old mid new : DiskState) (at : SuperBlock) (d : ℕ) (name : List ℕ) (w : Bool) (n k m l : ℕ)
