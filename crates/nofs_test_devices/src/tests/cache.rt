@@ -46,57 +46,32 @@ fn a_write_is_kept_back_until_it_is_written_out(rt: HostRuntime) -> Result<(), F
     Ok(())
 }
 
+// What a crash would leave, and what a call that fails below leaves to do: a flush writes the dirty blocks in rising
+// order, tells of the failure, and is made again with those that are left.
 #[test]
-fn a_crash_drops_dirty_blocks_and_leaves_the_flushed_content(rt: HostRuntime) -> Result<(), Fail> {
-    calls_below(rt.alloc(), "", "1=5 flush 1=6 2=8 1?6 2?8", "1?5 2?0")?;
-    Ok(())
-}
-
-#[test]
-fn a_call_that_fails_below_is_reported_by_the_flush_and_made_again(
-    rt: HostRuntime,
-) -> Result<(), Fail> {
-    for (call, writes, flushes) in [
-        ("write 1", 4, 1),
-        ("write 1 taken", 4, 1),
-        ("write 2", 4, 1),
-        ("write 2 taken", 4, 1),
-        ("write 3", 4, 1),
-        ("write 3 taken", 4, 1),
-        ("flush 1", 3, 2),
+fn what_was_kept_back_reaches_the_disk_below_in_order(rt: HostRuntime) -> Result<(), Fail> {
+    let three = "0=5 2=6 3=7 flush! flush";
+    let four = "2=12 0=10 3=9 1=11 3=13 flush!";
+    let left = "3=7 0=5 2=6 flush! 3=9 0=4 1=8 out1 flush";
+    for (call, script, below, writes, flushes) in [
+        ("", "1=5 flush 1=6 2=8 1?6 2?8", "1?5 2?0", 1, 1),
+        ("write 1", three, "0?5 1?0 2?6 3?7", 4, 1),
+        ("write 1 taken", three, "0?5 1?0 2?6 3?7", 4, 1),
+        ("write 2", three, "0?5 1?0 2?6 3?7", 4, 1),
+        ("write 2 taken", three, "0?5 1?0 2?6 3?7", 4, 1),
+        ("write 3", three, "0?5 1?0 2?6 3?7", 4, 1),
+        ("write 3 taken", three, "0?5 1?0 2?6 3?7", 4, 1),
+        ("flush 1", three, "0?5 1?0 2?6 3?7", 3, 2),
+        ("write 1", four, "0?0 1?0 2?0 3?0", 1, 0),
+        ("write 2", four, "0?10 1?0 2?0 3?0", 2, 0),
+        ("write 3", four, "0?10 1?11 2?0 3?0", 3, 0),
+        ("write 4", four, "0?10 1?11 2?12 3?0", 4, 0),
+        ("write 2", left, "0?4 1?8 2?6 3?9", 6, 1),
+        ("write 1", "2=7 out! 2?7 out2 out", "2?7", 2, 0),
     ] {
-        let script = "0=5 2=6 3=7 flush! flush";
-        let calls = calls_below(rt.alloc(), call, script, "0?5 1?0 2?6 3?7")?;
-        assert_eq!(rt; calls, counts(0, writes, flushes), "{call}");
+        let calls = calls_below(rt.alloc(), call, script, below)?;
+        assert_eq!(rt; calls, counts(0, writes, flushes), "{call}: {script}");
     }
-    Ok(())
-}
-
-#[test]
-fn a_flush_writes_the_dirty_blocks_in_rising_order(rt: HostRuntime) -> Result<(), Fail> {
-    for (call, below) in [
-        ("write 1", "0?0 1?0 2?0 3?0"),
-        ("write 2", "0?10 1?0 2?0 3?0"),
-        ("write 3", "0?10 1?11 2?0 3?0"),
-        ("write 4", "0?10 1?11 2?12 3?0"),
-    ] {
-        calls_below(rt.alloc(), call, "2=12 0=10 3=9 1=11 3=13 flush!", below)?;
-    }
-    Ok(())
-}
-
-#[test]
-fn a_flush_that_failed_is_made_again_with_the_blocks_that_are_left(
-    rt: HostRuntime,
-) -> Result<(), Fail> {
-    let script = "3=7 0=5 2=6 flush! 3=9 0=4 1=8 out1 flush";
-    calls_below(rt.alloc(), "write 2", script, "0?4 1?8 2?6 3?9")?;
-    Ok(())
-}
-
-#[test]
-fn a_write_out_that_fails_keeps_its_block_dirty(rt: HostRuntime) -> Result<(), Fail> {
-    calls_below(rt.alloc(), "write 1", "2=7 out! 2?7 out2 out", "2?7")?;
     Ok(())
 }
 

@@ -113,10 +113,8 @@ fn durable_after(
     fails: u64,
     script: &str,
     then: &str,
-) -> Result<usize, Fail>
-    requires { 0 < moved }
-{
-    let file = MemFile::new(alloc, b"", moved, &[fails])?;
+) -> Result<usize, Fail> {
+    let file = MemFile::new(alloc, b"", moved.max(1), &[fails])?;
     let mut disk = FileDisk::over(alloc, file)?;
     follow(&mut disk, script)?;
     let file = disk.file();
@@ -128,99 +126,81 @@ fn durable_after(
     Ok(file.durable().len())
 }
 
-// The file has 1,000 bytes of the cell then. A read gives the whole cell, and the next flush writes all of it.
+// A cell that was put half way (the file has 1,000 bytes of it then) is read whole, and the next flush writes all of
+// it. A run that could not be put stays in memory where the next can't begin; a flush that comes later puts it. A flush
+// makes the bytes durable, and one that fails may not.
 #[test]
-fn a_cell_that_was_put_half_way_is_read_whole_and_put_again(rt: HostRuntime) -> Result<(), Fail> {
-    let script = "0?0 0=7 flush! 0?7 flush";
-    assert_eq!(rt; durable_after(rt.alloc(), 1000, 3, script, "0?7")?, 1056);
+fn what_could_not_be_put_is_put_by_the_next_flush(rt: HostRuntime) -> Result<(), Fail> {
+    for (moved, fails, script, then, blocks) in [
+        (1000, 3, "0?0 0=7 flush! 0?7 flush", "0?7", 1),
+        (
+            1 << 20,
+            1,
+            "4=7 5=8 4=9 9=1! 4?9 5?8 9?0 9=1 flush 3?0 4?9 5?8 6?0 9?1",
+            "3?0 4?9 5?8 6?0 9?1",
+            10,
+        ),
+        (2000, 2, "0=7 flush! flush", "0?7", 1),
+    ] {
+        let bytes = durable_after(rt.alloc(), moved, fails, script, then)?;
+        assert_eq!(rt; bytes, blocks * 1056, "{script}");
+    }
     Ok(())
 }
 
-// The first run stays in memory where the second can't begin; a flush that comes later puts it.
-#[test]
-fn a_run_that_could_not_be_put_stays(rt: HostRuntime) -> Result<(), Fail> {
-    let script = "4=7 5=8 4=9 9=1! 4?9 5?8 9?0 9=1 flush 3?0 4?9 5?8 6?0 9?1";
-    let then = "3?0 4?9 5?8 6?0 9?1";
-    assert_eq!(rt;
-        durable_after(rt.alloc(), 1 << 20, 1, script, then)?,
-        10 * 1056
-    );
-    Ok(())
-}
-
-#[test]
-fn a_flush_makes_the_bytes_durable_and_one_that_fails_may_not(rt: HostRuntime) -> Result<(), Fail> {
-    let bytes = durable_after(rt.alloc(), 2000, 2, "0=7 flush! flush", "0?7")?;
-    assert_eq!(rt; bytes, 1056);
-    Ok(())
-}
-
-/// How many calls of a file with so many bytes 5 a script costs.
-fn calls_of(alloc: Global, bytes: usize, script: &str) -> Result<u64, Fail> {
-    let bytes = vec![in alloc; 5u8; bytes]?;
+/// How many calls of a file with so many blocks of bytes 5 a script costs.
+fn calls_of(alloc: Global, blocks: usize, script: &str) -> Result<u64, Fail> {
+    let bytes = vec![in alloc; 5u8; blocks * 1056]?;
     let file = MemFile::new(alloc, bytes.as_slice(), 1 << 30, &[])?;
     let mut disk = FileDisk::over(alloc, file)?;
     follow(&mut disk, script)?;
     Ok(disk.file().calls())
 }
 
-// One call of a run of neighbours, in rising or falling order, within 64 blocks from a multiple of 64 on, and one for
-// the sync.
-#[test]
-fn neighbours_are_written_in_one_call(rt: HostRuntime) -> Result<(), Fail> {
-    for (script, calls) in [
-        ("flush", 1),
-        ("7=1 flush", 2),
-        ("7=1 8=1 9=1 8=1 7=1 flush", 2),
-        ("7=1 8=1 10=1 11=1 flush", 3),
-        ("9=1 8=1 7=1 flush", 2),
-        ("8=1 9=1 7=1 10=1 6=1 8=1 flush", 2),
-        ("62=1 63=1 64=1 65=1 flush", 3),
-        ("0..63=1 flush", 2),
-        ("0..128=1 flush", 4),
-        ("63..0=1 flush", 2),
-        ("128..0=1 flush", 4),
-        ("0..65535=1 flush", 1_025),
-        ("4095..0=1 flush", 65),
-    ] {
-        assert_eq!(rt; calls_of(rt.alloc(), 0, script)?, calls, "{script}");
-    }
-    Ok(())
-}
+// One call writes a run of neighbours, in rising or falling order, within 64 blocks from a multiple of 64 on, and one
+// makes the sync. A scan costs a call in 64 cells, up and down. The first window is read whole, any other where a cell
+// of it was read alone lately, or many of the one beside it; after windows that were of no use, where more of its cells
+// were.
+const CALLS: [(usize, &str, u64); 22] = [
+    (0, "flush", 1),
+    (0, "7=1 flush", 2),
+    (0, "7=1 8=1 9=1 8=1 7=1 flush", 2),
+    (0, "7=1 8=1 10=1 11=1 flush", 3),
+    (0, "9=1 8=1 7=1 flush", 2),
+    (0, "8=1 9=1 7=1 10=1 6=1 8=1 flush", 2),
+    (0, "62=1 63=1 64=1 65=1 flush", 3),
+    (0, "0..63=1 flush", 2),
+    (0, "0..128=1 flush", 4),
+    (0, "63..0=1 flush", 2),
+    (0, "128..0=1 flush", 4),
+    (0, "0..65535=1 flush", 1_025),
+    (0, "4095..0=1 flush", 65),
+    (65_536, "0..65535?5", 1_024),
+    (65_536, "65535..0?5", 1_024),
+    (1_024, "0?5 1?5 63?5", 1),
+    (1_024, "0?5 640?5", 2),
+    (1_024, "0?5 640?5 700?5 641?5 699?5 642?5 643?5 698?5", 3),
+    (1_024, "0?5 64?5 0?5 64?5 65?5", 3),
+    (1_024, "0..15?5 64?5 65?5", 2),
+    (
+        1_024,
+        "0?5 64..65?5 128..129?5 192..193?5 256..257?5 320..321?5 384..385?5 448..449?5
+        512..513?5 640..643?5",
+        20,
+    ),
+    (
+        1_024,
+        "0?5 200?5 300?5 400?5 500?5 600?5 700?5 800?5 900?5 1000?5 200?5",
+        11,
+    ),
+];
 
 #[test]
-fn a_scan_costs_a_call_in_64_cells_up_and_down(rt: HostRuntime) -> Result<(), Fail> {
-    for script in ["0..65535?5", "65535..0?5"] {
-        assert_eq!(rt; calls_of(rt.alloc(), 65_536 * 1056, script)?, 1_024);
-    }
-    Ok(())
-}
-
-// The first window is read whole, any other where a cell of it was read alone lately, or many of the one beside it;
-// after windows that were of no use, where more of its cells were.
-#[test]
-fn a_window_is_read_whole_where_other_cells_of_it_are_likely(rt: HostRuntime) -> Result<(), Fail> {
-    for (script, calls) in [
-        ("0?5 1?5 63?5", 1),
-        ("0?5 640?5", 2),
-        ("0?5 640?5 700?5 641?5 699?5 642?5 643?5 698?5", 3),
-        ("0?5 64?5 0?5 64?5 65?5", 3),
-        ("0..15?5 64?5 65?5", 2),
-        (
-            "0?5 64..65?5 128..129?5 192..193?5 256..257?5 320..321?5 384..385?5 448..449?5
-            512..513?5 640..643?5",
-            20,
-        ),
-        (
-            "0?5 200?5 300?5 400?5 500?5 600?5 700?5 800?5 900?5 1000?5 200?5",
-            11,
-        ),
-    ] {
-        assert_eq!(rt;
-            calls_of(rt.alloc(), 1_024 * 1056, script)?,
-            calls,
-            "{script}"
-        );
+fn neighbours_cost_one_call_and_a_window_is_read_where_it_is_of_use(
+    rt: HostRuntime,
+) -> Result<(), Fail> {
+    for (blocks, script, calls) in CALLS {
+        assert_eq!(rt; calls_of(rt.alloc(), blocks, script)?, calls, "{script}");
     }
     Ok(())
 }

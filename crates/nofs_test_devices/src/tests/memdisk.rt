@@ -48,10 +48,12 @@ fn left(
 }
 
 #[test]
-fn a_disk_begins_with_zeros_and_gives_what_was_written(rt: HostRuntime) -> Result<(), Fail> {
+fn a_disk_begins_with_zeros_keeps_nothing_back_and_gives_what_was_written(
+    rt: HostRuntime,
+) -> Result<(), Fail> {
     let mut disk = MemDisk::new(rt.alloc(), 4)?;
     assert_eq!(rt; (disk.blocks(), disk.moment()), (4, 0));
-    follow(&mut disk, "3?0 3=7 3?7 2?0 flush 3?7")?;
+    follow(&mut disk, "3?0 3=7 out 3?7 2?0 flush 3?7")?;
     assert_eq!(rt; disk.moment(), 4);
     let counts = CallCounts {
         reads: 4,
@@ -60,14 +62,6 @@ fn a_disk_begins_with_zeros_and_gives_what_was_written(rt: HostRuntime) -> Resul
     };
     assert_eq!(rt; disk.calls(), counts);
     assert!(rt; disk.ready(u64::MAX).is_err());
-    Ok(())
-}
-
-#[test]
-fn nothing_is_kept_back(rt: HostRuntime) -> Result<(), Fail> {
-    let mut disk = MemDisk::new(rt.alloc(), 1)?;
-    follow(&mut disk, "0=7 out")?;
-    assert_eq!(rt; disk.moment(), 2);
     Ok(())
 }
 

@@ -17,16 +17,11 @@ const CONTENT_BYTES: [u8; 32] =
     *b"\x01\0\0\0\x02\0\0\0\x02\0\0\0\0\0\0\0\0\0\0\0\0\0\0\0\0\0\0\0\0\x01\0\0";
 
 #[test]
-fn a_tag_is_written_as_its_worked_bytes_and_read_from_them(rt: HostRuntime) {
+fn tags_are_written_as_their_worked_bytes_and_read_from_them(rt: HostRuntime) {
     let mut bytes = [7; 32];
     write_tag(&CONTENT, &mut bytes);
     assert_eq!(rt; bytes, CONTENT_BYTES);
     assert_eq!(rt; read_tag(&CONTENT_BYTES), Some(CONTENT));
-}
-
-#[test]
-fn the_slot_of_a_leaf_is_its_worked_bytes(rt: HostRuntime) {
-    let mut bytes = [0; 32];
     let leaf = Tag {
         kind: Kind::Leaf,
         slot: 4_294_967_296,
@@ -58,7 +53,7 @@ fn a_tag_has_a_kind_from_0_to_5_and_an_unused_one_has_only_zeros(rt: HostRuntime
 }
 
 #[test]
-fn a_pointer_is_written_as_its_worked_bytes_and_read_from_them(rt: HostRuntime) {
+fn a_pointer_has_its_worked_bytes_and_only_block_0_with_stamp_0_is_null(rt: HostRuntime) {
     let it = Pointer {
         block: 5,
         stamp: S + 9,
@@ -67,10 +62,6 @@ fn a_pointer_is_written_as_its_worked_bytes_and_read_from_them(rt: HostRuntime) 
     write_pointer_at(&mut bytes, 1, it);
     assert_eq!(rt; bytes, *b"\x07\x05\0\0\0\0\0\0\0\x09\0\0\0\0\x01\0\0\x07");
     assert_eq!(rt; read_pointer_at(&bytes, 1), it);
-}
-
-#[test]
-fn only_block_0_with_stamp_0_is_null(rt: HostRuntime) {
     for (block, stamp, is_null) in [
         (0, 1, false),
         (1, 0, false),
