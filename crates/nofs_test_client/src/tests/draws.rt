@@ -1,5 +1,4 @@
 //! The worked draws, and a replay of a history that was made by hand.
-ghost use Rattle.std.specs.Prelude.{◌≤◌};
 
 use nofs_client::{Command, Path};
 use nofs_dirent::Content;
@@ -9,189 +8,179 @@ use nofs_model::Value;
 use std::alloc::{AllocError, Global};
 use std::test::Fail;
 
-fn push_path(text: &mut Vec<u8>, path: &Path) -> Result<(), AllocError> {
-    match path {
-        Path::Label => Ok(text.push(b'@')?),
-        Path::Names(names) => {
-            for name in names.as_slice() {
-                text.push(b'/')?;
-                text.extend_from_slice(name.as_slice())?;
-            }
-            Ok(())
-        }
-    }
-}
-
-fn push_number(alloc: Global, text: &mut Vec<u8>, number: u64) -> Result<(), AllocError> {
-    text.push(b' ')?;
-    text.extend_from_slice(number.to_string(alloc)?.as_bytes())
-}
-
-// The bytes of a put as the first of them and their number.
-fn push_bytes(alloc: Global, text: &mut Vec<u8>, bytes: &Content) -> Result<(), AllocError> {
-    match bytes.item(0) {
-        Some(byte) => push_number(alloc, text, u64::from(*byte))?,
-        None => {}
-    }
-    push_number(alloc, text, bytes.len())
-}
-
-fn verb(command: &Command) -> (&'static str, Option<&Path>) {
+// The path of a command that a drill draws.
+fn path_of(command: &Command) -> Option<&Path> {
     match command {
-        Command::MakeDirectory { path } => ("mkdir ", Some(path)),
-        Command::Make { path } => ("make ", Some(path)),
-        Command::Put { path, .. } => ("put ", Some(path)),
-        Command::Get { path, .. } => ("get ", Some(path)),
-        Command::Size { path, .. } => ("size ", Some(path)),
-        Command::Fsync { path } => ("fsync ", Some(path)),
-        _ => ("another", None),
+        Command::MakeDirectory { path }
+        | Command::Make { path }
+        | Command::Fsync { path }
+        | Command::Size { path, .. }
+        | Command::Get { path, .. }
+        | Command::Put { path, .. } => Some(path),
+        _ => None,
     }
 }
 
-fn push_rest(alloc: Global, text: &mut Vec<u8>, command: &Command) -> Result<(), AllocError> {
-    match command {
-        Command::Put { offset, bytes, .. } => {
-            push_number(alloc, text, *offset)?;
-            push_bytes(alloc, text, bytes)
+// The names of a path, each behind a stroke.
+fn path_text(alloc: Global, path: Option<&Path>) -> Result<String, AllocError> {
+    let mut text = String::new(alloc);
+    if let Some(Path::Names(names)) = path {
+        for name in names.as_slice() {
+            text.push_str("/")?;
+            text.push_str(std::str::from_utf8(name.as_slice()).unwrap_or("?"))?;
         }
-        Command::Get { offset, length, .. } => {
-            push_number(alloc, text, *offset)?;
-            push_number(alloc, text, *length)
-        }
-        Command::Size { size, .. } => push_number(alloc, text, *size),
-        _ => Ok(()),
-    }
-}
-
-fn push_command(alloc: Global, text: &mut Vec<u8>, command: &Command) -> Result<(), AllocError> {
-    let (word, path) = verb(command);
-    text.extend_from_slice(word.as_bytes())?;
-    match path {
-        Some(path) => push_path(text, path)?,
-        None => {}
-    }
-    push_rest(alloc, text, command)?;
-    text.push(b'\n')?;
-    Ok(())
-}
-
-// The commands of a script, one a line.
-fn script_text(alloc: Global, start: u64, steps: u64, user: u32) -> Result<Vec<u8>, AllocError>
-    requires { (steps ≤ 4000) × (1 ≤ user) × (user ≤ 4) }
-{
-    let mut text = Vec::new(alloc);
-    for command in script_of(alloc, start, steps, user)?.as_slice() {
-        push_command(alloc, &mut text, command)?;
     }
     Ok(text)
 }
 
+// The word of a command and its numbers: of a put the place, the first byte and how many bytes.
+fn parts_of(command: &Command) -> (&'static str, [u64; 3]) {
+    match command {
+        Command::MakeDirectory { .. } => ("mkdir", [0; 3]),
+        Command::Make { .. } => ("make", [0; 3]),
+        Command::Fsync { .. } => ("fsync", [0; 3]),
+        Command::Size { size, .. } => ("size", [*size, 0, 0]),
+        Command::Get { offset, length, .. } => ("get", [*offset, *length, 0]),
+        Command::Put { offset, bytes, .. } => {
+            let first = bytes.item(0).copied().unwrap_or(0);
+            ("put", [*offset, u64::from(first), bytes.len()])
+        }
+        _ => ("another", [0; 3]),
+    }
+}
+
+// A command: its word, its path and its numbers, 0 where it has none.
+fn command_text(alloc: Global, command: &Command) -> Result<String, AllocError> {
+    let path = path_text(alloc, path_of(command))?;
+    let (word, [first, second, third]) = parts_of(command);
+    format!(in alloc; "{word} {path} {first} {second} {third}\n")
+}
+
+// The commands of a script, one a line.
+fn script_text(alloc: Global, start: u64, steps: u64, user: u32) -> Result<String, AllocError> {
+    if 4000 < steps || user < 1 || 4 < user {
+        return String::from_str(alloc, "no drill");
+    }
+    let mut text = String::new(alloc);
+    for command in script_of(alloc, start, steps, user)?.as_slice() {
+        text.push_str(command_text(alloc, command)?.as_str())?;
+    }
+    Ok(text)
+}
+
+/// The start of a drill, its steps and a user, and the commands between the first two and the last.
+const DRAWS: [(u64, u64, u32, &str); 7] = [
+    (1, 1, 1, "put /1/f 4209 198 839\n"),
+    (1, 1, 2, "size /2/f 227 0 0\n"),
+    (1, 1, 3, "put /3/f 4436 83 748\n"),
+    (1, 1, 4, "get /4/f 0 4096 0\n"),
+    (2_147_483_649, 1, 1, "put /1/f 4209 198 839\n"),
+    (2_147_483_647, 1, 3, "put /3/f 4209 198 839\n"),
+    (1, 0, 2, ""),
+];
+
 #[test]
 fn each_user_draws_its_own_commands(rt: HostRuntime) -> Result<(), Fail> {
     let alloc = rt.alloc();
-    for (start, user, want) in [
-        (
-            1,
-            1,
-            "mkdir /1\nmake /1/f\nput /1/f 4209 198 839\nfsync /1/f\n",
-        ),
-        (1, 2, "mkdir /2\nmake /2/f\nsize /2/f 227\nfsync /2/f\n"),
-        (
-            1,
-            3,
-            "mkdir /3\nmake /3/f\nput /3/f 4436 83 748\nfsync /3/f\n",
-        ),
-        (1, 4, "mkdir /4\nmake /4/f\nget /4/f 0 4096\nfsync /4/f\n"),
-        (
-            2_147_483_649,
-            1,
-            "mkdir /1\nmake /1/f\nput /1/f 4209 198 839\nfsync /1/f\n",
-        ),
-        (
-            2_147_483_647,
-            3,
-            "mkdir /3\nmake /3/f\nput /3/f 4209 198 839\nfsync /3/f\n",
-        ),
-    ] {
-        let text = script_text(alloc, start, 1, user)?;
-        assert_eq!(rt; text.as_slice(), want.as_bytes());
+    for (start, steps, user, drawn) in DRAWS {
+        let text = script_text(alloc, start, steps, user)?;
+        let begins = format!(in alloc; "mkdir /{user} 0 0 0\nmake /{user}/f 0 0 0\n")?;
+        let want = format!(in alloc; "{begins}{drawn}fsync /{user}/f 0 0 0\n")?;
+        assert_eq!(rt; text, want, "start {start}");
     }
-    let text = script_text(alloc, 1, 0, 2)?;
-    assert_eq!(rt;
-        text.as_slice(),
-        b"mkdir /2\nmake /2/f\nfsync /2/f\n".as_slice()
-    );
     Ok(())
 }
 
-fn push_entry(history: &mut History, step: Step, reply: Reply) -> Result<(), AllocError> {
+/// A step on inode 3 or 4, of generation 9.
+#[derive(Clone, Copy)]
+enum Did {
+    /// The inode, the slot, the place in it, and the bytes.
+    Put(u32, u64, u32, &'static str),
+    /// A put of bytes to slot 0 that was refused.
+    Refused(&'static str),
+    Size(u64),
+}
+
+fn step_of(alloc: Global, did: Did) -> Result<Step, AllocError> {
+    let (inode, slot, at, bytes) = match did {
+        Did::Put(inode, slot, at, bytes) => (inode, slot, at, bytes),
+        Did::Refused(bytes) => (3, 0, 0, bytes),
+        Did::Size(size) => {
+            return Ok(Step::Resize {
+                inode: 3,
+                generation: 9,
+                size,
+            });
+        }
+    };
+    Ok(Step::Put {
+        inode,
+        generation: 9,
+        slot,
+        at,
+        bytes: Content::from_slice(alloc, bytes.as_bytes())?,
+    })
+}
+
+fn reply_to(did: Did) -> Reply {
+    match did {
+        Did::Put(..) => Reply::Stored,
+        Did::Refused(_) => Reply::Refused(Refusal::Stopped),
+        Did::Size(_) => Reply::Resized,
+    }
+}
+
+fn push_entry(alloc: Global, history: &mut History, did: Did) -> Result<(), AllocError> {
+    let step = step_of(alloc, did)?;
     history.reserve(1)?;
     history.push(Entry1 {
         caller: 1,
         from: 0,
         to: 0,
         step,
-        reply,
+        reply: reply_to(did),
         claims: NO_CLAIMS,
     });
     Ok(())
 }
 
-fn put(alloc: Global, inode: u32, slot: u64, at: u32, bytes: &[u8]) -> Result<Step, AllocError> {
-    Ok(Step::Put {
-        inode,
-        generation: 9,
-        slot,
-        at,
-        bytes: Content::from_slice(alloc, bytes)?,
-    })
-}
-
-fn resize(size: u64) -> Step {
-    Step::Resize {
-        inode: 3,
-        generation: 9,
-        size,
+// The first seven bytes of each slot that is no hole, with a point for a zero.
+fn values_text(alloc: Global, values: &ValueList) -> Result<String, AllocError> {
+    let mut text = String::new(alloc);
+    for (slot, value) in values.as_slice().iter().enumerate() {
+        if let Value::Bytes(bytes) = value {
+            text.push_str(format!(in alloc; " {slot}:")?.as_str())?;
+            for byte in bytes.as_slice().iter().take(7) {
+                text.push(if *byte == 0 { '.' } else { char::from(*byte) })?;
+            }
+        }
     }
+    Ok(text)
 }
 
-// The first bytes of a slot; none for a hole.
-fn begins(values: &ValueList, slot: u64, want: &[u8]) -> bool {
-    match values.item(slot) {
-        Some(Value::Bytes(bytes)) => bytes.as_slice().starts_with(want),
-        _ => false,
-    }
-}
-
-fn is_hole(values: &ValueList, slot: u64) -> bool {
-    matches!(values.item(slot), Some(Value::Hole))
-}
+/// What was done one after the other, and the slots of inode 3 then.
+const REPLAYS: [(Did, &str); 8] = [
+    (Did::Put(3, 0, 0, "abcdef"), " 0:abcdef."),
+    (Did::Put(4, 0, 0, "other"), " 0:abcdef."),
+    (Did::Refused("refused"), " 0:abcdef."),
+    (Did::Size(2050), " 0:abcdef."),
+    (Did::Put(3, 2, 1, "z"), " 0:abcdef. 2:.z....."),
+    (Did::Put(3, 72, 0, "z"), " 0:abcdef. 2:.z....."),
+    (Did::Size(3), " 0:abcdef."),
+    (Did::Size(5000), " 0:abc...."),
+];
 
 #[test]
 fn a_replay_has_what_was_accepted_and_nothing_else(rt: HostRuntime) -> Result<(), Fail> {
     let alloc = rt.alloc();
     let mut history = History::new(alloc, 0);
-    push_entry(&mut history, put(alloc, 3, 0, 0, b"abcdef")?, Reply::Stored)?;
-    push_entry(&mut history, put(alloc, 4, 0, 0, b"other")?, Reply::Stored)?;
-    push_entry(
-        &mut history,
-        put(alloc, 3, 0, 0, b"refused")?,
-        Reply::Refused(Refusal::Stopped),
-    )?;
-    push_entry(&mut history, resize(2050), Reply::Resized)?;
-    push_entry(&mut history, put(alloc, 3, 2, 1, b"z")?, Reply::Stored)?;
-    push_entry(&mut history, put(alloc, 3, 72, 0, b"z")?, Reply::Stored)?;
-    let values = replay(alloc, &history, 3, 9)?;
-    assert_eq!(rt; values.len(), 72);
-    assert!(rt; begins(&values, 0, b"abcdef\0"));
-    assert!(rt; is_hole(&values, 1) && begins(&values, 2, b"\0z\0") && is_hole(&values, 71));
-    push_entry(&mut history, resize(3), Reply::Resized)?;
-    let values = replay(alloc, &history, 3, 9)?;
-    assert!(rt; begins(&values, 0, b"abcdef\0") && is_hole(&values, 2));
-    push_entry(&mut history, resize(5000), Reply::Resized)?;
-    let values = replay(alloc, &history, 3, 9)?;
-    assert!(rt; begins(&values, 0, b"abc\0\0\0\0"));
+    for (row, (did, want)) in REPLAYS.into_iter().enumerate() {
+        push_entry(alloc, &mut history, did)?;
+        let values = replay(alloc, &history, 3, 9)?;
+        assert_eq!(rt; values_text(alloc, &values)?.as_str(), want, "{row}");
+        assert_eq!(rt; values.len(), 72, "{row}");
+    }
     let values = replay(alloc, &history, 3, 8)?;
-    assert!(rt; is_hole(&values, 0));
+    assert_eq!(rt; values_text(alloc, &values)?.as_str(), "");
     Ok(())
 }

@@ -1,8 +1,6 @@
 //! Streams of frames over a stand-in for a mount, in pieces of any size, with faults and at their limits.
-mod answer;
-mod faults;
+
 mod in_turn;
 mod served;
-mod spelled;
 mod streams;
 mod worked;

@@ -1,15 +1,23 @@
 //! Texts in pieces, calls that fail by number, and std's readers and writers.
-use nofs_io::{Failed, MemSink, MemSource, ReadFault, ReadSource, WriteSink, read_all, write_all};
+use nofs_io::{Failed, MemSink, MemSource, ReadSource, Source, WriteSink, read_all, write_all};
 use std::alloc::{AllocError, Global};
 use std::io;
 use std::io::{ErrorKind, Read, Write};
 use std::test::Fail;
 
-/// A text longer than the largest piece.
-fn long_text(alloc: Global) -> Result<Vec<u8>, AllocError> {
-    let mut text = Vec::new(alloc);
-    for number in 0..70_000u32 {
-        text.push((number % 251) as u8)?;
+/// The text that a source gives, or why it gives none.
+fn reading<S: Source>(alloc: Global, source: &mut S, limit: u32) -> Result<String, AllocError> {
+    match read_all(alloc, source, limit as usize) {
+        Ok(bytes) => String::from_str(alloc, std::str::from_utf8(&bytes).unwrap_or("?")),
+        Err(fault) => format!(in alloc; "{fault:?}"),
+    }
+}
+
+/// The numbers from 0 to 9,999, each with seven digits: a text longer than the largest piece.
+fn numbers_text(alloc: Global) -> Result<String, AllocError> {
+    let mut text = String::new(alloc);
+    for number in 0..10_000u32 {
+        text.push_str(format!(in alloc; "{number:07}")?.as_str())?;
     }
     Ok(text)
 }
@@ -17,14 +25,16 @@ fn long_text(alloc: Global) -> Result<Vec<u8>, AllocError> {
 #[test]
 fn a_text_is_the_same_in_pieces_of_every_size(rt: HostRuntime) -> Result<(), Fail> {
     let alloc = rt.alloc();
-    let text = long_text(alloc)?;
+    let text = numbers_text(alloc)?;
     for piece in [1, 7, 65_536] {
-        for (limit, fits) in [(70_001, true), (70_000, true), (69_999, false)] {
-            let mut source = MemSource::new(alloc, &text, piece, &[])?;
-            match read_all(alloc, &mut source, limit) {
-                Ok(bytes) => assert!(rt; fits && bytes == text, "{piece} {limit}"),
-                Err(fault) => assert!(rt; !fits && fault == ReadFault::TooLong, "{piece} {limit}"),
-            }
+        for (limit, want) in [
+            (70_001, text.as_str()),
+            (70_000, &text),
+            (69_999, "TooLong"),
+        ] {
+            let mut source = MemSource::new(alloc, text.as_bytes(), piece, &[])?;
+            let came = reading(alloc, &mut source, limit)?;
+            assert_eq!(rt; came.as_str(), want, "{piece} {limit}");
         }
     }
     Ok(())
@@ -41,14 +51,16 @@ fn a_call_that_fails_leaves_a_prefix(rt: HostRuntime) -> Result<(), Fail> {
         (5, ""),
     ] {
         let mut source = MemSource::new(alloc, b"0123456789", 3, &[number])?;
-        match read_all(alloc, &mut source, 10) {
-            Ok(_) => assert!(rt; false, "call {number} did not fail"),
-            Err(fault) => assert_eq!(rt; fault, ReadFault::Source, "call {number}"),
-        }
-        match read_all(alloc, &mut source, 10) {
-            Ok(bytes) => assert_eq!(rt; bytes.as_slice(), rest.as_bytes(), "call {number}"),
-            Err(_) => assert!(rt; false, "call {number} failed again"),
-        }
+        assert_eq!(rt;
+            reading(alloc, &mut source, 10)?.as_str(),
+            "Source",
+            "call {number}"
+        );
+        assert_eq!(rt;
+            reading(alloc, &mut source, 10)?.as_str(),
+            rest,
+            "call {number}"
+        );
     }
     Ok(())
 }
@@ -56,14 +68,13 @@ fn a_call_that_fails_leaves_a_prefix(rt: HostRuntime) -> Result<(), Fail> {
 #[test]
 fn a_sink_takes_as_much_as_it_has_room_for(rt: HostRuntime) -> Result<(), Fail> {
     let alloc = rt.alloc();
-    let cases = [
+    for (room, fails, ends, taken) in [
         (10, 3, Ok(()), "0123456789"),
         (4, 3, Err(Failed), "0123"),
         (10, 1, Err(Failed), ""),
         (4, 2, Err(Failed), "0123"),
         (0, 3, Err(Failed), ""),
-    ];
-    for (room, fails, ends, taken) in cases {
+    ] {
         let mut sink = MemSink::new(alloc, room, &[fails])?;
         assert_eq!(rt; write_all(&mut sink, b"0123456789"), ends, "{room} {fails}");
         assert_eq!(rt; sink.bytes(), taken.as_bytes(), "{room} {fails}");
@@ -71,8 +82,7 @@ fn a_sink_takes_as_much_as_it_has_room_for(rt: HostRuntime) -> Result<(), Fail> 
     Ok(())
 }
 
-/// A reader and writer of one byte a call, which is interrupted at each odd call and fails at the
-/// eighth.
+/// A reader and writer of one byte a call, which is interrupted at each odd call and fails at the eighth.
 #[derive(Drop)]
 struct Stumbling {
     calls: u64,
@@ -132,15 +142,11 @@ impl Write for Stumbling {
 #[test]
 fn a_reader_of_std_is_a_source(rt: HostRuntime) -> Result<(), Fail> {
     let alloc = rt.alloc();
-    match read_all(alloc, &mut ReadSource::new(b"text".as_slice()), 4) {
-        Ok(bytes) => assert_eq!(rt; bytes.as_slice(), b"text".as_slice()),
-        Err(_) => assert!(rt; false),
-    }
-    for (limit, fault) in [(2, ReadFault::TooLong), (3, ReadFault::Source)] {
-        match read_all(alloc, &mut ReadSource::new(Stumbling::new(alloc)), limit) {
-            Ok(_) => assert!(rt; false),
-            Err(found) => assert_eq!(rt; found, fault),
-        }
+    let mut text = ReadSource::new(b"text".as_slice());
+    assert_eq!(rt; reading(alloc, &mut text, 4)?.as_str(), "text");
+    for (limit, fault) in [(2, "TooLong"), (3, "Source")] {
+        let mut stumbling = ReadSource::new(Stumbling::new(alloc));
+        assert_eq!(rt; reading(alloc, &mut stumbling, limit)?.as_str(), fault);
     }
     Ok(())
 }
@@ -150,10 +156,8 @@ fn a_writer_of_std_is_a_sink(rt: HostRuntime) -> Result<(), Fail> {
     let alloc = rt.alloc();
     for (text, ends) in [("abc", Ok(())), ("abcd", Err(Failed))] {
         let mut writer = Stumbling::new(alloc);
-        assert_eq!(rt;
-            write_all(&mut WriteSink::new(&mut writer), text.as_bytes()),
-            ends
-        );
+        let end = write_all(&mut WriteSink::new(&mut writer), text.as_bytes());
+        assert_eq!(rt; end, ends);
         assert_eq!(rt; writer.bytes.as_slice(), b"abc".as_slice());
     }
     Ok(())

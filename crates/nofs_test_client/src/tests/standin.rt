@@ -2,10 +2,8 @@
 //!
 //! Promise: like each maker of steps it gives replies that fit, and knows the steps that it made.
 pub(crate) mod fitting;
-mod in_turn;
 pub(crate) mod made;
 pub(crate) mod mount;
-pub(crate) mod notes;
-pub(crate) mod parts;
-pub(crate) mod paths;
 pub(crate) mod replies;
+pub(crate) mod spelling;
+pub(crate) mod transcript;

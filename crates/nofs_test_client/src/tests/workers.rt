@@ -6,10 +6,13 @@ mod fake;
 mod gates;
 
 use crate::tests::standin::mount::Told;
+use crate::tests::standin::transcript::Transcript;
 use crate::tests::workers::fake::Fake;
-use crate::tests::workers::gates::{CountGate, no_calls};
+use crate::tests::workers::gates::{Calls, CountGate, no_calls};
 use nofs_client::{Command, CommandList, Path};
-use nofs_workers::{BlockSweeper, Downwards, Flusher, InodeSweeper, OpenGate, Upwards, UserWorker};
+use nofs_workers::{
+    BlockSweeper, Downwards, Flusher, InodeSweeper, OpenGate, Upwards, UserEnd, UserWorker,
+};
 use std::alloc::{AllocError, Global};
 use std::sync::atomic::Ordering;
 use std::test::Fail;
@@ -69,7 +72,6 @@ fn a_sweep_ends_where_memory_is_wanting(rt: HostRuntime) -> Result<(), Fail> {
 /// The calls of a flusher with four turns over three dirty blocks, and the blocks that stay dirty.
 fn flush_three(alloc: Global, fails_at: u64) -> (u64, u64) {
     let mut fake = Fake::new(alloc);
-    fake.dirty = 3;
     fake.fails_at = fails_at;
     let mut flusher = Flusher::new(Told::new(fake), OpenGate, 4);
     flusher.work();
@@ -78,29 +80,33 @@ fn flush_three(alloc: Global, fails_at: u64) -> (u64, u64) {
 }
 
 #[test]
-fn a_flusher_with_four_turns_over_three_dirty_blocks_makes_four_calls(rt: HostRuntime) {
-    assert_eq!(rt; flush_three(rt.alloc(), 0), (4, 0));
+fn a_flusher_calls_four_times_or_until_a_call_fails(rt: HostRuntime) {
+    for (fails_at, came) in [(0, (4, 0)), (2, (2, 2))] {
+        assert_eq!(rt; flush_three(rt.alloc(), fails_at), came, "call {fails_at}");
+    }
 }
 
-#[test]
-fn a_flusher_ends_at_the_first_fault(rt: HostRuntime) {
-    assert_eq!(rt; flush_three(rt.alloc(), 2), (2, 2));
+/// What came of a user with two stats to which these replies come: its steps, how many lines it has, and whether memory
+/// was wanting.
+fn worked(alloc: Global, told: &str, calls: &Calls) -> Result<(String, u64, bool), AllocError> {
+    let commands = two_stats(alloc)?;
+    let steps = Told::new(Transcript::new(alloc, told));
+    let mut user = UserWorker::new(alloc, steps, commands, CountGate { calls });
+    user.work();
+    let UserEnd {
+        steps,
+        lines,
+        out_of_memory,
+    } = user.into_inner();
+    Ok((steps.answers.text, lines.len(), out_of_memory))
 }
 
 #[test]
 fn a_user_passes_its_gate_at_each_step(rt: HostRuntime) -> Result<(), Fail> {
     let calls = no_calls();
-    let commands = two_stats(rt.alloc())?;
-    let mut user = UserWorker::new(
-        rt.alloc(),
-        Told::new(Fake::new(rt.alloc())),
-        commands,
-        CountGate { calls: &calls },
-    );
-    user.work();
-    let end = user.into_inner();
-    assert!(rt; !end.out_of_memory);
-    assert_eq!(rt; (end.lines.len(), end.steps.answers.others), (2, 2));
+    let told = "stat 2/2 -> file 0 1\nstat 2/2 -> file 0 1\n";
+    let (steps, lines, wanting) = worked(rt.alloc(), told, &calls)?;
+    assert_eq!(rt; (steps.as_str(), lines, wanting), (told, 2, false));
     assert_eq!(rt; calls.before.load(Ordering::SeqCst), 2);
     assert_eq!(rt; calls.after.load(Ordering::SeqCst), 2);
     Ok(())
@@ -108,13 +114,8 @@ fn a_user_passes_its_gate_at_each_step(rt: HostRuntime) -> Result<(), Fail> {
 
 #[test]
 fn a_user_ends_where_memory_is_wanting(rt: HostRuntime) -> Result<(), Fail> {
-    let mut fake = Fake::new(rt.alloc());
-    fake.room = 1;
-    let commands = two_stats(rt.alloc())?;
-    let mut user = UserWorker::new(rt.alloc(), Told::new(fake), commands, OpenGate);
-    user.work();
-    let end = user.into_inner();
-    assert!(rt; end.out_of_memory);
-    assert_eq!(rt; (end.lines.len(), end.steps.answers.others), (1, 1));
+    let told = "stat 2/2 -> file 0 1\nstat 2/2 -> refused OutOfMemory\n";
+    let (steps, lines, wanting) = worked(rt.alloc(), told, &no_calls())?;
+    assert_eq!(rt; (steps.as_str(), lines, wanting), (told, 1, true));
     Ok(())
 }

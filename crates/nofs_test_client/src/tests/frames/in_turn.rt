@@ -1,81 +1,53 @@
 //! How many calls a stream costs, and what a client that waits for each reply is given.
 ghost use Rattle.nofs_io.specs.Memory.{sink_of, source_of};
 
-use crate::tests::frames::answer::WireReply;
-use crate::tests::frames::served::{
-    Faults, GET_0, NO_FAULTS, STAT, STOPPED_REPLY, failing_reads, failing_writes, frames_of,
-    serve_faulty, stand_in,
-};
-use crate::tests::frames::streams::put_of;
+use crate::tests::frames::served::{Flow, GET, STAT, WHOLE, bytes_of, put_of, serve_told};
+use crate::tests::standin::mount::Told;
+use crate::tests::standin::transcript::Transcript;
 use nofs_io::{Failed, MemSink, MemSource, Sink, Source};
 use nofs_wire::{WireEnd, serve};
-use std::alloc::{AllocError, Global};
+use std::alloc::Global;
+use std::process::Abort;
 use std::sync::atomic::{AtomicU64, Ordering};
 use std::test::Fail;
 
-/// A frame so many times.
-fn repeated(alloc: Global, frame: &[u8], count: u64) -> Result<Vec<u8>, AllocError> {
-    let mut stream = Vec::new(alloc);
-    for _ in 0..count {
-        stream.extend_from_slice(frame)?;
+/// A stream of one piece costs so many reads and so many writes: one more doesn't come, so that its failing changes
+/// nothing.
+fn expect_calls(
+    rt: &impl Abort,
+    alloc: Global,
+    stream: &[u8],
+    told: &str,
+    calls: [u64; 2],
+) -> Result<(), Fail> {
+    let [reads, writes] = calls;
+    for (read, write, end) in [
+        (reads, 0, WireEnd::SourceFault),
+        (reads.saturating_add(1), 0, WireEnd::End),
+        (0, writes, WireEnd::SinkFault),
+        (0, writes.saturating_add(1), WireEnd::End),
+    ] {
+        let flow = Flow {
+            piece: 1_000_000,
+            read,
+            write,
+            ..WHOLE
+        };
+        let came = serve_told(alloc, flow, stream, told)?;
+        assert_eq!(rt; came.end, end, "read {read}, write {write}");
     }
-    Ok(stream)
-}
-
-/// What a stream ends with that comes in one piece, while calls fail.
-fn end_of(alloc: Global, stream: &[u8], faults: Faults<'_>) -> Result<WireEnd, AllocError> {
-    Ok(serve_faulty(alloc, stream, 1_000_000, faults, &[])?.end)
+    Ok(())
 }
 
 #[test]
 fn three_hundred_frames_cost_a_call_for_each_64_kib(rt: HostRuntime) -> Result<(), Fail> {
     let alloc = rt.alloc();
-    let longest = put_of(alloc, b"\x4c\x04\0\0", 1075)?;
-    for (frame, reads, writes) in [
-        (GET_0, [2, 3], [1, 2]),
-        (longest.as_slice(), [7, 8], [6, 7]),
-    ] {
-        let stream = repeated(alloc, frame, 300)?;
-        let [last, past] = reads;
-        assert_eq!(rt;
-            end_of(alloc, &stream, failing_reads(&[last]))?,
-            WireEnd::SourceFault
-        );
-        assert_eq!(rt;
-            end_of(alloc, &stream, failing_reads(&[past]))?,
-            WireEnd::End
-        );
-        let [last, past] = writes;
-        assert_eq!(rt;
-            end_of(alloc, &stream, failing_writes(&[last]))?,
-            WireEnd::SinkFault
-        );
-        assert_eq!(rt;
-            end_of(alloc, &stream, failing_writes(&[past]))?,
-            WireEnd::End
-        );
-    }
-    Ok(())
-}
-
-#[test]
-fn large_replies_are_given_64_kib_at_a_time(rt: HostRuntime) -> Result<(), Fail> {
-    let alloc = rt.alloc();
-    let stream = repeated(alloc, GET_0, 300)?;
-    let mut answers = Vec::new(alloc);
-    for _ in 0..300 {
-        answers.push(WireReply::Bytes(7))?;
-    }
-    for (number, want) in [(5u64, WireEnd::SinkFault), (6, WireEnd::End)] {
-        let faults = Faults {
-            writes: &[number],
-            room: 400_000,
-            ..NO_FAULTS
-        };
-        let served = serve_faulty(alloc, &stream, 1_000_000, faults, &answers)?;
-        assert_eq!(rt; served.end, want);
-    }
-    Ok(())
+    let gets = bytes_of(alloc, GET)?.repeat(alloc, 300)?;
+    expect_calls(&rt, alloc, &gets, "", [2, 1])?;
+    let large = "get 2/2 0 -> bytes 0 07\n".repeat(alloc, 300)?;
+    expect_calls(&rt, alloc, &gets, large.as_str(), [2, 5])?;
+    let puts = put_of(alloc, "4c040000", 1075)?.repeat(alloc, 300)?;
+    expect_calls(&rt, alloc, &puts, "", [7, 6])
 }
 
 /// A sink that tells how many bytes it took.
@@ -108,8 +80,7 @@ impl Source for Waiting<'_> {
     ghost state = { λ s. source_of s.inner };
 
     fn take(&mut self, into: &mut [u8]) -> Result<usize, Failed> {
-        let replies = self.sent.saturating_mul(STOPPED_REPLY.len() as u64);
-        if self.given.load(Ordering::SeqCst) != replies {
+        if self.given.load(Ordering::SeqCst) != self.sent.saturating_mul(5) {
             self.early = true;
         }
         self.sent = self.sent.saturating_add(1);
@@ -120,11 +91,11 @@ impl Source for Waiting<'_> {
 #[test]
 fn a_client_that_waits_for_each_reply_is_given_it(rt: HostRuntime) -> Result<(), Fail> {
     let alloc = rt.alloc();
-    let stream = repeated(alloc, STAT, 100)?;
+    let stream = bytes_of(alloc, STAT)?.repeat(alloc, 100)?;
     let given = AtomicU64::new(0);
-    let mut told = stand_in(alloc, &[])?;
+    let mut told = Told::new(Transcript::new(alloc, ""));
     let mut source = Waiting {
-        inner: MemSource::new(alloc, &stream, STAT.len() as u64, &[])?,
+        inner: MemSource::new(alloc, &stream, 17, &[])?,
         given: &given,
         sent: 0,
         early: false,
@@ -134,9 +105,11 @@ fn a_client_that_waits_for_each_reply_is_given_it(rt: HostRuntime) -> Result<(),
         given: &given,
     };
     let end = serve(alloc, &mut told, &mut source, &mut sink);
-    assert_eq!(rt; end, WireEnd::End);
-    assert_eq!(rt; source.sent, 101);
-    assert!(rt; !source.early);
-    assert_eq!(rt; frames_of(told).as_slice(), stream.as_slice());
+    assert_eq!(rt;
+        (end, source.sent, source.early),
+        (WireEnd::End, 101, false)
+    );
+    let want = "stat 2/2 -> refused Stopped\n".repeat(alloc, 100)?;
+    assert_eq!(rt; told.answers.text, want);
     Ok(())
 }

@@ -1,138 +1,91 @@
-//! Streams that are served, in pieces of any size and while calls fail, with the frames of worked steps.
-ghost use Rattle.std.specs.Prelude.{◌<◌};
+//! Streams that are served, in pieces of any size and while calls fail.
 
-use crate::tests::frames::answer::{WireReply, reply};
-use crate::tests::frames::spelled::AskedFrames;
 use crate::tests::standin::mount::Told;
-use crate::tests::standin::notes::InTurn;
+use crate::tests::standin::transcript::Transcript;
 use nofs_io::{MemSink, MemSource};
-use nofs_wire::{WireEnd, serve};
+use nofs_wire::{WireEnd, serve, serve_up_to};
 use std::alloc::{AllocError, Global};
-use std::process::Abort;
 
-// The frames of worked steps, and of the replies to them.
-pub(crate) const STAT: &[u8] = b"\x0d\0\0\0\x0a\x02\0\0\0\x02\0\0\0\0\0\0\0";
+/// The frame of a stat of the label file.
+pub(crate) const STAT: &str = "0d000000 0a 02000000 0200000000000000";
 
-pub(crate) const STAT_REPLY: &[u8] = b"\x0e\0\0\0\0\x01\0\0\0\0\0\0\0\0\0\0\0\0";
+/// The frame of a get of its first slot.
+pub(crate) const GET: &str = "15000000 07 02000000 0200000000000000 0000000000000000";
 
-pub(crate) const GET_0: &[u8] = b"\x15\0\0\0\x07\x02\0\0\0\x02\0\0\0\0\0\0\0\0\0\0\0\0\0\0\0";
-
-pub(crate) const GET_72: &[u8] = b"\x15\0\0\0\x07\x02\0\0\0\x02\0\0\0\0\0\0\0\x48\0\0\0\0\0\0\0";
-
-pub(crate) const HOLE_REPLY: &[u8] = b"\x02\0\0\0\0\x02";
-
-pub(crate) const TOO_LARGE_REPLY: &[u8] = b"\x01\0\0\0\x0c";
-
-pub(crate) const STOPPED_REPLY: &[u8] = b"\x01\0\0\0\x14";
-
-type StandIn = Told<InTurn<AskedFrames>>;
-
-pub(crate) fn stand_in(alloc: Global, answers: &[WireReply]) -> Result<StandIn, AllocError> {
-    let mut replies = Vec::new(alloc);
-    for answer in answers.iter().rev() {
-        replies.push(reply(alloc, *answer)?)?;
-    }
-    let frames = Vec::new(alloc);
-    let asked = AskedFrames { alloc, frames };
-    Ok(Told::new(InTurn { replies, asked }))
+/// How a stream comes, and what fails.
+#[derive(Clone, Copy)]
+pub struct Flow {
+    /// How many bytes a call of the source gives at most.
+    pub piece: u64,
+    /// Which read and which write fail, counted from 1; 0 for none.
+    pub read: u64,
+    pub write: u64,
+    /// How many bytes the sink takes.
+    pub room: u64,
+    /// How many bytes a stream may have; none where `serve` says so.
+    pub limit: Option<u32>,
 }
 
-/// The frames of the steps that a stand-in was asked for.
-pub(crate) fn frames_of(told: StandIn) -> Vec<u8> {
-    told.answers.asked.frames
-}
+/// A stream that comes in pieces of 4,096 bytes, while nothing fails.
+pub(crate) const WHOLE: Flow = Flow {
+    piece: 4096,
+    read: 0,
+    write: 0,
+    room: 400_000,
+    limit: None,
+};
 
-/// What became of a stream: its end, what was asked, and what was given. The source is left.
+/// What became of a stream.
 #[derive(Drop)]
-pub struct FramesServed {
+pub struct ServedStream {
     pub end: WireEnd,
-    pub asked: Vec<u8>,
+    /// The steps that were made and the replies that were told, each on its line.
+    pub steps: String,
+    /// The bytes that were given.
     pub given: Vec<u8>,
+    /// The source, with what was not taken.
     pub source: MemSource,
 }
 
-/// The calls that fail, counted from 1, and how many bytes the sink takes.
-#[derive(Clone, Copy)]
-pub struct Faults<'a> {
-    pub reads: &'a [u64],
-    pub writes: &'a [u64],
-    pub room: u64,
-}
-
-pub(crate) const NO_FAULTS: Faults<'static> = Faults {
-    reads: &[],
-    writes: &[],
-    room: 100_000,
-};
-
-/// The reads with these numbers fail.
-pub(crate) fn failing_reads(reads: &[u64]) -> Faults<'_> {
-    Faults { reads, ..NO_FAULTS }
-}
-
-/// The writes with these numbers fail.
-pub(crate) fn failing_writes(writes: &[u64]) -> Faults<'_> {
-    Faults {
-        writes,
-        ..NO_FAULTS
-    }
-}
-
-/// Serves a stream that comes in pieces of at most so many bytes, while calls fail.
-pub(crate) fn serve_faulty(
+/// Serves a stream. The stand-in replies what these lines tell.
+pub(crate) fn serve_told(
     alloc: Global,
+    flow: Flow,
     stream: &[u8],
-    piece: u64,
-    faults: Faults<'_>,
-    answers: &[WireReply],
-) -> Result<FramesServed, AllocError>
-    requires { 0 < piece }
-{
-    let mut told = stand_in(alloc, answers)?;
-    let mut source = MemSource::new(alloc, stream, piece, faults.reads)?;
-    let mut sink = MemSink::new(alloc, faults.room, faults.writes)?;
-    let end = serve(alloc, &mut told, &mut source, &mut sink);
+    told: &str,
+) -> Result<ServedStream, AllocError> {
+    let mut told = Told::new(Transcript::new(alloc, told));
+    let mut source = MemSource::new(alloc, stream, flow.piece.max(1), &[flow.read])?;
+    let mut sink = MemSink::new(alloc, flow.room, &[flow.write])?;
+    let end = match flow.limit {
+        None => serve(alloc, &mut told, &mut source, &mut sink),
+        Some(limit) => serve_up_to(alloc, u64::from(limit), &mut told, &mut source, &mut sink),
+    };
     let given = sink.bytes().to_vec(alloc)?;
-    let asked = frames_of(told);
-    Ok(FramesServed {
+    let steps = told.answers.text;
+    Ok(ServedStream {
         end,
-        asked,
+        steps,
         given,
         source,
     })
 }
 
-/// Serves a stream while no call fails.
-pub(crate) fn serve_stream(
-    alloc: Global,
-    stream: &[u8],
-    piece: u64,
-    answers: &[WireReply],
-) -> Result<FramesServed, AllocError>
-    requires { 0 < piece }
-{
-    serve_faulty(alloc, stream, piece, NO_FAULTS, answers)
+/// The frame of a put of so many bytes to the second slot of the label file, which begins with this length.
+pub(crate) fn put_of(alloc: Global, length: &str, count: u64) -> Result<Vec<u8>, AllocError> {
+    let digits = "07".repeat(alloc, count as usize)?;
+    let head = "08 02000000 0200000000000000 0100000000000000 00000000";
+    let frame = format!(in alloc; "{length} {head} {digits}")?;
+    bytes_of(alloc, frame.as_str())
 }
 
-/// A stream, which the number tells from others, ended so; these frames were asked for, and these
-/// were given.
-pub(crate) fn expect(
-    rt: &impl Abort,
-    served: &FramesServed,
-    end: WireEnd,
-    asked: &[u8],
-    given: &[u8],
-    number: u64,
-) {
-    assert_eq!(rt; served.end, end, "{number}");
-    assert_eq!(rt; served.asked.as_slice(), asked, "{number}");
-    assert_eq!(rt; served.given.as_slice(), given, "{number}");
-}
-
-pub(crate) fn joined(alloc: Global, parts: &[&[u8]]) -> Result<Vec<u8>, AllocError> {
-    let mut all = Vec::new(alloc);
-    for part in parts {
-        all.extend_from_slice(part)?;
+/// The bytes of hexadecimal digits between which there may be spaces.
+pub(crate) fn bytes_of(alloc: Global, digits: &str) -> Result<Vec<u8>, AllocError> {
+    let mut bytes = Vec::new(alloc);
+    for word in digits.split(' ') {
+        if let Ok(part) = hex::decode(alloc, word) {
+            bytes.extend_from_slice(&part)?;
+        }
     }
-    Ok(all)
+    Ok(bytes)
 }

@@ -1,161 +1,145 @@
 //! The frames of each step, of each reply and of each refusal, byte by byte.
 
-use crate::tests::frames::answer::WireReply;
-use crate::tests::frames::served::{GET_0, GET_72, STAT, expect, serve_stream};
-use nofs_history::Refusal;
+use crate::tests::frames::served::{GET, STAT, WHOLE, bytes_of, serve_told};
 use nofs_wire::WireEnd;
-use std::alloc::Global;
-use std::process::Abort;
 use std::test::Fail;
 
-/// The frame of a step, the reply that comes to it, and the frame of that.
-type Row<'a> = (&'a [u8], WireReply, &'a [u8]);
+/// The frame of a step, the step with the reply that comes to it, and the frame of that.
+type Row = (&'static str, &'static str, &'static str);
 
-fn check(rt: &impl Abort, alloc: Global, table: &[Row<'_>]) -> Result<(), Fail> {
-    for (frame, answer, want) in table {
-        let served = serve_stream(alloc, frame, 4096, &[*answer])?;
-        expect(rt, &served, WireEnd::End, frame, want, 0);
+/// Steps on names.
+const ON_NAMES: [Row; 8] = [
+    (
+        "10000000 01 01000000 0300000000000000 02 6162",
+        "look 1/3 ab -> found 5/7 directory",
+        "0e000000 00 05000000 0700000000000000 02",
+    ),
+    (
+        "10000000 02 01000000 0300000000000000 01 61 02",
+        "mkdir 1/3 a -> made 6/72057594037927945",
+        "0d000000 00 06000000 0900000000000001",
+    ),
+    (
+        "1b000000 03 01000000 0300000000000000 01 63 04000000 0500000000000000",
+        "link 1/3 c 4/5 -> linked",
+        "01000000 00",
+    ),
+    (
+        "0f000000 04 01000000 0300000000000000 01 64",
+        "drop 1/3 d -> dropped and removed",
+        "02000000 00 01",
+    ),
+    (
+        "12000000 05 01000000 0300000000000000 02 6566 01 67",
+        "rename 1/3 ef g -> renamed",
+        "01000000 00",
+    ),
+    (
+        "15000000 06 01000000 0300000000000000 0100000000000000",
+        "list 1/3 1 -> names 1 de/ dead:x",
+        "14000000 00 01 0100000000000000 02 02 00 02 6465 01 01 01 78",
+    ),
+    (
+        "15000000 06 01000000 0300000000000000 0200000000000000",
+        "list 1/3 2 -> lost names 5",
+        "0a000000 00 02 0500000000000000",
+    ),
+    (
+        "15000000 06 01000000 0300000000000000 0600000000000000",
+        "list 1/3 6 -> no more",
+        "02000000 00 03",
+    ),
+];
+
+/// Steps on slots, files and elements.
+const ON_FILES: [Row; 8] = [
+    (
+        "15000000 07 02000000 0200000000000000 4800000000000000",
+        "get 2/2 72 -> lost",
+        "02000000 00 03",
+    ),
+    (
+        "1c000000 08 02000000 0200000000000000 0100000000000000 0a000000 78797a",
+        "put 2/2 1 10 78797a -> stored",
+        "01000000 00",
+    ),
+    (
+        "15000000 09 02000000 0200000000000000 8813000000000000",
+        "size 2/2 5000 -> resized",
+        "01000000 00",
+    ),
+    (
+        STAT,
+        "stat 2/2 -> file 5000 1",
+        "0e000000 00 01 8813000000000000 01000000",
+    ),
+    (
+        "0d000000 0b 00000000 0000000000000000",
+        "flush 0/0 -> flushed",
+        "01000000 00",
+    ),
+    ("05000000 0c 03000000", "inode 3 -> used", "02000000 00 01"),
+    (
+        "09000000 0d 1800000000000000",
+        "block 24 -> free",
+        "02000000 00 00",
+    ),
+    (
+        "09000000 0d ffffffffffffffff",
+        "block 18446744073709551615 -> refused BadRange",
+        "01000000 09",
+    ),
+];
+
+/// Refusals, with and without what they keep.
+const REFUSALS: [Row; 5] = [
+    (STAT, "stat 2/2 -> refused Missing", "01000000 01"),
+    (
+        STAT,
+        "stat 2/2 -> refused LostEntry { entry: 258 }",
+        "05000000 02 02010000",
+    ),
+    (
+        STAT,
+        "stat 2/2 -> refused LostSlot { slot: 8 }",
+        "09000000 03 0800000000000000",
+    ),
+    (
+        STAT,
+        "stat 2/2 -> refused Full { needed: 1, free: 2, unverified: 3, next: 4 }",
+        "21000000 0f 0100000000000000 0200000000000000 0300000000000000 0400000000000000",
+    ),
+    (
+        STAT,
+        "stat 2/2 -> refused InodesFull { unverified: 5, next: 6 }",
+        "11000000 10 0500000000000000 0600000000000000",
+    ),
+];
+
+#[test]
+fn each_step_and_each_reply_has_its_frame(rt: HostRuntime) -> Result<(), Fail> {
+    let alloc = rt.alloc();
+    for (frame, line, reply) in ON_NAMES.iter().chain(&ON_FILES).chain(&REFUSALS) {
+        let came = serve_told(alloc, WHOLE, &bytes_of(alloc, frame)?, line)?;
+        assert_eq!(rt; came.end, WireEnd::End, "{line}");
+        assert_eq!(rt; came.steps.as_str().trim_end(), *line);
+        assert_eq!(rt; came.given, bytes_of(alloc, reply)?, "{line}");
     }
     Ok(())
 }
 
-/// Steps on names.
-const ON_NAMES: [Row<'static>; 8] = [
-    (
-        b"\x10\0\0\0\x01\x01\0\0\0\x03\0\0\0\0\0\0\0\x02ab",
-        WireReply::Found,
-        b"\x0e\0\0\0\0\x05\0\0\0\x07\0\0\0\0\0\0\0\x02",
-    ),
-    (
-        b"\x10\0\0\0\x02\x01\0\0\0\x03\0\0\0\0\0\0\0\x01a\x02",
-        WireReply::Made,
-        b"\x0d\0\0\0\0\x06\0\0\0\x09\0\0\0\0\0\0\x01",
-    ),
-    (
-        b"\x1b\0\0\0\x03\x01\0\0\0\x03\0\0\0\0\0\0\0\x01c\x04\0\0\0\x05\0\0\0\0\0\0\0",
-        WireReply::Linked,
-        b"\x01\0\0\0\0",
-    ),
-    (
-        b"\x0f\0\0\0\x04\x01\0\0\0\x03\0\0\0\0\0\0\0\x01d",
-        WireReply::Dropped(true),
-        b"\x02\0\0\0\0\x01",
-    ),
-    (
-        b"\x12\0\0\0\x05\x01\0\0\0\x03\0\0\0\0\0\0\0\x02ef\x01g",
-        WireReply::Renamed,
-        b"\x01\0\0\0\0",
-    ),
-    (
-        b"\x15\0\0\0\x06\x01\0\0\0\x03\0\0\0\0\0\0\0\x01\0\0\0\0\0\0\0",
-        WireReply::Names(1),
-        b"\x14\0\0\0\0\x01\x01\0\0\0\0\0\0\0\x02\x02\0\x02de\x01\x01\x01x",
-    ),
-    (
-        b"\x15\0\0\0\x06\x01\0\0\0\x03\0\0\0\0\0\0\0\x02\0\0\0\0\0\0\0",
-        WireReply::LostNames(5),
-        b"\x0a\0\0\0\0\x02\x05\0\0\0\0\0\0\0",
-    ),
-    (
-        b"\x15\0\0\0\x06\x01\0\0\0\x03\0\0\0\0\0\0\0\x06\0\0\0\0\0\0\0",
-        WireReply::NoMore,
-        b"\x02\0\0\0\0\x03",
-    ),
-];
-
-#[test]
-fn each_step_on_names_has_its_frame_and_its_reply(rt: HostRuntime) -> Result<(), Fail> {
-    check(&rt, rt.alloc(), &ON_NAMES)
-}
-
-/// Steps on slots, files and elements.
-const OTHERS: [Row<'static>; 8] = [
-    (GET_72, WireReply::Lost, b"\x02\0\0\0\0\x03"),
-    (
-        b"\x1c\0\0\0\x08\x02\0\0\0\x02\0\0\0\0\0\0\0\x01\0\0\0\0\0\0\0\x0a\0\0\0xyz",
-        WireReply::Stored,
-        b"\x01\0\0\0\0",
-    ),
-    (
-        b"\x15\0\0\0\x09\x02\0\0\0\x02\0\0\0\0\0\0\0\x88\x13\0\0\0\0\0\0",
-        WireReply::Resized,
-        b"\x01\0\0\0\0",
-    ),
-    (
-        STAT,
-        WireReply::Stat(5000, 1),
-        b"\x0e\0\0\0\0\x01\x88\x13\0\0\0\0\0\0\x01\0\0\0",
-    ),
-    (
-        b"\x0d\0\0\0\x0b\0\0\0\0\0\0\0\0\0\0\0\0",
-        WireReply::Flushed,
-        b"\x01\0\0\0\0",
-    ),
-    (
-        b"\x05\0\0\0\x0c\x03\0\0\0",
-        WireReply::Seen(true),
-        b"\x02\0\0\0\0\x01",
-    ),
-    (
-        b"\x09\0\0\0\x0d\x18\0\0\0\0\0\0\0",
-        WireReply::Seen(false),
-        b"\x02\0\0\0\0\0",
-    ),
-    (
-        b"\x09\0\0\0\x0d\xff\xff\xff\xff\xff\xff\xff\xff",
-        WireReply::No(Refusal::BadRange),
-        b"\x01\0\0\0\x09",
-    ),
-];
-
-#[test]
-fn each_other_step_has_its_frame_and_its_reply(rt: HostRuntime) -> Result<(), Fail> {
-    check(&rt, rt.alloc(), &OTHERS)
-}
-
-/// Refusals, with and without what they keep.
-const REFUSALS: [Row<'static>; 5] = [
-    (STAT, WireReply::No(Refusal::Missing), b"\x01\0\0\0\x01"),
-    (
-        STAT,
-        WireReply::No(Refusal::LostEntry { entry: 258 }),
-        b"\x05\0\0\0\x02\x02\x01\0\0",
-    ),
-    (
-        STAT,
-        WireReply::No(Refusal::LostSlot { slot: 8 }),
-        b"\x09\0\0\0\x03\x08\0\0\0\0\0\0\0",
-    ),
-    (
-        STAT,
-        WireReply::No(Refusal::Full {
-            needed: 1,
-            free: 2,
-            unverified: 3,
-            next: 4,
-        }),
-        b"\x21\0\0\0\x0f\x01\0\0\0\0\0\0\0\x02\0\0\0\0\0\0\0\x03\0\0\0\0\0\0\0\x04\0\0\0\0\0\0\0",
-    ),
-    (
-        STAT,
-        WireReply::No(Refusal::InodesFull {
-            unverified: 5,
-            next: 6,
-        }),
-        b"\x11\0\0\0\x10\x05\0\0\0\0\0\0\0\x06\0\0\0\0\0\0\0",
-    ),
-];
-
-#[test]
-fn a_refusal_tells_its_number_and_what_it_keeps(rt: HostRuntime) -> Result<(), Fail> {
-    check(&rt, rt.alloc(), &REFUSALS)
-}
-
 #[test]
 fn a_slot_that_was_put_comes_whole(rt: HostRuntime) -> Result<(), Fail> {
-    let served = serve_stream(rt.alloc(), GET_0, 4096, &[WireReply::Bytes(7)])?;
-    let head: &[u8] = b"\x02\x04\0\0\0\x01\x07\x07";
-    assert_eq!(rt; served.given.len(), 1030);
-    assert!(rt; served.given.as_slice().starts_with(head));
+    let alloc = rt.alloc();
+    let came = serve_told(
+        alloc,
+        WHOLE,
+        &bytes_of(alloc, GET)?,
+        "get 2/2 0 -> bytes 1022 0707",
+    )?;
+    let mut want = bytes_of(alloc, "02040000 00 01")?;
+    want.resize(1028, 0)?;
+    want.extend_from_slice(&[7, 7])?;
+    assert_eq!(rt; came.given, want);
     Ok(())
 }

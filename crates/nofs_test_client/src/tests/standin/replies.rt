@@ -1,26 +1,191 @@
-//! Replies that several tables of tests tell.
+//! Replies from their words, which docs/CASES.md has too.
 
-use nofs_dirent::Name;
-use nofs_history::{NameLine, NameList, Refusal};
+use nofs_dirent::{Content, Name};
+use nofs_history::{Found, NameLine, NameList, Refusal, Reply, Stat};
 use nofs_inode::inode::FileKind;
 use std::alloc::{AllocError, Global};
 
-/// The entries of a slot: the name of each, its kind, and whether it is dead.
-pub fn name_list(alloc: Global, lines: &[(&str, FileKind, bool)]) -> Result<NameList, AllocError> {
+// The refusals that cases tell.
+const REFUSALS: [Refusal; 20] = [
+    Refusal::Missing,
+    Refusal::LostEntry { entry: 258 },
+    Refusal::LostSlot { slot: 8 },
+    Refusal::Exists,
+    Refusal::IsDirectory,
+    Refusal::BadRange,
+    Refusal::TooLarge,
+    Refusal::Stale,
+    Refusal::ReadFault,
+    Refusal::WriteFault,
+    Refusal::OutOfMemory,
+    Refusal::Full {
+        needed: 1,
+        free: 0,
+        unverified: 40,
+        next: 24,
+    },
+    Refusal::Full {
+        needed: 1,
+        free: 0,
+        unverified: 39,
+        next: 24,
+    },
+    Refusal::Full {
+        needed: 1,
+        free: 0,
+        unverified: 9,
+        next: 24,
+    },
+    Refusal::Full {
+        needed: 1,
+        free: 0,
+        unverified: 2,
+        next: 24,
+    },
+    Refusal::Full {
+        needed: 1,
+        free: 2,
+        unverified: 3,
+        next: 4,
+    },
+    Refusal::InodesFull {
+        unverified: 2,
+        next: 3,
+    },
+    Refusal::InodesFull {
+        unverified: 1,
+        next: 3,
+    },
+    Refusal::InodesFull {
+        unverified: 0,
+        next: 3,
+    },
+    Refusal::InodesFull {
+        unverified: 5,
+        next: 6,
+    },
+];
+
+fn refusal_of(alloc: Global, text: &str) -> Result<Refusal, AllocError> {
+    for refusal in REFUSALS {
+        if format!(in alloc; "{refusal:?}")?.as_str() == text {
+            return Ok(refusal);
+        }
+    }
+    Ok(Refusal::Stopped)
+}
+
+fn number(word: &str) -> u64 {
+    word.parse::<u64>().unwrap_or(0)
+}
+
+fn short(word: &str) -> u32 {
+    word.parse::<u32>().unwrap_or(0)
+}
+
+// A word, and what stands behind it.
+fn parted(text: &str, by: char) -> (&str, &str) {
+    text.split_once(by).unwrap_or((text, ""))
+}
+
+fn kind_of(word: &str) -> FileKind {
+    if word == "directory" {
+        FileKind::Directory
+    } else {
+        FileKind::File
+    }
+}
+
+// An inode and its generation, and what stands behind them.
+fn handle(text: &str) -> (u32, u64, &str) {
+    let (inode, rest) = parted(text, '/');
+    let (generation, rest) = parted(rest, ' ');
+    (short(inode), number(generation), rest)
+}
+
+fn found(text: &str) -> Reply {
+    let (inode, generation, kind) = handle(text);
+    Reply::Found(Found {
+        inode,
+        generation,
+        kind: kind_of(kind),
+    })
+}
+
+fn made(text: &str) -> Reply {
+    let (inode, generation, _) = handle(text);
+    Reply::Made { inode, generation }
+}
+
+fn stat(kind: &str, text: &str) -> Reply {
+    let (size, links) = parted(text, ' ');
+    Reply::Stat(Stat {
+        kind: kind_of(kind),
+        size: number(size),
+        links: short(links),
+    })
+}
+
+// An entry: its name, behind `dead:` where it is dead, with `/` behind a directory's.
+fn entry(alloc: Global, word: &str) -> Result<NameLine, AllocError> {
+    let (dead, name) = match word.strip_prefix("dead:") {
+        Some(name) => (true, name),
+        None => (false, word),
+    };
+    let (kind, name) = match name.strip_suffix('/') {
+        Some(name) => (FileKind::Directory, name),
+        None => (FileKind::File, name),
+    };
+    let name = Name::from_slice(alloc, name.as_bytes())?;
+    Ok(NameLine { name, kind, dead })
+}
+
+fn names(alloc: Global, text: &str) -> Result<NameList, AllocError> {
     let mut names = NameList::new(alloc);
-    for &(name, kind, dead) in lines {
-        let name = Name::from_slice(alloc, name.as_bytes())?;
-        names.push(NameLine { name, kind, dead })?;
+    for word in text.split(' ') {
+        names.push(entry(alloc, word)?)?;
     }
     Ok(names)
 }
 
-/// No block is free and so many are unverified, 24 the least.
-pub fn full(unverified: u64) -> Refusal {
-    Refusal::Full {
-        needed: 1,
-        free: 0,
-        unverified,
-        next: 24,
-    }
+// A slot that is zero but for these bytes at this place.
+fn slot(alloc: Global, text: &str) -> Result<Content, AllocError> {
+    let (at, digits) = parted(text, ' ');
+    let mut bytes = Vec::new(alloc);
+    bytes.resize(number(at) as usize, 0)?;
+    bytes.extend_from_slice(&hex::decode(alloc, digits).unwrap_or(Vec::new(alloc)))?;
+    bytes.resize(1024, 0)?;
+    Ok(Content::from_vec(bytes))
+}
+
+/// The reply that these words tell; `Stopped` where they tell none.
+pub fn reply_of(alloc: Global, text: &str) -> Result<Reply, AllocError> {
+    let (word, rest) = parted(text, ' ');
+    Ok(match word {
+        "found" => found(rest),
+        "made" => made(rest),
+        "linked" => Reply::Linked,
+        "dropped" => Reply::Dropped {
+            removed: rest == "and removed",
+        },
+        "renamed" => Reply::Renamed,
+        "names" => {
+            let (at, words) = parted(rest, ' ');
+            Reply::Names(number(at), names(alloc, words)?)
+        }
+        "no" => Reply::NoMore,
+        "bytes" => Reply::Bytes(slot(alloc, rest)?),
+        "hole" => Reply::Hole,
+        "lost" => match rest.strip_prefix("names ") {
+            Some(at) => Reply::LostNames(number(at)),
+            None => Reply::Lost,
+        },
+        "stored" => Reply::Stored,
+        "resized" => Reply::Resized,
+        "file" | "directory" => stat(word, rest),
+        "flushed" => Reply::Flushed,
+        "used" => Reply::Seen { used: true },
+        "free" => Reply::Seen { used: false },
+        _ => Reply::Refused(refusal_of(alloc, rest)?),
+    })
 }

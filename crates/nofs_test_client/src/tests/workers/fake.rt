@@ -3,8 +3,7 @@ ghost use Rattle.nofs_workers.specs.Sweep.{AreInRange};
 
 use crate::tests::standin::mount::{Answers, Told};
 use nofs_disk::OutFault;
-use nofs_history::{ElementKind, Refusal, Reply, Stat, Step, Steps};
-use nofs_inode::inode::FileKind;
+use nofs_history::{ElementKind, Refusal, Reply, Step, Steps};
 use nofs_workers::{Batches, WritesOut, see_of};
 use std::alloc::Global;
 
@@ -22,8 +21,6 @@ pub struct Fake {
     pub seen: Vec<u64>,
     /// How many commits were made.
     pub committed: u64,
-    /// How many steps on no element were made.
-    pub others: u64,
     /// How many blocks are dirty.
     pub dirty: u64,
     /// How many write-outs were asked for.
@@ -40,22 +37,8 @@ pub struct Odds {
     ghost in_range: { AreInRange kind items.items },
 }
 
-/// What a step is answered.
-fn reply_to(step: &Step) -> Reply {
-    match step {
-        Step::SeeInode { .. } => Reply::Seen { used: false },
-        Step::SeeBlock { .. } => Reply::Seen { used: false },
-        Step::Stat { .. } => Reply::Stat(Stat {
-            kind: FileKind::File,
-            size: 0,
-            links: 1,
-        }),
-        _ => Reply::Refused(Refusal::Stopped),
-    }
-}
-
 impl Fake {
-    /// A stand-in with room for 1,000 steps, and no dirty block.
+    /// A stand-in with room for 1,000 steps, and three dirty blocks.
     pub fn new(alloc: Global) -> Self {
         Fake {
             alloc,
@@ -64,8 +47,7 @@ impl Fake {
             refuses: false,
             seen: Vec::new(alloc),
             committed: 0,
-            others: 0,
-            dirty: 0,
+            dirty: 3,
             outs: 0,
             fails_at: 0,
         }
@@ -80,10 +62,7 @@ impl Fake {
         match step {
             Step::SeeInode { inode } => self.seen.push(u64::from(*inode)).is_ok(),
             Step::SeeBlock { block } => self.seen.push(*block).is_ok(),
-            _ => {
-                self.others = self.others.wrapping_add(1);
-                true
-            }
+            _ => false,
         }
     }
 }
@@ -91,7 +70,7 @@ impl Fake {
 impl Answers for Fake {
     fn answer(&mut self, step: &Step) -> Reply {
         if self.note(step) {
-            reply_to(step)
+            Reply::Seen { used: false }
         } else {
             Reply::Refused(Refusal::OutOfMemory)
         }
