@@ -1,4 +1,5 @@
 pub mod OnActs
+pub mod OnIndex
 pub mod OnLaws
 pub mod OnMount
 pub mod OnPasses

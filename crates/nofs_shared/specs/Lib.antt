@@ -1,4 +1,5 @@
 pub mod Acts
+pub mod Index
 pub mod Mount
 pub mod Passes
 pub mod Laws

@@ -1,6 +1,6 @@
 -- What a mount leaves where it began, where it was refused, and where its write or flush failed.
-use Rattle.std.proofs.Common.{◌≡◌, ◌≢◌, ℕ, ◌+◌, ◌<◌, ◌≤◌, ◌⊎◌, List, IsTrue, Some, Bool, Contains, set, Result, Ok, Err}
-use Rattle.std.proofs.Common.{refl, sym, ap, ◌∙◌, subst, subst₂, arith, length}
+use Rattle.std.proofs.Common.{◌≡◌, ◌≢◌, ℕ, ◌<◌, ◌⊎◌, List, IsTrue, Some, Bool, Contains, set, Result, Ok, Err}
+use Rattle.std.proofs.Common.{refl, sym, ◌∙◌, subst, subst₂, arith, length}
 use Rattle.nofs_disk.specs.Disk.{DiskState, IsDisk, IsSameDisk, KeepsCells, cell_at}
 use Rattle.nofs_disk.specs.Adds.{Adds}
 use Rattle.nofs_disk.specs.declared.tag.Cell.{Cell}
@@ -12,7 +12,6 @@ use Rattle.nofs_super.specs.declared.superblock.MountFault.TheVariants as fault
 use Rattle.nofs_super.specs.declared.superblock.SuperBlock.{SuperBlock}
 use Rattle.nofs_model.specs.Geometry.{Image}
 use Rattle.nofs_shared.specs.Mount.Begin.{IsBeginStopped, IsMountRefused, LeavesRaised, MountsBy}
-use Rattle.nofs_shared.specs.Mount.Invariant.{IsFound}
 use Rattle.nofs_shared.proofs.OnMount.Begin.{before-raised}
 
 pub some-blocks : (blocks : ℕ) (it : SuperBlock) → CanMount blocks it → 0 < blocks

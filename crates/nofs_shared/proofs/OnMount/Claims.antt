@@ -64,6 +64,13 @@ unowned-none X H K same e is x has =
 pub unowned-kept : (X : Image) (k l : Books) → l.history ≡ k.history → Unowned X k.history.entries l.history.entries
 unowned-kept X k l same = unowned-none X k.history.entries l.history.entries (ap (λ h. h.entries) same)
 
+-- what claims nothing claims no block that has an owner
+pub unowned-unclaimed : (X : Image) (H K : List Entry1) (f : Entry1) → f.claims ≡ no_claims → K ≡ H ++ f ∷ []
+    → Unowned X H K
+unowned-unclaimed X H K f none all e is x has = absurd (none-claimed x
+    (subst (λ (c : Claims). Contains (claimed_blocks c) x) (ap (λ (g : Entry1). g.claims) (last-is H e f (sym is ∙ all)) ∙ none)
+    has))
+
 pub unowned-more : (found old new : DiskState) (first : ℕ) (k l : Books) (s : Step) (c : Claims) (r : Reply)
     (caller : ℕ) → Goes old k new l s c r
     → IsMount found old first k → is_out_of_memory r ≡ false → IsSoundDisk found

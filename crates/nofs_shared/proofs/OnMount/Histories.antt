@@ -1,7 +1,7 @@
 -- The form of a history with one more entry, and what the calls of its entries come to.
 use Rattle.std.proofs.Common.{◌≡◌, ℕ, ◌+◌, ◌-◌, ◌*◌, ◌^◌, ◌≤◌, min, Bool, true, false, ◌||◌, cond, List, [], ◌∷◌, ◌++◌}
 use Rattle.std.proofs.Common.{length, ◌⊎◌, inl, inr, refl, sym, ap, ◌∙◌, subst, subst₂, arith}
-use Rattle.nofs_disk.specs.Disk.{DiskState, IsSameDisk}
+use Rattle.nofs_disk.specs.Disk.{DiskState}
 use Rattle.nofs_disk.specs.Chains.{IsSameDisk-refl}
 use Rattle.nofs_history.specs.Allowed.{IsAllowed}
 use Rattle.nofs_history.specs.History.{NoWriteFault}

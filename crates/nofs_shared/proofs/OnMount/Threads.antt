@@ -4,6 +4,8 @@ use denote.Param.Send.{IsSend, sendable}
 use denote.Param.SendFields.{declared_send, as_row_send, owner_send}
 use Rattle.nofs_disk.specs.declared.disk.Disk as Disk
 use Rattle.nofs_shared.specs.contracts.mount.mount.Mount.{the_row, the_type}
+use Rattle.nofs_shared.specs.contracts.index.Index as index
+use Rattle.nofs_shared.proofs.index.Index.TheSendSync as index_sends
 use Rattle.nofs_state.specs.contracts.cores.mounted_disk.Core as core
 use Rattle.nofs_state.proofs.cores.mounted_disk.Core.TheSendSync as core_sends
 use Rattle.nofs_scan.specs.contracts.sights.evidence.Evidence as evidence
@@ -17,7 +19,13 @@ snapshot-send D = owner_send (snapshot.the_type D) (search sendable) (λ d. tt) 
 pub mount-send : (D : RattleType) (g : Disk.Ghosts D.Denot) → IsSend D → IsSend (the_row D g)
 mount-send D g d = declared_send (the_type D g) (
   as_row_send (core.the_field D) (core_sends.the_field_send D d),
-  (search sendable, (as_row_send (snapshot.the_field D) (snapshot-send D), (search sendable, tt))),
+  (
+    search sendable,
+    (
+      as_row_send (snapshot.the_field D) (snapshot-send D),
+      (search sendable, (as_row_send index.the_field index_sends.the_field_send, tt)),
+    ),
+  ),
 )
 
 verdicts-send : IsSend verdicts.the_row

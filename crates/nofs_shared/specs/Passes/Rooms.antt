@@ -1,5 +1,5 @@
 -- A step through a pass, and the room for the entries of the sweeps.
-use Rattle.std.specs.Prelude.{◌≡◌, ℕ, ◌≤◌, true, List, Some}
+use Rattle.std.specs.Prelude.{◌≡◌, ℕ, ◌≤◌, true, Some}
 use Rattle.nofs_turn.specs.declared.rule.view.View.{View}
 use Rattle.nofs_turn.specs.Passes.{Ran}
 use Rattle.nofs_history.specs.declared.machine.history.Entry1.{Entry1}

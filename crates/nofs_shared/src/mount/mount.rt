@@ -23,6 +23,7 @@ ghost use Rattle.nofs_state.specs.Books.Maps.{IsSafe, Says};
 ghost use Rattle.nofs_state.specs.Cores.WriteOuts.{WroteOne};
 ghost use Rattle.nofs_scan.specs.Laws.{AreExamined, IsFullScan};
 ghost use Rattle.nofs_state.specs.Books.Counts as counted;
+ghost use Rattle.nofs_shared.specs.Index.Truths.{IsTrueIndex};
 ghost use Rattle.nofs_shared.specs.Mount.Entries.{Unowned};
 ghost use Rattle.nofs_shared.specs.Mount.Begin as begins;
 ghost use Rattle.nofs_shared.specs.Mount.End.{Ends};
@@ -33,8 +34,9 @@ ghost use Rattle.nofs_shared.specs.Mount.Flushes.{Settles};
 ghost use Rattle.nofs_shared.specs.Mount.Causes.{MeetsSound, StepCauses, StepOrder};
 
 use crate::acts::room::take_room;
+use crate::index::Index;
 use crate::mount::begin::{Prepared, prepare};
-use crate::mount::steps::step_in;
+use crate::mount::indexed::step_by;
 use nofs_disk::{Disk, OutFault};
 use nofs_history::{History, Refusal, Reply, Step};
 use nofs_state::{Core, Counts};
@@ -50,11 +52,14 @@ pub struct Mount<D: Disk + Drop> {
     pub(crate) found: Snapshot<D>,
     // The number of entries of the sweeps for which memory is kept.
     pub(crate) kept: u64,
+    // Names that were found, while no step may have changed them.
+    pub(crate) index: Index,
     ghost few: { length core.books.history.entries + kept ≤ 2 ^ 62 },
     ghost room: { kept ≤ core.books.history.spare },
     ghost taken: { core.books.at.inodes + core.books.at.blocks ≤ kept + sweep_entries core.books.history.entries },
     ghost safe: { IsSafe (D.state core.disk) core.books },
     ghost stands: { ∥ IsMount (D.state found.value) (D.state core.disk) first core.books ∥₁ },
+    ghost indexed: { ∥ IsTrueIndex (D.state found.value) (D.state core.disk) core.books index ∥₁ },
 }
 
 /// Why a disk was not mounted. It comes back.
@@ -92,6 +97,7 @@ impl<D: Disk + Drop> Mount<D> {
                 first,
                 found,
                 kept: at.inodes + at.blocks,
+                index: Index::empty(alloc),
             }),
             Err(cause) => Err(BeginFault { disk, cause }),
         }
@@ -126,7 +132,7 @@ impl<D: Disk + Drop> Mount<D> {
             None => Reply::Refused(Refusal::OutOfMemory),
             Some(left) => {
                 self.kept = left;
-                step_in(&mut self.core, alloc, caller, step)
+                step_by(&mut self.core, &mut self.index, alloc, caller, step)
             }
         }
     }

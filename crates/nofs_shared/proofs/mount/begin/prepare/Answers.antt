@@ -1,6 +1,5 @@
 use Rattle.std.proofs.Common.{◌≡◌, ◌∙◌, sym, ap, Err}
 use Rattle.nofs_super.specs.declared.superblock.MountFault.TheVariants as fault
-use Rattle.nofs_shared.proofs.OnMount.Beginnings.{mounts-read, refused-memory}
 use Rattle.nofs_shared.proofs.OnMount.Refusals.{read_no_write}
 use Rattle.nofs_shared.proofs.mount.begin.prepare.Goals as goal
 

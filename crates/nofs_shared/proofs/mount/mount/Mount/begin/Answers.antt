@@ -62,6 +62,7 @@ invariant_of-result g c =
           omega (arith, e, b, i, nb, ni));
       room = c.over.ensures.begun.spare;
       safe = subst H (sym c.over.ensures.disk) c.over.ensures.safe;
+      indexed = ∣ (λ q going. c.empty.ensures _) ∣₁;
       stands = ∣ subst F (sym c.of-found.ensures) (subst G (sym c.over.ensures.disk) m) ∣₁;
       taken = (let i = ap (λ (s : SuperBlock). s.inodes) c.over.ensures.begun.at in
           let b = ap (λ (s : SuperBlock). s.blocks) c.over.ensures.begun.at in omega (arith, i, b));

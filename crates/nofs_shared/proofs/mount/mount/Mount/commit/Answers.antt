@@ -12,6 +12,7 @@ use Rattle.nofs_shared.specs.Mount.Earlier.{earlier-on}
 use Rattle.nofs_shared.proofs.OnPasses.Entries.{adds-prefix}
 use Rattle.nofs_shared.proofs.OnMount.Commits.{commit-beside, commit-unmade}
 use Rattle.nofs_shared.proofs.OnMount.Histories.{mount-history}
+use Rattle.nofs_shared.proofs.OnIndex.Mounts.{index-history, index-unmoved, see-unmoved}
 use Rattle.nofs_shared.proofs.OnActs.OtherRoom.{roomed}
 use Rattle.nofs_shared.proofs.OnActs.Room.{adds-none, few-left, taken-left, taken-same, takes-kept}
 use Rattle.nofs_shared.proofs.mount.mount.Mount.commit.Goals as goal
@@ -29,7 +30,17 @@ pub invariant_of-self : goal.invariant_of-self
 invariant_of-self g c =
     let is = roomed _ _ _ _ c.take_room.new.history _ c.take_room.ensures.stays c.args.self.now.few
     c.args.self.now.taken c.args.self.now.safe c.args.self.now.stands in
-    record { few = is.few; room = c.take_room.ensures.kept; taken = is.taken; safe = is.safe; stands = is.stands }
+    record {
+      few = is.few;
+      room = c.take_room.ensures.kept;
+      taken = is.taken;
+      safe = is.safe;
+      stands = is.stands;
+      indexed = ∥∥₁_elim c.args.self.now.stands ∥∥₁_prop (λ m. ∥∥₁_elim c.args.self.now.indexed ∥∥₁_prop
+          (λ t. ∣ index-history (g.D.Disk.state c.args.self.now.found.value) (g.D.Disk.state c.args.self.now.core.disk)
+          c.args.self.now.first c.args.self.now.core.books c.take_room.new.history c.args.self.now.index
+          c.take_room.ensures.stays.1 c.take_room.ensures.stays.0 m t ∣₁));
+    }
 
 pub invariant_of-self-in-Some : goal.invariant_of-self-in-Some
 invariant_of-self-in-Some g c = record {
@@ -45,6 +56,21 @@ invariant_of-self-in-Some g c = record {
       (mount-history (g.D.Disk.state c.args.self.now.found.value) (g.D.Disk.state c.args.self.now.core.disk)
       c.args.self.now.first c.args.self.now.core.books c.take_room.new.history c.take_room.ensures.stays.1
       c.take_room.ensures.stays.0 m) ∣₁));
+  indexed = ∥∥₁_elim c.requires.own.stood ∥∥₁_prop (λ then. ∥∥₁_elim c.args.self.now.stands ∥∥₁_prop
+      (λ m. ∥∥₁_elim c.args.self.now.indexed ∥∥₁_prop (λ t.
+      let found = g.D.Disk.state c.args.self.now.found.value in
+      let old = g.D.Disk.state c.args.self.now.core.disk in
+      let was = mount-history found old c.args.self.now.first c.args.self.now.core.books c.take_room.new.history
+      c.take_room.ensures.stays.1 c.take_room.ensures.stays.0 m in
+      ∣ index-unmoved found old (g.D.Disk.state c.commit_in.new.core.disk) c.args.self.now.first
+      (record c.args.self.now.core.books { history = c.take_room.new.history }) c.commit_in.new.core.books was
+      (c.commit_in.ensures.keeps c.args.self.now.found.value c.args.self.now.first then was) c.args.self.now.index
+      c.args.caller (see_step c.args.evidence.now.kind (verdict_at c.args.evidence.now.verdicts c.args.at).item)
+      c.commit_in.result c.commit_in.ensures.tells.adds
+      (see-unmoved c.args.evidence.now.kind (verdict_at c.args.evidence.now.verdicts c.args.at).item
+      c.commit_in.result)
+      (index-history found old c.args.self.now.first c.args.self.now.core.books c.take_room.new.history
+      c.args.self.now.index c.take_room.ensures.stays.1 c.take_room.ensures.stays.0 m t) ∣₁)));
   taken =
       (let same = c.step_of-step.ensures ∙ ap (see_step c.args.evidence.now.kind) c.item-item.ensures in
       subst (λ (s : SuperBlock).

@@ -1,7 +1,8 @@
-use Rattle.std.proofs.Common.{◌+◌, ◌^◌, ◌≤◌, length, sym, subst}
+use Rattle.std.proofs.Common.{◌+◌, ◌^◌, ◌≤◌, ap, length, sym, subst}
 use Rattle.std.proofs.Math.Logic.{∥∥₁_elim, ∥∥₁_prop}
 use Rattle.nofs_state.specs.declared.books.maps.Books.{Books}
 use Rattle.nofs_shared.specs.Acts.Sees.{sweep_entries}
+use Rattle.nofs_shared.proofs.OnIndex.Mounts.{index-same}
 use Rattle.nofs_shared.proofs.OnMount.Looks.{looked-own, mount-looked, safe-looked}
 use Rattle.nofs_shared.proofs.mount.mount.Mount.look_batch.Goals as goal
 
@@ -21,6 +22,16 @@ invariant_of-self g c = record {
       c.args.self.now.first c.args.self.now.core.books c.look_batch.new.core.books c.look_batch.ensures.only.stays
       c.look_batch.ensures.only.books
       c.look_batch.ensures.only.learns m ∣₁);
+  indexed = ∥∥₁_elim c.args.self.now.stands ∥∥₁_prop (λ m. ∥∥₁_elim c.args.self.now.indexed ∥∥₁_prop (λ t.
+      ∣ index-same (g.D.Disk.state c.args.self.now.found.value) (g.D.Disk.state c.args.self.now.core.disk)
+      (g.D.Disk.state c.look_batch.new.core.disk) c.args.self.now.first c.args.self.now.core.books
+      c.look_batch.new.core.books m
+      (mount-looked (g.D.Disk.state c.args.self.now.found.value) (g.D.Disk.state c.args.self.now.core.disk)
+      (g.D.Disk.state c.look_batch.new.core.disk)
+      c.args.self.now.first c.args.self.now.core.books c.look_batch.new.core.books c.look_batch.ensures.only.stays
+      c.look_batch.ensures.only.books
+      c.look_batch.ensures.only.learns m) c.args.self.now.index
+      (ap (λ (b : Books). b.history.entries) c.look_batch.ensures.only.books) t ∣₁));
   taken = subst (λ (b : Books).
       b.at.inodes + b.at.blocks ≤ c.args.self.now.kept + sweep_entries b.history.entries)
       (sym c.look_batch.ensures.only.books) c.args.self.now.taken;

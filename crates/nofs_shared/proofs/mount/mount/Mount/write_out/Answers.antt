@@ -1,9 +1,10 @@
-use Rattle.std.proofs.Common.{◌+◌, ◌^◌, ◌≤◌, length, sym, subst}
+use Rattle.std.proofs.Common.{◌+◌, ◌^◌, ◌≤◌, ap, length, sym, subst}
 use Rattle.std.proofs.Math.Logic.{∥∥₁_elim, ∥∥₁_prop}
 use Rattle.nofs_state.specs.Books.Maps.{IsSafe}
 use Rattle.nofs_state.specs.declared.books.maps.Books.{Books}
 use Rattle.nofs_state.proofs.OnCores.WriteOuts.{safe-out}
 use Rattle.nofs_shared.specs.Acts.Sees.{sweep_entries}
+use Rattle.nofs_shared.proofs.OnIndex.Mounts.{index-same}
 use Rattle.nofs_shared.proofs.OnMount.WriteOuts.{mount-out-of}
 use Rattle.nofs_shared.proofs.mount.mount.Mount.write_out.Goals as goal
 
@@ -20,6 +21,12 @@ invariant_of-self g c =
           (safe-out _ _ _ out c.args.self.now.core.books c.args.self.now.safe);
       stands = ∥∥₁_elim c.args.self.now.stands ∥∥₁_prop (λ m. ∣ mount-out-of (S c.args.self.now.found.value)
           _ _ c.args.self.now.first c.args.self.now.core.books _ out m c.write_out.new.self.books same ∣₁);
+      indexed = ∥∥₁_elim c.args.self.now.stands ∥∥₁_prop (λ m. ∥∥₁_elim c.args.self.now.indexed ∥∥₁_prop (λ t.
+          ∣ index-same (S c.args.self.now.found.value) (S c.args.self.now.core.disk) (S c.write_out.new.self.disk)
+          c.args.self.now.first c.args.self.now.core.books c.write_out.new.self.books m
+          (mount-out-of (S c.args.self.now.found.value)
+          _ _ c.args.self.now.first c.args.self.now.core.books _ out m c.write_out.new.self.books same)
+          c.args.self.now.index (ap (λ (b : Books). b.history.entries) same) t ∣₁));
       taken = subst (λ (b : Books).
           b.at.inodes + b.at.blocks ≤ c.args.self.now.kept + sweep_entries b.history.entries)
           (sym same) c.args.self.now.taken;

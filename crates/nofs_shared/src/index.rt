@@ -1,0 +1,205 @@
+//! An index of names that were found, each with what a Look of it answers.
+//!
+//! Promise: where each line was true of the machine's files, so is all that the index tells. Whoever has an index
+//! notes each step in it: one that may change which names are found takes all lines out. Without memory there are
+//! fewer lines.
+ghost use Rattle.std.specs.Prelude.{◌≡◌, IfSome};
+ghost use Rattle.nofs_model.specs.Files.{Files};
+ghost use Rattle.nofs_shared.specs.Index.Lines.{AllTrue, IsTrueLine};
+ghost use Rattle.nofs_shared.specs.Index.Names.{Answered, Finds, NamesGoOn, moves_names};
+ghost use Rattle.nofs_history.specs.Machine.{is_refused};
+
+use nofs_dirent::Name;
+use nofs_history::{Found, Reply, Step};
+use std::alloc::Global;
+use std::collections::HashMap;
+
+// As many names as an index holds at most.
+const MOST_NAMES: usize = 65_536;
+
+// The code of no name, and what each part of one is multiplied by.
+const FIRST_CODE: u64 = 0xcbf2_9ce4_8422_2325;
+
+const CODE_FACTOR: u64 = 0x0100_0000_01b3;
+
+/// A name that was found in a directory, and the file to which it leads.
+#[derive(Drop)]
+pub struct Line {
+    pub(crate) directory: u32,
+    pub(crate) generation: u64,
+    pub(crate) name: Name,
+    pub(crate) found: Found,
+}
+
+/// Names that were found. Names of one code push each other out.
+#[derive(Drop)]
+pub struct Index {
+    pub(crate) lines: HashMap<u64, Line>,
+}
+
+// Joins a part of a name with the code of those before it.
+fn code_with(code: u64, part: u64) -> u64 {
+    (code ^ part).wrapping_mul(CODE_FACTOR)
+}
+
+// A number for a name in a directory. Another name may have the same one.
+fn code_of(directory: u32, generation: u64, name: &[u8]) -> u64 {
+    let mut code = code_with(FIRST_CODE, u64::from(directory));
+    code = code_with(code, generation);
+    for byte in name {
+        code = code_with(code, u64::from(*byte));
+    }
+    code
+}
+
+impl Line {
+    // The file, where the line is of this name.
+    fn found(&self, directory: u32, generation: u64, name: &[u8]) -> Option<Found>
+        ensures of { IfSome result (λ it. (self.now.directory ≡ directory) × (self.now.generation ≡ generation)
+            × (self.now.name ≡ name.now)) }
+        ensures is { IfSome result (λ it. self.now.found ≡ it) }
+    {
+        let is_of = self.directory == directory && self.generation == generation;
+        if is_of && self.name.as_slice() == name {
+            return Some(self.found);
+        }
+        None
+    }
+}
+
+impl Index {
+    /// An index without lines. It takes no memory.
+    pub(crate) fn empty(alloc: Global) -> Index
+        ensures { (F : Files) → AllTrue F result }
+    {
+        Index {
+            lines: HashMap::new(alloc),
+        }
+    }
+
+    /// What a Look of this name answers; `None` where the index does not tell.
+    pub(crate) fn found(&self, directory: u32, generation: u64, name: &[u8]) -> Option<Found>
+        ensures { IfSome result
+            (λ it. (F : Files) → AllTrue F self.now → Finds F directory generation name.now it) }
+    {
+        match self.lines.get(&code_of(directory, generation, name)) {
+            Some(line) => line.found(directory, generation, name),
+            None => None,
+        }
+    }
+
+    // Takes all lines out, and gives their memory back.
+    fn forget(&mut self, alloc: Global)
+        ensures { (F : Files) → AllTrue F self.new }
+    {
+        self.lines = HashMap::new(alloc);
+    }
+
+    // Sees to it that there are fewer lines than the most.
+    fn make_place(&mut self, alloc: Global)
+        ensures { (F : Files) → AllTrue F self.old → AllTrue F self.new }
+    {
+        if self.lines.len() < MOST_NAMES {
+            return;
+        }
+        self.forget(alloc);
+    }
+
+    // Adds a line, where there is memory.
+    fn add(&mut self, alloc: Global, line: Line)
+        ensures { (F : Files) → AllTrue F self.old → IsTrueLine F line → AllTrue F self.new }
+    {
+        self.make_place(alloc);
+        self.put(line);
+    }
+
+    fn put(&mut self, line: Line)
+        ensures { (F : Files) → AllTrue F self.old → IsTrueLine F line → AllTrue F self.new }
+    {
+        let code = code_of(line.directory, line.generation, line.name.as_slice());
+        let _done = self.lines.insert(code, line);
+    }
+
+    // Adds the answer of a Look.
+    fn learn(&mut self, alloc: Global, directory: u32, generation: u64, name: &Name, found: Found)
+        ensures { (F : Files) → AllTrue F self.old → Finds F directory generation name.now found → AllTrue F self.new }
+    {
+        match name.copy(alloc) {
+            Ok(name) => {
+                let line = Line {
+                    directory,
+                    generation,
+                    name,
+                    found,
+                };
+                self.add(alloc, line)
+            }
+            Err(_) => {}
+        }
+    }
+
+    // Adds the answer of a step, where it is a Look that found a file.
+    fn learn_from(&mut self, alloc: Global, step: &Step, reply: &Reply)
+        ensures { (F : Files) → AllTrue F self.old → Answered step.now reply.now F → AllTrue F self.new }
+    {
+        match step {
+            Step::Look {
+                directory,
+                generation,
+                name,
+            } => match found_in(reply) {
+                Some(it) => self.learn(alloc, *directory, *generation, name, it),
+                None => {}
+            },
+            _ => {}
+        }
+    }
+
+    /// Notes a step that was made, with its reply.
+    pub(crate) fn note(&mut self, alloc: Global, step: &Step, reply: &Reply)
+        ensures { (F G : Files) → AllTrue F self.old → NamesGoOn F G step.now reply.now → AllTrue G self.new }
+    {
+        if moves_names(step, reply) {
+            self.forget(alloc);
+            return;
+        }
+        self.learn_from(alloc, step, reply);
+    }
+}
+
+// The file that a reply found.
+fn found_in(reply: &Reply) -> Option<Found>
+    ensures { IfSome result (λ it. reply.now ≡ Reply.Found it) }
+{
+    match reply {
+        Reply::Found(it) => Some(*it),
+        _ => None,
+    }
+}
+
+fn is_refused(reply: &Reply) -> bool
+    ensures { result ≡ is_refused reply.now }
+{
+    matches!(reply, Reply::Refused(_))
+}
+
+// Whether a step with this reply may change which names are found.
+fn moves_names(step: &Step, reply: &Reply) -> bool
+    ensures { result ≡ moves_names step.now reply.now }
+{
+    match step {
+        Step::Make { .. } => !is_refused(reply),
+        Step::Link { .. } => !is_refused(reply),
+        Step::Drop { .. } => !is_refused(reply),
+        Step::Rename { .. } => !is_refused(reply),
+        Step::Look { .. } => false,
+        Step::List { .. } => false,
+        Step::Get { .. } => false,
+        Step::Put { .. } => false,
+        Step::Resize { .. } => false,
+        Step::Stat { .. } => false,
+        Step::Flush { .. } => false,
+        Step::SeeInode { .. } => false,
+        Step::SeeBlock { .. } => false,
+    }
+}
