@@ -1,5 +1,6 @@
 -- A Look that the index answered goes as the machine's.
-use Rattle.std.proofs.Common.{IfSome, Option, Some, ◌≡◌, ℕ, ◌⊎◌, inl, inr, false, List, [], ◌∷◌, ◌++◌, IsTrue, Bool, None, refl, sym, ap, ◌∙◌}
+use Rattle.std.proofs.Common.{IfSome, Option, Some, ◌≡◌, ℕ, ◌⊎◌, inl, inr, false, List, [], ◌∷◌, ◌++◌, IsTrue, Bool}
+use Rattle.std.proofs.Common.{None, refl, sym, ap, ◌∙◌}
 use Rattle.std.proofs.Common.{subst}
 use Rattle.nofs_disk.specs.Disk.{DiskState, IsDisk}
 use Rattle.nofs_disk.specs.Chains.{KeepsCells-refl, StaysButFaults-refl}

@@ -86,7 +86,8 @@ module _ (found d e : DiskState) (first : ℕ) (k l : Books) (m : IsMount found 
   where
     was-same : IsSoundDisk found → e.was l.history.start ≡ d.was k.history.start
     was-same q = n.mounted.base
-        ∙ ap (λ (at : SuperBlock). slice_set found.now 0 (super_cell at)) ((n.stands q).raised ∙ sym (m.stands q).raised)
+        ∙ ap (λ (at : SuperBlock). slice_set found.now 0 (super_cell at))
+        ((n.stands q).raised ∙ sym (m.stands q).raised)
         ∙ sym m.mounted.base
 
     -- no step was made
@@ -98,7 +99,8 @@ module _ (found d e : DiskState) (first : ℕ) (k l : Books) (m : IsMount found 
         files = λ j. files_along (agreed_files (sym (was-same q) j)) (sym same j)
 
         before : k.stopped ≡ false
-        before = forms-same k.history.entries k.history.start d.moment l.history.start e.moment false k.stopped l.stopped
+        before = forms-same k.history.entries k.history.start d.moment l.history.start e.moment false
+            k.stopped l.stopped
             m.forms (subst (λ (H : List Entry1). Forms l.history.start false H e.moment l.stopped) same n.forms) ∙ going
 
     -- a step was made, and the index noted it
@@ -141,7 +143,8 @@ module _ (found d e : DiskState) (first : ℕ) (k l : Books) (m : IsMount found 
     index-after index after caller s r adds none made t = go (is_out_of_memory r) refl
       where
         go : (b : Bool) → is_out_of_memory r ≡ b → IsTrueIndex found e l after
-        go true mem = subst (λ (i : Index). IsTrueIndex found e l i) (sym (none mem)) (index-same index (adds.none mem) t)
+        go true mem =
+            subst (λ (i : Index). IsTrueIndex found e l i) (sym (none mem)) (index-same index (adds.none mem) t)
         go false mem =
             let a = adds.one mem in
             index-noted index after a.0 a.1 (λ F G. made mem F G a.0 a.3 a.4 a.1) t

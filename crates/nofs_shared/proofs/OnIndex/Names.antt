@@ -1,5 +1,6 @@
 -- What is found stays found over each step that changes no names.
-use Rattle.std.proofs.Common.{◌≡◌, ℕ, Bool, true, false, cond, ◌&&◌, not, eqb, eqb-true, List, [], ◌∷◌, Option, Some, None}
+use Rattle.std.proofs.Common.{◌≡◌, ℕ, Bool, true, false, cond, ◌&&◌, not, eqb, eqb-true, List, [], ◌∷◌, Option, Some}
+use Rattle.std.proofs.Common.{None}
 use Rattle.std.proofs.Common.{◌+◌, ◌*◌, max, length, ◌||◌, ltb, is_some, refl, sym, ap, ◌∙◌, subst}
 use Rattle.std.specs.List.{list_any}
 use Rattle.std.specs.Prelude.{unwrap_or, bytes_eq}
@@ -14,7 +15,8 @@ use Rattle.nofs_model.specs.Files.{Absent, names, pairs}
 use Rattle.nofs_model.specs.declared.image.value.Value.TheVariants.{Hole}
 use Rattle.nofs_history.specs.Meta.{Is, Meta}
 use Rattle.nofs_history.specs.Search.{first_of, least_from}
-use Rattle.nofs_history.specs.Machine.{Given, after_meta, file_after, files_after, files_by, filled, found, generation_of}
+use Rattle.nofs_history.specs.Machine.{Given, after_meta, file_after, files_after, files_by, filled, found}
+use Rattle.nofs_history.specs.Machine.{generation_of}
 use Rattle.nofs_history.specs.Machine.{gives, is_at, is_folder_at, is_paired, is_refused, link_to, put_given}
 use Rattle.nofs_history.specs.Machine.{meta_with, resize_given, same_link, with_meta}
 use Rattle.nofs_history.specs.World.{World}
@@ -47,7 +49,8 @@ entry-part (Some f) e = go f.kind refl
     go Folder is = rw is refl
     go File is = rw is refl
 
-pairs-part : (o d : Option FileState) (i : ℕ) (link : BackLink) → pairs (named_part o) (named_part d) i link ≡ pairs o d i link
+pairs-part : (o d : Option FileState) (i : ℕ) (link : BackLink)
+    → pairs (named_part o) (named_part d) i link ≡ pairs o d i link
 pairs-part None d i link = refl
 pairs-part (Some f) None i link = refl
 pairs-part (Some f) (Some h) i link =
@@ -97,7 +100,8 @@ module _ (F : Files) where
 
   found-part : (d : ℕ) (name : List ℕ) → found (only_names F) d name ≡ found F d name
   unfolding found
-  found-part d name = λ j. least_from (λ e. (elim (at-part d e j) [ None ↦ false | Some entry ↦ bytes_eq entry.name name ])
+  found-part d name =
+      λ j. least_from (λ e. (elim (at-part d e j) [ None ↦ false | Some entry ↦ bytes_eq entry.name name ])
       && paired-part d e j) 0 entry_limit
 
   reply-part : (d : ℕ) (o : Option ℕ) → found_reply (only_names F) d o ≡ found_reply F d o
@@ -232,7 +236,8 @@ next-part W V e next m = ap only_names (files-next W V e next) ∙ go (is_refuse
   where
     go : (b : Bool) → is_refused e.reply ≡ b → only_names (files_by W.files e) ≡ only_names W.files
     go true q = rw q refl
-    go false q = rw q (given-part W V e.step e.claims (accepted-acts W V e next q).0 (accepted-moves e.step e.reply q m))
+    go false q =
+        rw q (given-part W V e.step e.claims (accepted-acts W V e next q).0 (accepted-moves e.step e.reply q m))
 
 -- A Look that was done
 

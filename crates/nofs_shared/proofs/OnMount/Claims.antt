@@ -68,7 +68,8 @@ unowned-kept X k l same = unowned-none X k.history.entries l.history.entries (ap
 pub unowned-unclaimed : (X : Image) (H K : List Entry1) (f : Entry1) → f.claims ≡ no_claims → K ≡ H ++ f ∷ []
     → Unowned X H K
 unowned-unclaimed X H K f none all e is x has = absurd (none-claimed x
-    (subst (λ (c : Claims). Contains (claimed_blocks c) x) (ap (λ (g : Entry1). g.claims) (last-is H e f (sym is ∙ all)) ∙ none)
+    (subst (λ (c : Claims). Contains (claimed_blocks c) x)
+    (ap (λ (g : Entry1). g.claims) (last-is H e f (sym is ∙ all)) ∙ none)
     has))
 
 pub unowned-more : (found old new : DiskState) (first : ℕ) (k l : Books) (s : Step) (c : Claims) (r : Reply)

@@ -4,4 +4,5 @@ use Rattle.nofs_shared.proofs.index.Index.learn.Goals as goal
 
 pub returns-in-Ok : goal.returns-in-Ok
 returns-in-Ok c = λ F all finds. c.add.ensures F all
-    (subst (λ (name : List ℕ). Finds F c.args.directory c.args.generation name c.args.found) (sym c.in-Ok.ensures) finds)
+    (subst (λ (name : List ℕ). Finds F c.args.directory c.args.generation name c.args.found)
+    (sym c.in-Ok.ensures) finds)
