@@ -1,6 +1,8 @@
 //! The cases of a file: their lines, and how many of them hold.
 
-use crate::stage::{Failure, fails_with};
+use crate::failure::Failure;
+use crate::lines::place_of;
+use crate::stage::Stage;
 use crate::turns::run_case;
 use std::alloc::{AllocError, Global};
 use std::sync::Wait;
@@ -11,79 +13,75 @@ use std::thread::Threads;
 pub struct Tally {
     pub cases: u64,
     pub failed: u64,
-    /// What is told of those that failed: the name, the line, what was wanted and what came.
-    pub failed_text: String,
-    /// The names of those that held.
-    pub held_text: String,
+    /// How many did not end as they are to, and what is told of them.
+    pub wrong: u64,
+    pub text: String,
 }
 
 impl Tally {
-    fn new(alloc: Global) -> Tally {
-        Tally {
-            cases: 0,
-            failed: 0,
-            failed_text: String::new(alloc),
-            held_text: String::new(alloc),
-        }
-    }
-
-    // Counts a case that ended so.
-    fn count(&mut self, name: &str, end: Result<(), Failure>) -> Result<(), AllocError> {
+    // Counts a case that ended so, and is to hold, or to fail. `told` tells where it ended, and what came.
+    fn count(
+        &mut self,
+        alloc: Global,
+        name: &str,
+        told: &str,
+        end: Result<(), Failure>,
+        is_to_hold: bool,
+    ) -> Result<(), AllocError> {
+        let (holds, why) = match end {
+            Ok(()) => (true, "it holds"),
+            Err(Failure::Case(why)) => (false, why),
+            Err(Failure::OutOfMemory) => return Err(AllocError),
+        };
         self.cases = self.cases.saturating_add(1);
-        match end {
-            Ok(()) => push_name(&mut self.held_text, "HOLDS: ", name),
-            Err(Failure::OutOfMemory) => Err(AllocError),
-            Err(Failure::Case(why)) => {
-                self.failed = self.failed.saturating_add(1);
-                push_name(&mut self.failed_text, "FAILED: ", name)?;
-                self.failed_text.push_str(why.as_str())?;
-                self.failed_text.push_str("\n")
-            }
+        if !holds {
+            self.failed = self.failed.saturating_add(1);
         }
+        if holds != is_to_hold {
+            self.wrong = self.wrong.saturating_add(1);
+            let text = format!(in alloc; "WRONG: {name}\n{told}{why}\n")?;
+            self.text.push_str(text.as_str())?;
+        }
+        Ok(())
     }
 }
 
-fn push_name(text: &mut String, what: &str, name: &str) -> Result<(), AllocError> {
-    text.push_str(what)?;
-    text.push_str(name)?;
-    text.push_str("\n")
-}
-
-/// Runs each case of a file. Lines before the first of them count as one that fails.
+/// Runs each case of a file, which is to hold, or to fail. Lines before the first of them count as one that fails, and
+/// so does a file without cases.
 pub fn run_file<R: Threads + Wait + Sync>(
     rt: &R,
-    alloc: Global,
+    stage: &mut Stage,
     images: &[&str],
     lines: &[&str],
+    is_to_hold: bool,
 ) -> Result<Tally, AllocError> {
-    let mut tally = Tally::new(alloc);
-    if has_text(body_of(lines)) {
-        tally.count(
-            "lines before the first case",
-            fails_with(alloc, "of no case"),
-        )?;
-    }
+    let alloc = stage.alloc;
+    let mut tally = Tally {
+        cases: 0,
+        failed: 0,
+        wrong: 0,
+        text: String::new(alloc),
+    };
     for (at, line) in lines.iter().enumerate() {
-        if let Some(name) = line.strip_prefix("case ") {
-            let body = body_of(lines_behind(lines, at));
-            let end = run_case(rt, alloc, images, body);
-            tally.count(name, end)?;
+        match line.strip_prefix("case ") {
+            Some(name) => {
+                let end = run_case(rt, stage, images, body_of(lines, at));
+                tally.count(alloc, name, stage.told.as_str(), end, is_to_hold)?;
+            }
+            None if tally.cases == 0 && !line.is_empty() => {
+                tally.count(alloc, line, "", Err(Failure::Case("of no case")), true)?;
+            }
+            None => {}
         }
+    }
+    if tally.cases == 0 {
+        tally.wrong = 1;
     }
     Ok(tally)
 }
 
-fn lines_behind<'a, 'b>(lines: &'a [&'b str], at: usize) -> &'a [&'b str] {
-    lines.get(at.saturating_add(1)..).unwrap_or(lines)
-}
-
-// The lines up to the next case.
-fn body_of<'a, 'b>(lines: &'a [&'b str]) -> &'a [&'b str] {
-    let is_head = |line: &&str| line.starts_with("case ");
-    let end = lines.iter().position(is_head).unwrap_or(lines.len());
-    lines.get(..end).unwrap_or(lines)
-}
-
-fn has_text(lines: &[&str]) -> bool {
-    lines.iter().any(|line| !line.is_empty())
+// The lines behind that of a case, up to the next one.
+fn body_of<'a, 'b>(lines: &'a [&'b str], at: usize) -> &'a [&'b str] {
+    let behind = lines.get(at.saturating_add(1)..).unwrap_or(lines);
+    behind.get(..place_of(behind, "case ")).unwrap_or(behind)
 }

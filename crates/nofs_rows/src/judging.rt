@@ -12,9 +12,12 @@
 
 mod meaning;
 
+use crate::failure::Failure;
 use crate::judging::meaning::meaning_holds;
-use crate::lines::number_of;
-use crate::stage::{Failure, Stage, fails_with};
+use crate::laying::lay_images;
+use crate::lines::{hex_bytes, number_of};
+use crate::mounts::counts_text;
+use crate::stage::Stage;
 use nofs_disk::{Cell, Disk, read_u64_at};
 use nofs_memdisk::MemDisk;
 use nofs_test_disks::{bytes_of, cell_of, cells_of, choices_of, drawn_picks, left};
@@ -22,57 +25,36 @@ use nofs_versions::{CallCounts, Pick};
 use std::alloc::{AllocError, Global};
 
 impl Stage {
-    /// Obeys a line that judges the disk; whether this is one.
-    pub fn judge(&mut self, words: &[&str]) -> Result<bool, Failure> {
+    /// Obeys a line that judges the disk, or that a crash leaves it; whether this is one.
+    pub fn judge_disk(&mut self, words: &[&str]) -> Result<bool, Failure> {
         match words {
-            ["crash", seed] => self.crash(number_of(seed)),
-            ["left", block, version] => self.leave(number_of(block), number_of(version)),
-            ["calls" | "cell" | "choices", ..] => self.judge_disk(words),
-            _ => self.judge_meaning(words),
+            ["crash" | "left", ..] => Ok(self.crash(words)?),
+            _ => match self.holds(words)? {
+                Some(holds) => {
+                    self.judge(holds)?;
+                    Ok(true)
+                }
+                None => Ok(false),
+            },
         }
     }
 
-    fn judge_disk(&mut self, words: &[&str]) -> Result<bool, Failure> {
-        let Some(disk) = &mut self.disk else {
-            return Ok(false);
-        };
-        if is_as_told(self.alloc, disk, self.turn, words)? {
-            self.count_judged();
-            return Ok(true);
-        }
-        let calls = disk.calls();
-        Err(Failure::Case(calls_text(self.alloc, calls)?))
-    }
-
-    fn judge_meaning(&mut self, words: &[&str]) -> Result<bool, Failure> {
-        let holds = match &mut self.disk {
-            Some(disk) => meaning_holds(self.alloc, &all_cells(self.alloc, disk)?, words)?,
-            None => meaning_holds(self.alloc, &self.cells, words)?,
-        };
-        match holds {
-            None => Ok(false),
-            Some(true) => {
-                self.count_judged();
-                Ok(true)
-            }
-            Some(false) => fails_with(self.alloc, "the definitions say something else"),
+    // Whether it holds what a line says of the disk, or of the cells of the one that is to be made.
+    fn holds(&mut self, words: &[&str]) -> Result<Option<bool>, Failure> {
+        match &mut self.disk {
+            Some(disk) => disk_holds(self.alloc, disk, self.turn, words),
+            None => meaning_holds(self.alloc, &self.cells, words),
         }
     }
 
-    /// Whether the cells of the disk are those that were laid down, or those of images of these names.
-    pub fn is_same(&mut self, images: &[&str], names: &[&str]) -> Result<(), Failure> {
-        let Some(disk) = &mut self.disk else {
-            return fails_with(self.alloc, "no disk");
-        };
-        let cells = all_cells(self.alloc, disk)?;
+    /// Judges whether the cells of the disk are those that were laid down, or those of images of these names.
+    pub fn judge_cells(&mut self, images: &[&str], names: &[&str]) -> Result<(), Failure> {
         let laid = self.laid_bytes(images, names)?;
-        let is_same = bytes_of(self.alloc, &cells)? == laid;
-        self.count_judged();
-        if is_same {
-            Ok(())
-        } else {
-            fails_with(self.alloc, "other cells")
-        }
+        let is_same = match &mut self.disk {
+            Some(disk) => bytes_of(self.alloc, &all_cells(self.alloc, disk)?)? == laid,
+            None => false,
+        };
+        self.judge(is_same)
     }
 
     // The bytes of the cells that were laid down, or of images of these names.
@@ -80,29 +62,36 @@ impl Stage {
         if names.is_empty() {
             return Ok(bytes_of(self.alloc, &self.cells)?);
         }
-        let mut other = Stage::new(self.alloc, 0);
-        other.lay_images(images, names)?;
-        Ok(bytes_of(self.alloc, &other.cells)?)
+        let mut cells = Vec::new(self.alloc);
+        lay_images(self.alloc, &mut cells, images, names)?;
+        Ok(bytes_of(self.alloc, &cells)?)
     }
 
-    // Goes on with a disk that a crash may leave, drawn by chance.
-    fn crash(&mut self, seed: Option<u64>) -> Result<bool, Failure> {
-        let (Some(disk), Some(mut seed)) = (self.disk.take(), seed) else {
+    // Goes on with a disk that a crash may leave, if it may.
+    fn crash(&mut self, words: &[&str]) -> Result<bool, AllocError> {
+        let Some(disk) = self.disk.take() else {
             return Ok(false);
         };
-        let picks = drawn_picks(self.alloc, &disk, &mut seed)?;
-        self.disk = left(self.alloc, &disk, &picks)?;
+        self.disk = crashed(self.alloc, &disk, words)?;
         Ok(self.disk.is_some())
     }
 
-    // Goes on with the disk that a crash leaves with this cell of a block.
-    fn leave(&mut self, block: Option<u64>, version: Option<u64>) -> Result<bool, Failure> {
-        let (Some(disk), Some(block), Some(version)) = (self.disk.take(), block, version) else {
-            return Ok(false);
-        };
-        self.disk = left(self.alloc, &disk, &[Pick { block, version }])?;
-        Ok(self.disk.is_some())
+    /// Tells what the disk and the mount count.
+    pub fn tell_counts(&mut self) -> Result<(), AllocError> {
+        if let Some(disk) = &self.disk {
+            let calls = calls_text(self.alloc, disk.calls())?;
+            self.told.push_str(calls.as_str())?;
+        }
+        if let Some(mount) = &self.mount {
+            let counts = counts_text(self.alloc, mount)?;
+            self.told.push_str(counts.as_str())?;
+        }
+        Ok(())
     }
+}
+
+fn calls_text(alloc: Global, calls: CallCounts) -> Result<String, AllocError> {
+    format!(in alloc; "with {calls:?} ")
 }
 
 fn all_cells(alloc: Global, disk: &mut MemDisk) -> Result<Vec<Cell>, AllocError> {
@@ -110,19 +99,38 @@ fn all_cells(alloc: Global, disk: &mut MemDisk) -> Result<Vec<Cell>, AllocError>
     cells_of(alloc, disk, blocks)
 }
 
-fn is_as_told(
+// What a crash leaves by a line: drawn by chance, or with one cell of a block.
+fn crashed(alloc: Global, disk: &MemDisk, words: &[&str]) -> Result<Option<MemDisk>, AllocError> {
+    match words {
+        ["crash", seed] => match number_of(seed) {
+            Some(mut seed) => left(alloc, disk, &drawn_picks(alloc, disk, &mut seed)?),
+            None => Ok(None),
+        },
+        ["left", block, version] => match (number_of(block), number_of(version)) {
+            (Some(block), Some(version)) => left(alloc, disk, &[Pick { block, version }]),
+            _ => Ok(None),
+        },
+        _ => Ok(None),
+    }
+}
+
+// Whether it holds what a line says of a disk.
+fn disk_holds(
     alloc: Global,
     disk: &mut MemDisk,
     turn: u64,
     words: &[&str],
-) -> Result<bool, AllocError> {
+) -> Result<Option<bool>, Failure> {
     match words {
         ["calls", reads, writes, flushes] => {
-            Ok(are_calls(disk.calls(), turn, [reads, writes, flushes]))
+            Ok(Some(are_calls(disk.calls(), turn, [reads, writes, flushes])))
         }
-        ["cell", block, at, digits] => has_cell(alloc, disk, block, number_of(at), digits),
-        ["choices", block, count] => Ok(has_choices(disk, block, number_of(count))),
-        _ => Ok(false),
+        ["cell", block, at, digits] => {
+            let bytes = hex_bytes(alloc, digits)?;
+            Ok(Some(has_cell(disk, block, number_of(at), &bytes)))
+        }
+        ["choices", block, count] => Ok(Some(has_choices(disk, block, number_of(count)))),
+        _ => meaning_holds(alloc, &all_cells(alloc, disk)?, words),
     }
 }
 
@@ -142,29 +150,13 @@ fn is_count(word: &str, count: u64, turn: u64) -> bool {
     }
 }
 
-fn calls_text(alloc: Global, calls: CallCounts) -> Result<String, AllocError> {
-    let CallCounts {
-        reads,
-        writes,
-        flushes,
-    } = calls;
-    format!(in alloc; "not so, with calls {reads} {writes} {flushes}")
-}
-
-fn has_cell(
-    alloc: Global,
-    disk: &mut MemDisk,
-    block: &str,
-    at: Option<u64>,
-    digits: &str,
-) -> Result<bool, AllocError> {
-    let (Some(block), Some(at), Ok(bytes)) = (block_of(disk, block), at, hex::decode(alloc, digits))
-    else {
-        return Ok(false);
+fn has_cell(disk: &mut MemDisk, block: &str, at: Option<u64>, bytes: &[u8]) -> bool {
+    let (Some(block), Some(at)) = (block_of(disk, block), at) else {
+        return false;
     };
     match cell_of(disk, block) {
-        Some(cell) => Ok(has_bytes(&cell, at as usize, &bytes)),
-        None => Ok(false),
+        Some(cell) => has_bytes(&cell, at as usize, bytes),
+        None => false,
     }
 }
 

@@ -2,90 +2,144 @@
 //!
 //! Promise: what does not fit into its cell is told, and not laid.
 
-use crate::lines::{byte_of, number_at, number_of, push_spread};
+use crate::failure::Failure;
+use crate::lines::{hex_bytes, number_of, words_of};
 use nofs_disk::{Cell, write_bytes_at};
 use std::alloc::{AllocError, Global};
 
-/// Where the numbers of a form begin: a block, and a place in its cell, whose tag follows the payload.
-#[derive(Clone, Copy)]
-struct Place {
-    block: u64,
-    at: u64,
+// The most blocks that a disk of a case has.
+const MOST_BLOCKS: u64 = 1_048_576;
+
+// How many bytes each number has of a pointer, of a link, of a record of the inode table, and of a tag.
+const POINTER: &[u64] = &[8, 8];
+
+const LINK: &[u64] = &[4, 4, 8];
+
+const RECORD: &[u64] = &[8, 4, 4, 8];
+
+const TAG: &[u64] = &[4, 4, 8, 8, 8];
+
+/// A block, and a place in its cell, whose tag follows the payload.
+type Place = (u64, u64);
+
+// A place of a record of the inode table, behind so many bytes of it.
+fn in_record(inode: &str, at: Option<u64>) -> Option<Place> {
+    let before = number_of(inode)?.checked_sub(1)?;
+    let at = (before % 4 * 256).checked_add(at?)?;
+    Some((before / 4 + 1, at))
 }
 
-/// A form: where it begins, behind how many words, and how many bytes each number has.
-#[derive(Clone, Copy)]
-struct Form {
-    place: Place,
-    words: usize,
-    widths: &'static [u64],
+fn in_block(block: &str, at: Option<u64>) -> Option<Place> {
+    Some((number_of(block)?, at?))
 }
 
-// A place of a record of the inode table.
-fn in_record(words: &[&str], at: u64) -> Option<Place> {
-    let before = number_at(words, 1)?.checked_sub(1)?;
-    let at = (before % 4).checked_mul(256)?.checked_add(at)?;
-    Some(Place {
-        block: (before / 4).checked_add(1)?,
-        at,
-    })
+// The place behind so many others of this size, of which the first stands there.
+fn behind(count: &str, size: u64, first: u64) -> Option<u64> {
+    number_of(count)?.checked_mul(size)?.checked_add(first)
 }
 
-// A place that is counted in a block.
-fn in_block(words: &[&str], size: u64) -> Option<Place> {
-    let at = number_at(words, 2)?.checked_mul(size)?;
-    Some(Place {
-        block: number_at(words, 1)?,
-        at,
-    })
-}
-
-// A place of a record behind so many others of its kind.
-fn behind(words: &[&str], first: u64) -> Option<Place> {
-    in_record(
-        words,
-        number_at(words, 2)?.checked_mul(16)?.checked_add(first)?,
-    )
-}
-
-fn form_at(place: Place, words: usize, widths: &'static [u64]) -> Form {
-    Form {
-        place,
-        words,
-        widths,
-    }
-}
-
-// The form of a line of numbers.
-fn form_of(words: &[&str]) -> Option<Form> {
-    match *words.first()? {
-        "super" => Some(form_at(Place { block: 0, at: 8 }, 1, &[4, 4, 8, 8, 8])),
-        "record" => Some(form_at(in_record(words, 0)?, 2, &[8, 4, 4, 8])),
-        "link" => Some(form_at(behind(words, 32)?, 3, &[4, 4, 8])),
-        "direct" => Some(form_at(behind(words, 96)?, 3, &[8, 8])),
-        "leaf" => Some(form_at(in_record(words, 224)?, 2, &[8, 8])),
-        "top" => Some(form_at(in_record(words, 240)?, 2, &[8, 8])),
-        "pointer" => Some(form_at(in_block(words, 16)?, 3, &[8, 8])),
-        "tag" => Some(form_at(tag_of(number_at(words, 1)?), 2, &[4, 4, 8, 8, 8])),
+// Where the numbers of a line begin, how many bytes each of them has, and the words that write them.
+fn form_of<'a, 'b>(words: &'a [&'b str]) -> Option<(Option<Place>, &'static [u64], &'a [&'b str])> {
+    match words {
+        ["super", numbers @ ..] => Some((Some((0, 8)), TAG, numbers)),
+        ["record", inode, numbers @ ..] => Some((in_record(inode, Some(0)), RECORD, numbers)),
+        ["link", inode, count, numbers @ ..] => {
+            Some((in_record(inode, behind(count, 16, 32)), LINK, numbers))
+        }
+        ["direct", inode, count, numbers @ ..] => {
+            Some((in_record(inode, behind(count, 16, 96)), POINTER, numbers))
+        }
+        ["leaf", inode, numbers @ ..] => Some((in_record(inode, Some(224)), POINTER, numbers)),
+        ["top", inode, numbers @ ..] => Some((in_record(inode, Some(240)), POINTER, numbers)),
+        ["pointer", block, count, numbers @ ..] => {
+            Some((in_block(block, behind(count, 16, 0)), POINTER, numbers))
+        }
+        ["tag", block, numbers @ ..] => Some((in_block(block, Some(1024)), TAG, numbers)),
         _ => None,
     }
 }
 
-fn tag_of(block: u64) -> Place {
-    Place { block, at: 1024 }
+/// Lays the images of these names down, one over the other.
+pub fn lay_images(
+    alloc: Global,
+    cells: &mut Vec<Cell>,
+    images: &[&str],
+    names: &[&str],
+) -> Result<(), Failure> {
+    for name in names {
+        lay_image(alloc, cells, images, name)?;
+    }
+    Ok(())
 }
 
-/// Lays a line down: `None` where it is no line of an image.
-pub fn lay(alloc: Global, cells: &mut [Cell], words: &[&str]) -> Result<Option<()>, AllocError> {
-    match words {
-        ["bytes", block, at, digits] => lay_hex(alloc, cells, place_of(block, at), digits),
-        ["text", block, at, text] => Ok(put(cells, place_of(block, at), text.as_bytes())),
-        ["entry", block, place, name, inode, generation] => {
-            lay_entry(alloc, cells, [block, place, inode, generation], name)
+fn lay_image(
+    alloc: Global,
+    cells: &mut Vec<Cell>,
+    images: &[&str],
+    name: &str,
+) -> Result<(), Failure> {
+    let (mut current, mut any) = ("", false);
+    for line in images {
+        match line.strip_prefix("image ") {
+            Some(found) => current = found,
+            None if current == name => {
+                any = true;
+                lay(alloc, cells, &words_of(alloc, line)?)?;
+            }
+            None => {}
         }
-        ["magic"] => Ok(put(cells, place_of("0", "0"), b"NoFSv001".as_slice())),
+    }
+    if any {
+        Ok(())
+    } else {
+        Err(Failure::Case("no image of this name"))
+    }
+}
+
+/// Lays a line of an image down.
+pub fn lay(alloc: Global, cells: &mut Vec<Cell>, words: &[&str]) -> Result<(), Failure> {
+    match laid(alloc, cells, words)? {
+        Some(()) => Ok(()),
+        None => Err(Failure::Case("what does this line say?")),
+    }
+}
+
+// Lays a line down: `None` where it is no line of an image.
+fn laid(alloc: Global, cells: &mut Vec<Cell>, words: &[&str]) -> Result<Option<()>, Failure> {
+    match words {
+        [] => Ok(Some(())),
+        ["disk", blocks] => Ok(lay_zeros(alloc, cells, number_of(blocks))?),
+        ["bytes", block, at, digits] => {
+            let bytes = hex_bytes(alloc, digits)?;
+            Ok(put(cells, in_block(block, number_of(at)), &bytes))
+        }
+        ["text", block, at, text] => Ok(put(
+            cells,
+            in_block(block, number_of(at)),
+            text.as_bytes(),
+        )),
+        ["entry", block, count, name, numbers @ ..] => {
+            let place = in_block(block, behind(count, 64, 0));
+            Ok(lay_entry(alloc, cells, place, name, numbers)?)
+        }
+        ["magic"] => Ok(put(cells, Some((0, 0)), b"NoFSv001".as_slice())),
         ["fill", byte] => Ok(fill(cells, number_of(byte))),
-        _ => lay_form(alloc, cells, words),
+        _ => Ok(lay_form(alloc, cells, form_of(words))?),
+    }
+}
+
+// So many cells of zeros, and no others.
+fn lay_zeros(
+    alloc: Global,
+    cells: &mut Vec<Cell>,
+    blocks: Option<u64>,
+) -> Result<Option<()>, AllocError> {
+    match blocks {
+        Some(blocks) if blocks <= MOST_BLOCKS => {
+            *cells = vec![in alloc; Cell::ZERO; blocks as usize]?;
+            Ok(Some(()))
+        }
+        _ => Ok(None),
     }
 }
 
@@ -93,10 +147,13 @@ pub fn lay(alloc: Global, cells: &mut [Cell], words: &[&str]) -> Result<Option<(
 fn lay_entry(
     alloc: Global,
     cells: &mut [Cell],
-    words: [&str; 4],
+    place: Option<Place>,
     name: &str,
+    numbers: &[&str],
 ) -> Result<Option<()>, AllocError> {
-    let [block, place, inode, generation] = words;
+    let [inode, generation] = numbers else {
+        return Ok(None);
+    };
     let (Some(inode), Some(generation)) = (number_of(inode), number_of(generation)) else {
         return Ok(None);
     };
@@ -105,32 +162,11 @@ fn lay_entry(
     push_number(&mut bytes, name.len() as u64, 4)?;
     push_number(&mut bytes, generation, 8)?;
     bytes.extend_from_slice(name.as_bytes())?;
-    Ok(put(cells, in_block(&["entry", block, place], 64), &bytes))
-}
-
-fn place_of(block: &str, at: &str) -> Option<Place> {
-    Some(Place {
-        block: number_of(block)?,
-        at: number_of(at)?,
-    })
-}
-
-fn lay_hex(
-    alloc: Global,
-    cells: &mut [Cell],
-    place: Option<Place>,
-    digits: &str,
-) -> Result<Option<()>, AllocError> {
-    let mut spread = Vec::new(alloc);
-    push_spread(&mut spread, digits)?;
-    match hex::decode(alloc, &spread) {
-        Ok(bytes) => Ok(put(cells, place, &bytes)),
-        Err(_) => Ok(None),
-    }
+    Ok(put(cells, place, &bytes))
 }
 
 fn fill(cells: &mut [Cell], byte: Option<u64>) -> Option<()> {
-    let byte = byte_of(byte)?;
+    let byte = u8::try_from(byte?).ok()?;
     for cell in cells {
         *cell = Cell {
             payload: [byte; 1024],
@@ -140,21 +176,25 @@ fn fill(cells: &mut [Cell], byte: Option<u64>) -> Option<()> {
     Some(())
 }
 
-fn lay_form(alloc: Global, cells: &mut [Cell], words: &[&str]) -> Result<Option<()>, AllocError> {
-    let Some(form) = form_of(words) else {
+fn lay_form(
+    alloc: Global,
+    cells: &mut [Cell],
+    form: Option<(Option<Place>, &[u64], &[&str])>,
+) -> Result<Option<()>, AllocError> {
+    let Some((place, widths, numbers)) = form else {
         return Ok(None);
     };
+    if numbers.len() != widths.len() {
+        return Ok(None);
+    }
     let mut bytes = Vec::new(alloc);
-    for (number, width) in form.widths.iter().enumerate() {
-        match number_at(words, number.saturating_add(form.words)) {
-            Some(value) => push_number(&mut bytes, value, *width)?,
+    for (word, width) in numbers.iter().zip(widths) {
+        match number_of(word) {
+            Some(number) => push_number(&mut bytes, number, *width)?,
             None => return Ok(None),
         }
     }
-    if words.len() != form.words.saturating_add(form.widths.len()) {
-        return Ok(None);
-    }
-    Ok(put(cells, Some(form.place), &bytes))
+    Ok(put(cells, place, &bytes))
 }
 
 // Adds a number, its low byte first.
@@ -169,7 +209,7 @@ fn push_number(bytes: &mut Vec<u8>, value: u64, width: u64) -> Result<(), AllocE
 
 // Puts bytes at their place, if they fit.
 fn put(cells: &mut [Cell], place: Option<Place>, bytes: &[u8]) -> Option<()> {
-    let Place { block, at } = place?;
+    let (block, at) = place?;
     let cell = cells.get_mut(block as usize)?;
     if at < 1024 {
         put_in(&mut cell.payload, at as usize, bytes)

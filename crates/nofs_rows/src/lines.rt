@@ -1,8 +1,9 @@
-//! The lines of a file, their words, and the numbers that words write.
+//! The lines of a file, their words, and the numbers and bytes that words write.
 //!
 //! A number is decimal, or a stamp: `S` and `T` are the first of mount 1 and of mount 2, and `S+9` is the ninth after
 //! it. A kind has its name.
 
+use crate::failure::Failure;
 use std::alloc::{AllocError, Global};
 
 /// The first stamp of the first mount.
@@ -19,13 +20,33 @@ pub fn lines_of<'a>(alloc: Global, text: &'a str) -> Result<Vec<&'a str>, AllocE
     Ok(lines)
 }
 
+/// The place of the first line that begins with this word; the number of lines where there is none.
+pub fn place_of(lines: &[&str], word: &str) -> usize {
+    for (place, line) in lines.iter().enumerate() {
+        if line.starts_with(word) {
+            return place;
+        }
+    }
+    lines.len()
+}
+
+/// The words of the first line that begins with this word; none where there is no such line.
+pub fn words_at<'a>(
+    alloc: Global,
+    lines: &[&'a str],
+    word: &str,
+) -> Result<Vec<&'a str>, AllocError> {
+    match lines.get(place_of(lines, word)) {
+        Some(line) => words_of(alloc, line),
+        None => Ok(Vec::new(alloc)),
+    }
+}
+
 /// The words of a line.
 pub fn words_of<'a>(alloc: Global, line: &'a str) -> Result<Vec<&'a str>, AllocError> {
     let mut words = Vec::new(alloc);
-    for word in line.split(' ') {
-        if !word.is_empty() {
-            words.push(word)?;
-        }
+    for word in line.split_whitespace() {
+        words.push(word)?;
     }
     Ok(words)
 }
@@ -51,16 +72,6 @@ fn named_number(word: &str) -> Option<u64> {
     }
 }
 
-/// The number that stands at a place among words.
-pub fn number_at(words: &[&str], place: usize) -> Option<u64> {
-    number_of(words.get(place)?)
-}
-
-/// A number as a byte, where it is one.
-pub fn byte_of(number: Option<u64>) -> Option<u8> {
-    u8::try_from(number?).ok()
-}
-
 /// The first and the last number of a range, which is not empty. A number alone is its own range.
 pub fn range_of(word: &str) -> Option<(u64, u64)> {
     let (first, last) = word.split_once("..").unwrap_or((word, word));
@@ -72,23 +83,52 @@ pub fn range_of(word: &str) -> Option<(u64, u64)> {
     }
 }
 
-/// How often a line counts, and its text: both follow its mark. `None` where the count is none.
-pub fn counted(rest: &str) -> Option<(u64, &str)> {
+/// How often a line counts, and its text: both follow its mark.
+pub fn counted(rest: &str) -> Result<(u64, &str), Failure> {
     let (count, text) = rest.split_once(' ').unwrap_or((rest, ""));
     if count.is_empty() {
-        return Some((1, text));
+        return Ok((1, text));
     }
-    Some((count.parse::<u64>().ok()?, text))
+    match count.parse::<u64>() {
+        Ok(count) => Ok((count, text)),
+        Err(_) => Err(Failure::Case("no count")),
+    }
 }
 
-/// Adds a text. A word of it that ends in two letters, `*` and a number has the letters so many times.
-pub fn push_spread(bytes: &mut Vec<u8>, text: &str) -> Result<(), AllocError> {
-    for (place, word) in text.split(' ').enumerate() {
-        if place > 0 {
-            bytes.push(b' ')?;
-        }
-        push_word(bytes, word)?;
+/// The bytes of a line behind its mark: its text as often as it counts, or what its digits write behind an `x`.
+pub fn marked_bytes(alloc: Global, rest: &str) -> Result<Vec<u8>, Failure> {
+    match rest.strip_prefix('x') {
+        Some(digits) => hex_bytes(alloc, digits.trim()),
+        None => Ok(repeated(alloc, counted(rest)?)?),
     }
+}
+
+fn repeated(alloc: Global, counted: (u64, &str)) -> Result<Vec<u8>, AllocError> {
+    let mut bytes = Vec::new(alloc);
+    for _ in 0..counted.0 {
+        push_spread(&mut bytes, counted.1)?;
+        bytes.push(b'\n')?;
+    }
+    Ok(bytes)
+}
+
+/// The bytes that digits write.
+pub fn hex_bytes(alloc: Global, digits: &str) -> Result<Vec<u8>, Failure> {
+    let mut spread = Vec::new(alloc);
+    push_spread(&mut spread, digits)?;
+    match hex::decode(alloc, &spread) {
+        Ok(bytes) => Ok(bytes),
+        Err(_) => Err(Failure::Case("no digits")),
+    }
+}
+
+// Adds a text. A word of it that ends in two letters, `*` and a number has the letters so many times.
+fn push_spread(bytes: &mut Vec<u8>, text: &str) -> Result<(), AllocError> {
+    for word in text.split(' ') {
+        push_word(bytes, word)?;
+        bytes.push(b' ')?;
+    }
+    bytes.pop();
     Ok(())
 }
 

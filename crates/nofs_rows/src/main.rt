@@ -10,9 +10,11 @@
 //!   crash
 //! - `stage`: what stands while a case is run; its lines by what they say: `settings`, `runs`, `mounts`, `judging`
 //! - `lines`: words and numbers; `laying`: images; `outputs`: what is printed; `steps`, `replies`: steps and answers
+//! - `failure`: why a case fails
 #![tactic(auto)]
 
 mod cases;
+mod failure;
 mod judging;
 mod laying;
 mod lines;
@@ -27,6 +29,7 @@ mod turns;
 
 use crate::cases::{Tally, run_file};
 use crate::lines::lines_of;
+use crate::stage::Stage;
 use std::process::ExitCode;
 use std::rt::Files;
 use std::sync::Wait;
@@ -67,59 +70,29 @@ fn status_of(all: Count) -> u8 {
     }
 }
 
-// Runs the file that a word names.
+// Runs the file that a word names: each case is to hold, or none.
 fn run_word<R: Files + AllocGlobal + Print + Eprint + Threads + Wait + Sync>(
     rt: &R,
     images: &[&str],
     word: &str,
 ) -> io::Result<Count> {
-    match word.strip_prefix('!') {
-        Some(path) => run_path(rt, images, path, false),
-        None => run_path(rt, images, word, true),
-    }
-}
-
-// Runs a file of which each case is to hold, or none.
-fn run_path<R: Files + AllocGlobal + Print + Eprint + Threads + Wait + Sync>(
-    rt: &R,
-    images: &[&str],
-    path: &str,
-    holds: bool,
-) -> io::Result<Count> {
+    let path = word.strip_prefix('!').unwrap_or(word);
     let text = fs::read_to_string(rt, path)?;
     let lines = lines_of(rt.alloc(), text.as_str())?;
-    let tally = run_file(rt, rt.alloc(), images, &lines)?;
-    print_tally(rt, path, holds, &tally)?;
+    let mut stage = Stage::new(rt.alloc(), 0);
+    let tally = run_file(rt, &mut stage, images, &lines, path == word)?;
+    print_tally(rt, path, &tally)?;
     Ok(Count {
         cases: tally.cases,
-        wrong: wrong_in(holds, &tally),
+        wrong: tally.wrong,
     })
 }
 
-// How many cases did not end as they are to. A file without cases counts as one.
-fn wrong_in(holds: bool, tally: &Tally) -> u64 {
-    if tally.cases == 0 {
-        1
-    } else if holds {
-        tally.failed
-    } else {
-        tally.cases.saturating_sub(tally.failed)
-    }
-}
-
 // Tells of each case that did not end as it is to, to standard error too, which the gate shows, and then of the file.
-fn print_tally(
-    rt: &(impl Print + Eprint),
-    path: &str,
-    holds: bool,
-    tally: &Tally,
-) -> io::Result<()> {
-    let text = if holds {
-        &tally.failed_text
-    } else {
-        &tally.held_text
-    };
+fn print_tally(rt: &(impl Print + Eprint), path: &str, tally: &Tally) -> io::Result<()> {
+    let Tally { cases, failed, .. } = tally;
+    let text = tally.text.as_str();
     print!(rt; "{text}")?;
     eprint!(rt; "{text}")?;
-    println!(rt; "{path}: {} cases, {} failed", tally.cases, tally.failed)
+    println!(rt; "{path}: {cases} cases, {failed} failed")
 }

@@ -1,7 +1,8 @@
 //! Lines that mount a disk, ask the mount step by step, and end it.
 
+use crate::failure::Failure;
 use crate::lines::{number_of, range_of};
-use crate::stage::{Failure, Stage, fails_with};
+use crate::stage::Stage;
 use crate::steps::{answer_of, step_of};
 use nofs_history::Step;
 use nofs_memdisk::MemDisk;
@@ -18,11 +19,11 @@ impl Stage {
     pub fn ask_mount(&mut self, words: &[&str]) -> Result<bool, Failure> {
         match words {
             ["format", blocks, inodes] => self.format(number_of(blocks), number_of(inodes)),
-            ["begin", serial] => self.begin(number_of(serial)),
-            ["end"] => Ok(self.end()),
-            ["free" | "inodes" | "entries" | "out", ..] => self.judge_mount(words),
+            ["begin", serial] => self.begin_mount(number_of(serial)),
+            ["end"] => Ok(self.end_mount()),
+            ["free" | "inodes" | "entries" | "out", ..] => self.judge_counts(words),
             [caller, words @ ..] => match (caller.parse::<u32>(), halves(words)) {
-                (Ok(caller), Some((step, answer))) => self.ask_each(caller, step, answer),
+                (Ok(caller), Some((step, answer))) => self.ask(caller, step, answer),
                 _ => Ok(false),
             },
             _ => Ok(false),
@@ -39,7 +40,7 @@ impl Stage {
         Ok(is_formatted)
     }
 
-    fn begin(&mut self, serial: Option<u64>) -> Result<bool, Failure> {
+    fn begin_mount(&mut self, serial: Option<u64>) -> Result<bool, Failure> {
         let serial = match serial {
             Some(serial) if serial <= SERIALS => serial,
             _ => return Ok(false),
@@ -50,22 +51,11 @@ impl Stage {
                 self.mount = Some(mount);
                 Ok(true)
             }
-            Err(_) => fails_with(self.alloc, "not mounted"),
+            Err(_) => Err(Failure::Case("not mounted")),
         }
     }
 
-    fn judge_mount(&mut self, words: &[&str]) -> Result<bool, Failure> {
-        self.count_judged();
-        let Some(mount) = &mut self.mount else {
-            return Ok(false);
-        };
-        if is_told(mount, words) {
-            return Ok(true);
-        }
-        Err(Failure::Case(counts_text(self.alloc, mount)?))
-    }
-
-    fn end(&mut self) -> bool {
+    fn end_mount(&mut self) -> bool {
         match self.mount.take() {
             Some(mount) => {
                 let (disk, _) = mount.end();
@@ -76,50 +66,71 @@ impl Stage {
         }
     }
 
-    // Asks a step, or one for each block of a range.
-    fn ask_each(&mut self, caller: u32, step: &[&str], answer: &[&str]) -> Result<bool, Failure> {
-        match step {
-            ["block", blocks] => self.ask_blocks(caller, range_of(blocks), answer),
-            _ => self.ask_one(caller, step, answer),
-        }
-    }
-
-    fn ask_blocks(
-        &mut self,
-        caller: u32,
-        blocks: Option<(u64, u64)>,
-        answer: &[&str],
-    ) -> Result<bool, Failure> {
-        let Some((first, last)) = blocks else {
-            return Ok(false);
+    fn judge_counts(&mut self, words: &[&str]) -> Result<bool, Failure> {
+        let Some(mount) = &mut self.mount else {
+            return Err(Failure::Case("no mount"));
         };
-        for block in first..last.saturating_add(1) {
-            self.ask_step(caller, Step::SeeBlock { block }, answer)?;
-        }
+        let is_told = is_told(mount, words);
+        self.judge(is_told)?;
         Ok(true)
     }
 
-    fn ask_one(&mut self, caller: u32, step: &[&str], answer: &[&str]) -> Result<bool, Failure> {
-        match step_of(self.alloc, step)? {
-            Some(step) => {
-                self.ask_step(caller, step, answer)?;
-                Ok(true)
-            }
-            None => fails_with(self.alloc, "no step"),
-        }
-    }
-
-    fn ask_step(&mut self, caller: u32, step: Step, answer: &[&str]) -> Result<(), Failure> {
+    // Asks a step, or one for each block of a range.
+    fn ask(&mut self, caller: u32, step: &[&str], answer: &[&str]) -> Result<bool, Failure> {
         let Some(mount) = &mut self.mount else {
-            return fails_with(self.alloc, "no mount");
+            return Err(Failure::Case("no mount"));
         };
-        let came = answer_of(self.alloc, mount, caller, step)?;
-        self.count_judged();
-        if is_answer(self.alloc, answer, came.as_str())? {
-            return Ok(());
-        }
-        Err(Failure::Case(format!(in self.alloc; "answered {}", came.as_str())?))
+        let wrong = match step {
+            ["block", blocks] => ask_blocks(self.alloc, mount, caller, range_of(blocks), answer)?,
+            _ => ask_step(
+                self.alloc,
+                mount,
+                caller,
+                step_of(self.alloc, step)?,
+                answer,
+            )?,
+        };
+        self.tell(wrong.as_str())?;
+        self.judge(wrong.is_empty())?;
+        Ok(true)
     }
+}
+
+// What was answered, where that is not as wanted; else an empty text.
+fn ask_step(
+    alloc: Global,
+    mount: &mut Mount<MemDisk>,
+    caller: u32,
+    step: Option<Step>,
+    answer: &[&str],
+) -> Result<String, Failure> {
+    let Some(step) = step else {
+        return Err(Failure::Case("no step"));
+    };
+    let came = answer_of(alloc, mount, caller, step)?;
+    if is_answer(alloc, answer, came.as_str())? {
+        Ok(String::new(alloc))
+    } else {
+        Ok(format!(in alloc; "answered {} ", came.as_str())?)
+    }
+}
+
+fn ask_blocks(
+    alloc: Global,
+    mount: &mut Mount<MemDisk>,
+    caller: u32,
+    blocks: Option<(u64, u64)>,
+    answer: &[&str],
+) -> Result<String, Failure> {
+    let Some((first, last)) = blocks else {
+        return Err(Failure::Case("no blocks"));
+    };
+    let mut wrong = String::new(alloc);
+    for block in first..last.saturating_add(1) {
+        let step = Some(Step::SeeBlock { block });
+        wrong.push_str(ask_step(alloc, mount, caller, step, answer)?.as_str())?;
+    }
+    Ok(wrong)
 }
 
 // Whether a line tells what holds of a mount.
@@ -148,9 +159,10 @@ fn are_counts(counts: Counts, entries: u64, words: &[&str]) -> bool {
     }
 }
 
-fn counts_text(alloc: Global, mount: &Mount<MemDisk>) -> Result<String, AllocError> {
+/// What a mount counts.
+pub fn counts_text(alloc: Global, mount: &Mount<MemDisk>) -> Result<String, AllocError> {
     let (counts, entries) = (mount.counts(), mount.history().len());
-    format!(in alloc; "not so, with {counts:?} and {entries} entries")
+    format!(in alloc; "with {counts:?} and {entries} entries ")
 }
 
 // Whether an answer is as wanted: any, bytes from a place on, or just these words.
@@ -164,14 +176,16 @@ fn is_answer(alloc: Global, wanted: &[&str], came: &str) -> Result<bool, AllocEr
 
 // Whether the bytes that are told have these from a place on. Zeros at their end are not told.
 fn has_digits(came: &str, at: Option<u64>, digits: &str) -> bool {
-    let (Some(bytes), Some(at)) = (came.strip_prefix("bytes"), at) else {
+    let (Some(bytes), Some(at)) = (came.strip_prefix("bytes "), at) else {
         return false;
     };
-    let bytes = bytes.trim().as_bytes();
     let first = (at as usize).saturating_mul(2);
-    digits.as_bytes().iter().enumerate().all(|(place, digit)| {
-        bytes.get(first.saturating_add(place)).unwrap_or(&b'0') == digit
-    })
+    let mut are = true;
+    for (place, digit) in digits.as_bytes().iter().enumerate() {
+        let came = bytes.as_bytes().get(first.saturating_add(place));
+        are = are && came.unwrap_or(&b'0') == digit;
+    }
+    are
 }
 
 // The words before an arrow, and those behind it.

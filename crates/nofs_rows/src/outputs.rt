@@ -2,228 +2,179 @@
 //!
 //! A line that is wanted begins with its mark: `>` before the line itself, `|` before another line that may stand in
 //! its place, `^` before what it begins with, and `~` before the bytes of a file, where each part of the line has these
-//! and zeros alone.
+//! and zeros alone. Behind a line `or 3`, which gives the lines before it a status, stand those of another right end.
 
-use crate::lines::{counted, push_spread, words_of};
-use std::alloc::{AllocError, Global};
+use crate::failure::Failure;
+use crate::lines::{counted, hex_bytes, marked_bytes, number_of, words_of};
+use std::alloc::Global;
 
-/// A line that is wanted. Its mark is that of the case, or `x` where it is bytes of no line.
-#[derive(Drop)]
-pub struct WantedLine {
-    pub mark: u8,
-    pub text: Vec<u8>,
-}
-
-/// How a run may end.
-#[derive(Drop)]
-pub struct RightEnd {
-    pub wanted: Vec<WantedLine>,
+/// What a run ends with.
+#[derive(Clone, Copy)]
+pub struct RunEnd<'a> {
     pub status: u8,
+    pub printed: &'a [u8],
+    /// How many bytes are taken of what is wanted, where it is not all.
+    pub taken: Option<u64>,
 }
 
-/// The mark of a line that is wanted.
-pub fn mark_of(line: &str) -> Option<u8> {
-    match line.as_bytes().first() {
-        Some(b'>') => Some(b'>'),
-        Some(b'|') => Some(b'|'),
-        Some(b'^') => Some(b'^'),
-        Some(b'~') => Some(b'~'),
+/// How far what was printed is as wanted.
+#[derive(Clone, Copy)]
+struct Walk<'a> {
+    /// What was printed from the last line that was wanted on, and behind it, where it is as wanted up to there.
+    from: Option<&'a [u8]>,
+    rest: Option<&'a [u8]>,
+    /// Whether an end that was written before is right.
+    is_right: bool,
+}
+
+/// Whether a line is one of a run: its words, a line of its session, or how it may end.
+pub fn is_of_run(line: &str) -> bool {
+    marked(line).is_some()
+        || line.starts_with('<')
+        || line.starts_with("words ")
+        || line.starts_with("or ")
+}
+
+// The mark of a line that is wanted, and what follows.
+fn marked(line: &str) -> Option<(u8, &str)> {
+    match line.as_bytes().first()? {
+        mark @ (b'>' | b'|' | b'^' | b'~') => Some((*mark, line.get(1..)?)),
         _ => None,
     }
 }
 
-/// How far the lines are as wanted.
-#[derive(Clone, Copy)]
-struct Walk {
-    /// How many lines were wanted so far.
-    lines: usize,
-    /// Whether the last of them is as wanted, and whether all before it are.
-    here: bool,
-    before: bool,
+/// Whether a run ended as its lines want it, of which the last have this status.
+pub fn is_right(alloc: Global, lines: &[&str], status: &str, end: RunEnd) -> Result<bool, Failure> {
+    let mut walk = start(end, false);
+    for line in lines {
+        walk = walk_on(alloc, walk, line, end)?;
+    }
+    is_end(walk, status, end)
 }
 
-/// Whether what was printed has the lines that are wanted, and no others.
-pub fn has_lines(alloc: Global, wanted: &[WantedLine], printed: &[u8]) -> Result<bool, AllocError> {
-    if wanted.iter().any(|line| line.mark == b'x') {
-        return Ok(text_of(alloc, wanted)?.as_slice() == printed);
+fn start(end: RunEnd, is_right: bool) -> Walk {
+    Walk {
+        from: None,
+        rest: Some(end.printed),
+        is_right,
     }
-    let lines = printed_lines(alloc, printed)?;
-    let mut walk = Walk {
-        lines: 0,
-        here: true,
-        before: true,
+}
+
+// Whether an end before is right, or this one is: nothing else was printed, with this status.
+fn is_end(walk: Walk, status: &str, end: RunEnd) -> Result<bool, Failure> {
+    let Some(status) = number_of(status) else {
+        return Err(Failure::Case("no status"));
     };
-    for line in wanted {
-        walk = walk_on(alloc, walk, line, &lines)?;
-    }
-    Ok(walk.here && walk.before && walk.lines == lines.len())
+    let count = end.printed.len() as u64;
+    let is_whole = walk.rest == Some(&[]) && end.taken.unwrap_or(count) == count;
+    Ok(walk.is_right || (is_whole && status == end.status as u64))
 }
 
-fn walk_on(
+fn walk_on<'a>(
     alloc: Global,
-    walk: Walk,
-    wanted: &WantedLine,
-    lines: &[&[u8]],
-) -> Result<Walk, AllocError> {
-    if wanted.mark == b'|' {
-        let here = fits_at(alloc, wanted, lines, walk.lines.saturating_sub(1))?;
-        return Ok(Walk {
-            here: walk.here || here,
-            ..walk
-        });
+    walk: Walk<'a>,
+    line: &str,
+    end: RunEnd<'a>,
+) -> Result<Walk<'a>, Failure> {
+    let is_cut = end.taken.is_some();
+    match (marked(line), line.strip_prefix("or ")) {
+        (Some((b'|', text)), _) => {
+            let rest = walk.rest.or(behind(alloc, b'|', text, walk.from, is_cut)?);
+            Ok(Walk { rest, ..walk })
+        }
+        (Some((mark, text)), _) => {
+            let rest = behind(alloc, mark, text, walk.rest, is_cut)?;
+            Ok(Walk {
+                from: walk.rest,
+                rest,
+                ..walk
+            })
+        }
+        (None, Some(status)) => Ok(start(end, is_end(walk, status, end)?)),
+        (None, None) => Ok(walk),
     }
-    Ok(Walk {
-        lines: walk.lines.saturating_add(1),
-        here: fits_at(alloc, wanted, lines, walk.lines)?,
-        before: walk.before && walk.here,
-    })
 }
 
-fn fits_at(
+// What was printed behind a line that is wanted, where this line begins it.
+fn behind<'a>(
     alloc: Global,
-    wanted: &WantedLine,
-    lines: &[&[u8]],
-    at: usize,
-) -> Result<bool, AllocError> {
-    match lines.get(at) {
-        Some(line) => fits(alloc, wanted, line),
-        None => Ok(false),
+    mark: u8,
+    text: &str,
+    printed: Option<&'a [u8]>,
+    is_cut: bool,
+) -> Result<Option<&'a [u8]>, Failure> {
+    match mark {
+        b'^' => Ok(behind_beginnings(counted(text)?, printed)),
+        b'~' => {
+            let digits = words_of(alloc, text)?.join(alloc, "")?;
+            behind_own(
+                alloc,
+                &hex_bytes(alloc, digits.as_str())?,
+                first_line(printed),
+            )
+        }
+        _ => Ok(behind_bytes(&marked_bytes(alloc, text)?, printed, is_cut)),
     }
 }
 
-fn fits(alloc: Global, wanted: &WantedLine, line: &[u8]) -> Result<bool, AllocError> {
-    match wanted.mark {
-        b'^' => Ok(line.starts_with(&wanted.text)),
-        b'~' => has_own(alloc, &wanted.text, line),
-        _ => Ok(line == wanted.text.as_slice()),
+// Where not all is taken, what was printed may end in these bytes.
+fn behind_bytes<'a>(bytes: &[u8], printed: Option<&'a [u8]>, is_cut: bool) -> Option<&'a [u8]> {
+    let printed = printed?;
+    if is_cut && bytes.starts_with(printed) {
+        return Some(&[]);
+    }
+    printed.strip_prefix(bytes)
+}
+
+fn behind_beginnings<'a>(counted: (u64, &str), printed: Option<&'a [u8]>) -> Option<&'a [u8]> {
+    let (count, text) = counted;
+    let mut rest = printed;
+    for _ in 0..count {
+        let (line, next) = first_line(rest)?;
+        if !line.starts_with(text.as_bytes()) {
+            return None;
+        }
+        rest = Some(next);
+    }
+    rest
+}
+
+// The first line of what was printed, and what stands behind it.
+fn first_line(printed: Option<&[u8]>) -> Option<(&[u8], &[u8])> {
+    let printed = printed?;
+    let end = printed.iter().position(|byte| *byte == b'\n')?;
+    Some((printed.get(..end)?, printed.get(end.saturating_add(1)..)?))
+}
+
+fn behind_own<'a>(
+    alloc: Global,
+    own: &[u8],
+    printed: Option<(&[u8], &'a [u8])>,
+) -> Result<Option<&'a [u8]>, Failure> {
+    match printed {
+        Some((line, rest)) if has_own(alloc, own, line)? => Ok(Some(rest)),
+        _ => Ok(None),
     }
 }
 
 // Whether each part of a line that tells bytes has these and zeros alone.
-fn has_own(alloc: Global, own: &[u8], line: &[u8]) -> Result<bool, AllocError> {
+fn has_own(alloc: Global, own: &[u8], line: &[u8]) -> Result<bool, Failure> {
+    let Ok(line) = std::str::from_utf8(line) else {
+        return Ok(false);
+    };
     let mut all = true;
-    for part in line.split(|byte| *byte == b' ') {
-        if let Some(digits) = part.strip_prefix(b"bytes:".as_slice()) {
-            all = is_own(alloc, own, digits)? && all;
+    for part in line.split(' ') {
+        if let Some(digits) = part.strip_prefix("bytes:") {
+            all = are_own(own, &hex_bytes(alloc, digits)?) && all;
         }
     }
     Ok(all)
 }
 
-fn is_own(alloc: Global, own: &[u8], digits: &[u8]) -> Result<bool, AllocError> {
-    match hex::decode(alloc, digits) {
-        Ok(bytes) => Ok(bytes.iter().all(|byte| *byte == 0 || has_byte(own, *byte))),
-        Err(_) => Ok(false),
+fn are_own(own: &[u8], bytes: &[u8]) -> bool {
+    let mut are = true;
+    for byte in bytes {
+        are = are && (*byte == 0 || own.contains(byte));
     }
-}
-
-fn has_byte(bytes: &[u8], byte: u8) -> bool {
-    bytes.iter().any(|one| *one == byte)
-}
-
-// The lines of a text. One that does not end in a line feed has a last line that nothing fits.
-fn printed_lines<'a>(alloc: Global, text: &'a [u8]) -> Result<Vec<&'a [u8]>, AllocError> {
-    let mut lines = Vec::new(alloc);
-    for line in text.split(|byte| *byte == b'\n') {
-        lines.push(line)?;
-    }
-    if text.is_empty() || text.ends_with(b"\n".as_slice()) {
-        lines.pop();
-    } else {
-        lines.push(b"\n".as_slice())?;
-    }
-    Ok(lines)
-}
-
-/// The text of lines that are wanted, of several for one line the first.
-pub fn text_of(alloc: Global, wanted: &[WantedLine]) -> Result<Vec<u8>, AllocError> {
-    let mut text = Vec::new(alloc);
-    for line in wanted {
-        if line.mark != b'|' {
-            text.extend_from_slice(&line.text)?;
-        }
-        if line.mark != b'|' && line.mark != b'x' {
-            text.push(b'\n')?;
-        }
-    }
-    Ok(text)
-}
-
-/// Adds the lines of a text, each on a line of its own behind `>`, or the digits of its bytes where it is none.
-pub fn push_text(alloc: Global, text: &mut String, lines: &[u8]) -> Result<(), AllocError> {
-    for line in printed_lines(alloc, lines)? {
-        text.push_str("\n  > ")?;
-        push_line(alloc, text, line)?;
-    }
-    Ok(())
-}
-
-fn push_line(alloc: Global, text: &mut String, line: &[u8]) -> Result<(), AllocError> {
-    match std::str::from_utf8(line) {
-        Ok(line) => text.push_str(line),
-        Err(_) => text.push_str(hex::encode(alloc, line)?.as_str()),
-    }
-}
-
-/// Adds a line that is wanted: its mark, and what follows.
-pub fn push_wanted(
-    alloc: Global,
-    wanted: &mut Vec<WantedLine>,
-    mark: u8,
-    rest: &str,
-) -> Result<Option<()>, AllocError> {
-    match mark {
-        b'x' => push_hex(alloc, wanted, mark, rest),
-        b'~' => push_own(alloc, wanted, rest),
-        _ => push_counted(alloc, wanted, mark, rest),
-    }
-}
-
-fn push_counted(
-    alloc: Global,
-    wanted: &mut Vec<WantedLine>,
-    mark: u8,
-    rest: &str,
-) -> Result<Option<()>, AllocError> {
-    let Some((count, text)) = counted(rest) else {
-        return Ok(None);
-    };
-    for _ in 0..count {
-        let mut spread = Vec::new(alloc);
-        push_spread(&mut spread, text)?;
-        wanted.push(WantedLine { mark, text: spread })?;
-    }
-    Ok(Some(()))
-}
-
-fn push_hex(
-    alloc: Global,
-    wanted: &mut Vec<WantedLine>,
-    mark: u8,
-    digits: &str,
-) -> Result<Option<()>, AllocError> {
-    match hex::decode(alloc, digits.trim()) {
-        Ok(text) => {
-            wanted.push(WantedLine { mark, text })?;
-            Ok(Some(()))
-        }
-        Err(_) => Ok(None),
-    }
-}
-
-// The bytes of a file stand in words of two digits.
-fn push_own(
-    alloc: Global,
-    wanted: &mut Vec<WantedLine>,
-    rest: &str,
-) -> Result<Option<()>, AllocError> {
-    let mut text = Vec::new(alloc);
-    for word in words_of(alloc, rest)? {
-        match hex::decode(alloc, word) {
-            Ok(bytes) => text.extend_from_slice(&bytes)?,
-            Err(_) => return Ok(None),
-        }
-    }
-    wanted.push(WantedLine { mark: b'~', text })?;
-    Ok(Some(()))
+    are
 }

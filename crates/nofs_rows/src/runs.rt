@@ -1,10 +1,12 @@
 //! Runs of the program's call over a disk in memory, with a source and a sink that may fail, and how they end.
 
-use crate::outputs::{RightEnd, has_lines, push_text, text_of};
-use crate::stage::{Failure, Stage, fails_with};
+use crate::failure::Failure;
+use crate::lines::{marked_bytes, number_of, words_at};
+use crate::outputs::{RunEnd, is_right};
+use crate::stage::Stage;
 use nofs_disk::Disk;
 use nofs_io::{MemSink, MemSource};
-use nofs_memdisk::{MemDisk, Unready};
+use nofs_memdisk::Unready;
 use nofs_test_disks::cached;
 use nofs_tool::{Outcome, tool};
 use std::alloc::{AllocError, Global};
@@ -12,10 +14,8 @@ use std::sync::Wait;
 use std::thread::Threads;
 
 /// How a run is made.
-#[derive(Drop)]
+#[derive(Clone, Copy)]
 pub struct RunOptions {
-    pub words: Vec<String>,
-    pub session: Vec<u8>,
     /// How many bytes the source gives a call at most, and which call fails, 0 for none.
     pub source: (u64, u64),
     /// For how many bytes the sink has room, and which call fails, 0 for none.
@@ -24,134 +24,165 @@ pub struct RunOptions {
     pub rooms: u64,
     /// Whether a cache stands before the disk.
     pub is_cached: bool,
+    /// How many bytes are taken of what is wanted, where it is not all.
+    pub taken: Option<u64>,
 }
 
-impl RunOptions {
-    /// No words and no session, and nothing that fails.
-    pub fn new(alloc: Global) -> RunOptions {
-        RunOptions {
-            words: Vec::new(alloc),
-            session: Vec::new(alloc),
-            source: (65_536, 0),
-            sink: (2_000_000, 0),
-            rooms: u64::MAX,
-            is_cached: false,
+/// Nothing fails.
+pub const USUAL: RunOptions = RunOptions {
+    source: (65_536, 0),
+    sink: (2_000_000, 0),
+    rooms: u64::MAX,
+    is_cached: false,
+    taken: None,
+};
+
+/// These options with what a line says, if it says one.
+pub fn option_of(options: RunOptions, words: &[&str]) -> Option<RunOptions> {
+    match words {
+        ["source", piece, call] => {
+            let source = (number_of(piece)?, number_of(call)?);
+            Some(RunOptions { source, ..options })
         }
+        ["sink", room, call] => {
+            let sink = (number_of(room)?, number_of(call)?);
+            Some(RunOptions { sink, ..options })
+        }
+        ["rooms", count] => {
+            let rooms = number_of(count)?;
+            Some(RunOptions { rooms, ..options })
+        }
+        ["taken", count] => {
+            let taken = Some(number_of(count)?);
+            Some(RunOptions { taken, ..options })
+        }
+        ["cache"] => Some(RunOptions {
+            is_cached: true,
+            ..options
+        }),
+        _ => None,
     }
 }
 
-/// What a run ends with.
-#[derive(Drop)]
-pub struct RunEnd {
-    pub status: u8,
-    pub printed: Vec<u8>,
+/// These options with the call of this number failing, of the source or of the sink, or with room for so many calls.
+pub fn failing(options: RunOptions, kind: &str, number: u64) -> Option<RunOptions> {
+    match kind {
+        "source" => Some(RunOptions {
+            source: (options.source.0, number),
+            ..options
+        }),
+        "sink" => Some(RunOptions {
+            sink: (options.sink.0, number),
+            ..options
+        }),
+        "rooms" => Some(RunOptions {
+            rooms: number,
+            ..options
+        }),
+        _ => None,
+    }
 }
 
 impl Stage {
-    /// Makes the run, and judges its end.
+    /// Makes the run of these lines, and judges its end.
     pub fn end_run<R: Threads + Wait + Sync>(
         &mut self,
         rt: &R,
-        status: Option<u64>,
+        lines: &[&str],
+        status: &str,
     ) -> Result<(), Failure> {
-        if !self.close_end(status)? {
-            return fails_with(self.alloc, "no status");
-        }
-        let disk = self.take_disk()?;
-        let (end, disk) = run(rt, self.alloc, &self.options, disk)?;
-        self.judge_end(&end)?;
-        self.count_judged();
-        self.disk = Some(disk);
-        self.options = RunOptions::new(self.alloc);
-        self.ends = Vec::new(self.alloc);
-        self.taken = None;
-        Ok(())
+        let RunOptions {
+            source,
+            sink,
+            taken,
+            ..
+        } = self.options;
+        let words = command_of(self.alloc, lines)?;
+        let mut source = source_of(self.alloc, lines, source)?;
+        let mut sink = MemSink::new(self.alloc, sink.0, &[sink.1])?;
+        let came = self.run(rt, &words, &mut source, &mut sink)?;
+        let end = RunEnd {
+            status: came,
+            printed: sink.bytes(),
+            taken,
+        };
+        self.judge_end(lines, status, end)
     }
 
-    // Fails where the end is none of those that are right.
-    fn judge_end(&self, end: &RunEnd) -> Result<(), Failure> {
-        for right in &self.ends {
-            if self.is_right(right, end)? {
-                return Ok(());
-            }
-        }
-        Err(Failure::Case(difference(self.alloc, &self.ends, end)?))
+    // Makes a run over the disk as it is, and gives its status.
+    fn run<R: Threads + Wait + Sync>(
+        &mut self,
+        rt: &R,
+        words: &[String],
+        source: &mut MemSource,
+        sink: &mut MemSink,
+    ) -> Result<u8, AllocError> {
+        let RunOptions {
+            rooms,
+            is_cached,
+            ..
+        } = self.options;
+        let under = self.take_disk()?;
+        let disk = Unready { under, rooms };
+        let (status, disk) = if is_cached {
+            let disk = cached(self.alloc, disk)?;
+            let (status, disk) = run_over(rt, self.alloc, words, source, sink, disk);
+            (status, disk.below())
+        } else {
+            run_over(rt, self.alloc, words, source, sink, disk)
+        };
+        self.disk = Some(disk.under);
+        self.options = USUAL;
+        Ok(status)
     }
 
-    fn is_right(&self, right: &RightEnd, end: &RunEnd) -> Result<bool, AllocError> {
-        if right.status != end.status {
-            return Ok(false);
+    fn judge_end(&mut self, lines: &[&str], status: &str, end: RunEnd) -> Result<(), Failure> {
+        let is_right = is_right(self.alloc, lines, status, end)?;
+        if !is_right {
+            self.tell(end_text(self.alloc, lines, end)?.as_str())?;
         }
-        match self.taken {
-            None => has_lines(self.alloc, &right.wanted, &end.printed),
-            Some(count) => {
-                let text = text_of(self.alloc, &right.wanted)?;
-                Ok(end.printed.len() as u64 == count && text.starts_with(&end.printed))
-            }
-        }
-    }
-}
-
-// A run, and the disk then.
-fn run<R: Threads + Wait + Sync>(
-    rt: &R,
-    alloc: Global,
-    options: &RunOptions,
-    disk: MemDisk,
-) -> Result<(RunEnd, MemDisk), AllocError> {
-    let disk = Unready {
-        under: disk,
-        rooms: options.rooms,
-    };
-    if options.is_cached {
-        let (end, disk) = run_over(rt, alloc, options, cached(alloc, disk)?)?;
-        Ok((end, disk.below().under))
-    } else {
-        let (end, disk) = run_over(rt, alloc, options, disk)?;
-        Ok((end, disk.under))
+        self.judge(is_right)
     }
 }
 
 fn run_over<R: Threads + Wait + Sync, D: Disk + Drop + Send>(
     rt: &R,
     alloc: Global,
-    options: &RunOptions,
+    words: &[String],
+    source: &mut MemSource,
+    sink: &mut MemSink,
     disk: D,
-) -> Result<(RunEnd, D), AllocError> {
-    let piece = options.source.0.max(1);
-    let mut source = MemSource::new(alloc, &options.session, piece, &[options.source.1])?;
-    let mut sink = MemSink::new(alloc, options.sink.0, &[options.sink.1])?;
-    let Outcome {
-        status,
-        disk,
-        history: _,
-    } = tool(rt, alloc, &options.words, &mut source, &mut sink, disk);
-    let printed = sink.bytes().to_vec(alloc)?;
-    Ok((RunEnd { status, printed }, disk))
+) -> (u8, D) {
+    let Outcome { status, disk, .. } = tool(rt, alloc, words, source, sink, disk);
+    (status, disk)
 }
 
-// What was wanted of a run, in the last of its ends that are right, and what came.
-fn difference(alloc: Global, ends: &[RightEnd], end: &RunEnd) -> Result<String, AllocError> {
-    let mut text = String::new(alloc);
-    match ends.last() {
-        Some(right) => {
-            let lines = text_of(alloc, &right.wanted)?;
-            push_end(alloc, &mut text, "wanted", right.status, &lines)?;
-        }
-        None => {}
+// The words of a command, behind that which begins their line.
+fn command_of(alloc: Global, lines: &[&str]) -> Result<Vec<String>, AllocError> {
+    let mut command = Vec::new(alloc);
+    for word in words_at(alloc, lines, "words ")?.iter().skip(1) {
+        command.push(String::from_str(alloc, word)?)?;
     }
-    push_end(alloc, &mut text, "\ncame", end.status, &end.printed)?;
-    Ok(text)
+    Ok(command)
 }
 
-fn push_end(
-    alloc: Global,
-    text: &mut String,
-    what: &str,
-    status: u8,
-    lines: &[u8],
-) -> Result<(), AllocError> {
-    text.push_str(what)?;
-    text.push_str(format!(in alloc; " status {status}")?.as_str())?;
-    push_text(alloc, text, lines)
+// A source of a session, with how many bytes it gives a call at most, and the call that fails.
+fn source_of(alloc: Global, lines: &[&str], calls: (u64, u64)) -> Result<MemSource, Failure> {
+    let mut session = Vec::new(alloc);
+    for line in lines {
+        if let Some(rest) = line.strip_prefix('<') {
+            session.extend_from_slice(&marked_bytes(alloc, rest)?)?;
+        }
+    }
+    Ok(MemSource::new(alloc, &session, calls.0.max(1), &[calls.1])?)
+}
+
+// The lines of a run, and what came.
+fn end_text(alloc: Global, lines: &[&str], end: RunEnd) -> Result<String, AllocError> {
+    let (lines, status) = (lines.join(alloc, "\n")?, end.status);
+    let printed = match std::str::from_utf8(end.printed) {
+        Ok(text) => String::from_str(alloc, text)?,
+        Err(_) => hex::encode(alloc, end.printed)?,
+    };
+    format!(in alloc; "{lines}\ncame status {status}\n{printed}\n")
 }

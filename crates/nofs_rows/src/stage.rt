@@ -1,43 +1,20 @@
 //! What stands while the lines of a case are obeyed, one after another.
 //!
-//! Promise: a line that says nothing that is known fails its case, and so do lines that judge nothing.
+//! Promise: a line that says nothing that is known fails its case, and so do lines that judge nothing, and lines of a
+//! run that is not made.
 
-use crate::laying::lay;
-use crate::lines::{counted, number_of, push_spread, words_of};
-use crate::outputs::{RightEnd, WantedLine, mark_of, push_wanted};
-use crate::runs::RunOptions;
+use crate::failure::Failure;
+use crate::laying::{lay, lay_images};
+use crate::lines::words_of;
+use crate::outputs::is_of_run;
+use crate::runs::{RunOptions, USUAL};
 use nofs_disk::Cell;
 use nofs_memdisk::MemDisk;
 use nofs_shared::Mount;
 use nofs_versions::FaultAt;
-use std::alloc::{AllocError, AllocFailed, Global};
+use std::alloc::{AllocError, Global};
 use std::sync::Wait;
 use std::thread::Threads;
-
-/// Why a case fails.
-#[derive(Drop)]
-pub enum Failure {
-    OutOfMemory,
-    /// What is not as it is to be.
-    Case(String),
-}
-
-impl From<AllocError> for Failure {
-    fn from(_: AllocError) -> Self {
-        Failure::OutOfMemory
-    }
-}
-
-impl<T: Drop> From<AllocFailed<T>> for Failure {
-    fn from(_: AllocFailed<T>) -> Self {
-        Failure::OutOfMemory
-    }
-}
-
-/// A case fails for this reason.
-pub fn fails_with<T: Drop>(alloc: Global, why: &str) -> Result<T, Failure> {
-    Err(Failure::Case(String::from_str(alloc, why)?))
-}
 
 /// What stands so far.
 #[derive(Drop)]
@@ -51,16 +28,13 @@ pub struct Stage {
     /// The calls that fail of a disk that is not made.
     pub faults: Vec<FaultAt>,
     pub options: RunOptions,
-    /// The lines of the end that is written now.
-    pub wanted: Vec<WantedLine>,
-    /// The ends that are right.
-    pub ends: Vec<RightEnd>,
-    /// How many bytes are taken of what is wanted, where it is not all.
-    pub taken: Option<u64>,
     /// Which turn of the case this is.
     pub turn: u64,
-    /// How many lines judged something.
-    pub judged: u64,
+    /// Whether a line judged something, and whether a run is written that was not made.
+    has_judged: bool,
+    has_run: bool,
+    /// Where this is, and what came where it is not as wanted.
+    pub told: String,
 }
 
 impl Stage {
@@ -72,20 +46,19 @@ impl Stage {
             disk: None,
             mount: None,
             faults: Vec::new(alloc),
-            options: RunOptions::new(alloc),
-            wanted: Vec::new(alloc),
-            ends: Vec::new(alloc),
-            taken: None,
+            options: USUAL,
             turn,
-            judged: 0,
+            has_judged: false,
+            has_run: false,
+            told: String::new(alloc),
         }
     }
 
-    /// The same with another disk.
-    pub fn over(alloc: Global, disk: MemDisk) -> Stage {
-        let mut stage = Stage::new(alloc, 0);
-        stage.disk = Some(disk);
-        stage
+    /// Begins anew, in this turn of a case, over a disk, if there is one. `place` tells where that is.
+    pub fn begin(&mut self, turn: u64, disk: Option<MemDisk>, place: String) {
+        *self = Stage::new(self.alloc, turn);
+        self.disk = disk;
+        self.told = place;
     }
 
     /// Obeys lines, of which one judges at least. `images` has the lines of the images that have a name.
@@ -95,137 +68,78 @@ impl Stage {
         images: &[&str],
         lines: &[&str],
     ) -> Result<(), Failure> {
-        for line in lines {
-            let end = self.obey(rt, images, line);
-            at_line(self.alloc, line, end)?;
+        let mut first = 0;
+        for (at, line) in lines.iter().enumerate() {
+            let before = lines.get(first..at).unwrap_or(&[]);
+            let end = self.obey(rt, images, before, line);
+            self.tell_line(line, end)?;
+            if line.starts_with("status ") {
+                first = at;
+            }
         }
-        if self.judged == 0 {
-            return fails_with(self.alloc, "no line judges");
+        match (self.has_run, self.has_judged) {
+            (true, _) => Err(Failure::Case("a run is not made")),
+            (false, false) => Err(Failure::Case("no line judges")),
+            (false, true) => Ok(()),
         }
-        Ok(())
     }
 
-    /// Counts a line that judged something.
-    pub fn count_judged(&mut self) {
-        self.judged = self.judged.saturating_add(1);
+    // Tells the line that failed.
+    fn tell_line(&mut self, line: &str, end: Result<(), Failure>) -> Result<(), Failure> {
+        if end.is_err() {
+            self.tell("at `")?;
+            self.tell(line)?;
+            self.tell("`: ")?;
+        }
+        end
     }
 
+    /// Adds to what is told of a case that fails.
+    pub fn tell(&mut self, text: &str) -> Result<(), AllocError> {
+        self.told.push_str(text)
+    }
+
+    /// Notes that a line judged something; it fails where that does not hold.
+    pub fn judge(&mut self, holds: bool) -> Result<(), Failure> {
+        self.has_judged = true;
+        if holds {
+            return Ok(());
+        }
+        self.tell_counts()?;
+        Err(Failure::Case("not as it is to be"))
+    }
+
+    // Obeys a line. `before` has those behind the last run.
     fn obey<R: Threads + Wait + Sync>(
         &mut self,
         rt: &R,
         images: &[&str],
+        before: &[&str],
         line: &str,
     ) -> Result<(), Failure> {
-        if let Some(rest) = line.strip_prefix('<') {
-            return self.add_session(rest);
+        if is_of_run(line) {
+            self.has_run = true;
+            return Ok(());
         }
-        match mark_of(line) {
-            Some(mark) => self.add_wanted(mark, line.get(1..).unwrap_or("")),
-            None => self.obey_words(rt, images, &words_of(self.alloc, line)?),
-        }
-    }
-
-    fn obey_words<R: Threads + Wait + Sync>(
-        &mut self,
-        rt: &R,
-        images: &[&str],
-        words: &[&str],
-    ) -> Result<(), Failure> {
-        match words {
+        match words_of(self.alloc, line)?.as_slice() {
             [] => Ok(()),
-            ["status", status] => self.end_run(rt, number_of(status)),
-            ["words", words @ ..] => self.set_words(words),
-            ["like", names @ ..] => self.lay_images(images, names),
-            ["same", names @ ..] => self.is_same(images, names),
-            _ => self.obey_others(words),
-        }
-    }
-
-    fn obey_others(&mut self, words: &[&str]) -> Result<(), Failure> {
-        if self.set(words)? || self.ask_mount(words)? || self.judge(words)? {
-            return Ok(());
-        }
-        match lay(self.alloc, &mut self.cells, words)? {
-            Some(()) => Ok(()),
-            None => fails_with(self.alloc, "what does this line say?"),
-        }
-    }
-
-    // Adds a line to the session, or bytes where it says so.
-    fn add_session(&mut self, rest: &str) -> Result<(), Failure> {
-        if let Some(digits) = rest.strip_prefix('x') {
-            return match hex::decode(self.alloc, digits.trim()) {
-                Ok(bytes) => Ok(self.options.session.extend_from_slice(&bytes)?),
-                Err(_) => fails_with(self.alloc, "no digits"),
-            };
-        }
-        let Some((count, text)) = counted(rest) else {
-            return fails_with(self.alloc, "no count");
-        };
-        for _ in 0..count {
-            push_spread(&mut self.options.session, text)?;
-            self.options.session.push(b'\n')?;
-        }
-        Ok(())
-    }
-
-    fn add_wanted(&mut self, mark: u8, rest: &str) -> Result<(), Failure> {
-        let (mark, rest) = match rest.strip_prefix('x') {
-            Some(digits) if mark == b'>' => (b'x', digits),
-            _ => (mark, rest),
-        };
-        match push_wanted(self.alloc, &mut self.wanted, mark, rest)? {
-            Some(()) => Ok(()),
-            None => fails_with(self.alloc, "no line that can be wanted"),
-        }
-    }
-
-    // Lays down the images of these names, one over the other.
-    pub fn lay_images(&mut self, images: &[&str], names: &[&str]) -> Result<(), Failure> {
-        for name in names {
-            self.lay_image(images, name)?;
-        }
-        Ok(())
-    }
-
-    // Lays down the lines of the image of this name.
-    fn lay_image(&mut self, images: &[&str], name: &str) -> Result<(), Failure> {
-        let mut is_in = false;
-        let mut any = false;
-        for line in images {
-            let words = words_of(self.alloc, line)?;
-            if words.first() == Some(&"image") {
-                is_in = words.get(1) == Some(&name);
-                any = any || is_in;
-            } else if is_in {
-                self.lay_line(&words)?;
+            ["status", status] => {
+                self.has_run = false;
+                self.end_run(rt, before, status)
             }
-        }
-        if any {
-            Ok(())
-        } else {
-            fails_with(self.alloc, "no image of this name")
+            ["same", names @ ..] => self.judge_cells(images, names),
+            words => self.obey_words(images, words),
         }
     }
 
-    fn lay_line(&mut self, words: &[&str]) -> Result<(), Failure> {
-        if words.is_empty() || self.set(words)? {
+    fn obey_words(&mut self, images: &[&str], words: &[&str]) -> Result<(), Failure> {
+        if self.set(words)? || self.ask_mount(words)? || self.judge_disk(words)? {
             return Ok(());
         }
-        match lay(self.alloc, &mut self.cells, words)? {
-            Some(()) => Ok(()),
-            None => fails_with(self.alloc, "no line of an image"),
+        self.disk = None;
+        match words {
+            ["like", names @ ..] => lay_images(self.alloc, &mut self.cells, images, names),
+            _ => lay(self.alloc, &mut self.cells, words),
         }
-    }
-}
-
-// The end of a line, which is named where it fails.
-fn at_line(alloc: Global, line: &str, end: Result<(), Failure>) -> Result<(), Failure> {
-    match end {
-        Err(Failure::Case(why)) => Err(Failure::Case(format!(in alloc;
-            "at `{line}`: {}",
-            why.as_str()
-        )?)),
-        end => end,
     }
 }

@@ -3,8 +3,9 @@
 //! A line `each KIND FIRST..LAST` runs the whole case once for each number. Behind a line `images` stand the lines that
 //! are obeyed over each image.
 
-use crate::lines::{number_of, range_of, words_of};
-use crate::stage::{Failure, Stage, fails_with};
+use crate::failure::Failure;
+use crate::lines::{number_of, place_of, range_of, words_at, words_of};
+use crate::stage::Stage;
 use nofs_disk::Disk;
 use nofs_memdisk::MemDisk;
 use nofs_test_disks::{choices_of, drawn_picks, left};
@@ -16,65 +17,37 @@ use std::thread::Threads;
 /// Runs a case in each of its turns.
 pub fn run_case<R: Threads + Wait + Sync>(
     rt: &R,
-    alloc: Global,
+    stage: &mut Stage,
     images: &[&str],
     body: &[&str],
 ) -> Result<(), Failure> {
-    let Some((first, last)) = turns_of(alloc, body)? else {
-        return fails_with(alloc, "no turns");
-    };
+    stage.told.clear();
+    let (first, last) = turns_of(stage.alloc, body)?;
     let mut seen = 0_u64;
     for turn in first..last.saturating_add(1) {
-        let end = run_turn(rt, alloc, images, body, turn);
-        seen = seen.saturating_add(at_turn(alloc, turn, first < last, end)?);
+        let place = format!(in stage.alloc; "turn {turn} ")?;
+        stage.begin(turn, None, place);
+        seen = seen.saturating_add(run_turn(rt, stage, images, body)?);
     }
-    if seen >= least_images(alloc, body)? {
+    if seen >= least_images(stage.alloc, body)? {
         Ok(())
     } else {
-        fails_with(alloc, "too few images")
+        Err(Failure::Case("too few images"))
     }
-}
-
-// The end of a turn, with its number where there are several.
-fn at_turn(
-    alloc: Global,
-    turn: u64,
-    is_one_of_several: bool,
-    end: Result<u64, Failure>,
-) -> Result<u64, Failure> {
-    match end {
-        Err(Failure::Case(why)) if is_one_of_several => Err(Failure::Case(format!(in alloc;
-            "turn {turn}, {}",
-            why.as_str()
-        )?)),
-        end => end,
-    }
-}
-
-// The first line that begins with this word; an empty one where there is none.
-fn line_of<'a>(body: &[&'a str], word: &str) -> &'a str {
-    for line in body {
-        if line.starts_with(word) {
-            return line;
-        }
-    }
-    ""
 }
 
 // The turns of a case: those of its line `each`, or one.
-fn turns_of(alloc: Global, body: &[&str]) -> Result<Option<(u64, u64)>, AllocError> {
-    let words = words_of(alloc, line_of(body, "each "))?;
-    match words.as_slice() {
-        [] => Ok(Some((1, 1))),
-        [_, _, range, ..] => Ok(range_of(range)),
-        _ => Ok(None),
+fn turns_of(alloc: Global, body: &[&str]) -> Result<(u64, u64), Failure> {
+    match words_at(alloc, body, "each ")?.as_slice() {
+        [] => Ok((1, 1)),
+        [_, _, range, ..] => range_of(range).ok_or(Failure::Case("no turns")),
+        _ => Err(Failure::Case("no turns")),
     }
 }
 
 // How many images a case is to meet at least in all its turns: the number behind `images each`.
 fn least_images(alloc: Global, body: &[&str]) -> Result<u64, AllocError> {
-    let words = words_of(alloc, line_of(body, "images each "))?;
-    match words.as_slice() {
+    match words_at(alloc, body, "images each ")?.as_slice() {
         [_, _, least] => Ok(number_of(least).unwrap_or(u64::MAX)),
         _ => Ok(0),
     }
@@ -83,52 +56,67 @@ fn least_images(alloc: Global, body: &[&str]) -> Result<u64, AllocError> {
 // Runs the lines up to the images of a crash, if there are some, and those behind them over each: how many images.
 fn run_turn<R: Threads + Wait + Sync>(
     rt: &R,
-    alloc: Global,
+    stage: &mut Stage,
     images: &[&str],
     body: &[&str],
-    turn: u64,
 ) -> Result<u64, Failure> {
-    let mut stage = Stage::new(alloc, turn);
-    let at = place_of_images(body);
-    stage.obey_all(rt, images, lines_before(body, at))?;
-    let behind = lines_from(body, at);
-    let Some(line) = behind.first() else {
+    let (lines, behind) = body.split_at(place_of(body, "images "));
+    stage.obey_all(rt, images, lines)?;
+    let Some((line, lines)) = behind.split_first() else {
         return Ok(0);
     };
-    let Some(disk) = stage.disk.take() else {
-        return fails_with(alloc, "no disk");
-    };
-    let lines = lines_from(behind, 1);
-    match picks_of(alloc, line, &disk)? {
-        Some(picks) => over_picks(rt, alloc, images, lines, &disk, &picks),
-        None => fails_with(alloc, "which images?"),
+    match stage.disk.take() {
+        Some(disk) => over_images(rt, stage, images, lines, &disk, line),
+        None => Err(Failure::Case("no disk")),
     }
 }
 
-// The place of the line `images`; the number of lines where there is none.
-fn place_of_images(body: &[&str]) -> usize {
-    let is_images = |line: &&str| line.starts_with("images ");
-    body.iter().position(is_images).unwrap_or(body.len())
+// Obeys lines over the disk as a crash leaves it at its last cells, and over each that a line tells of: how many the
+// latter are.
+fn over_images<R: Threads + Wait + Sync>(
+    rt: &R,
+    stage: &mut Stage,
+    images: &[&str],
+    lines: &[&str],
+    disk: &MemDisk,
+    line: &str,
+) -> Result<u64, Failure> {
+    let Some(all) = picks_of(stage.alloc, disk, &words_of(stage.alloc, line)?)? else {
+        return Err(Failure::Case("which images?"));
+    };
+    over_image(rt, stage, disk, &[], images, lines)?;
+    for picks in &all {
+        over_image(rt, stage, disk, picks, images, lines)?;
+    }
+    Ok(all.len() as u64)
 }
 
-fn lines_before<'a, 'b>(body: &'a [&'b str], at: usize) -> &'a [&'b str] {
-    body.get(..at).unwrap_or(body)
-}
-
-fn lines_from<'a, 'b>(body: &'a [&'b str], at: usize) -> &'a [&'b str] {
-    body.get(at..).unwrap_or(body)
+fn over_image<R: Threads + Wait + Sync>(
+    rt: &R,
+    stage: &mut Stage,
+    disk: &MemDisk,
+    picks: &[Pick],
+    images: &[&str],
+    lines: &[&str],
+) -> Result<(), Failure> {
+    let Some(image) = left(stage.alloc, disk, picks)? else {
+        return Err(Failure::Case("no such image"));
+    };
+    let place = format!(in stage.alloc; "image {picks:?} ")?;
+    stage.begin(stage.turn, Some(image), place);
+    stage.obey_all(rt, images, lines)
 }
 
 // What crashes pick, by a line.
 fn picks_of(
     alloc: Global,
-    line: &str,
     disk: &MemDisk,
+    words: &[&str],
 ) -> Result<Option<Vec<Vec<Pick>>>, AllocError> {
-    match words_of(alloc, line)?.as_slice() {
-        ["images", "each", ..] => Ok(Some(single_picks(alloc, disk)?)),
+    match words {
+        ["images", "each", ..] => Ok(Some(each_picks(alloc, disk)?)),
         ["images", "drawn", count, seed] => match (number_of(count), number_of(seed)) {
-            (Some(count), Some(seed)) => Ok(Some(picks_drawn(alloc, disk, count, seed)?)),
+            (Some(count), Some(seed)) => Ok(Some(many_picks(alloc, disk, count, seed)?)),
             _ => Ok(None),
         },
         _ => Ok(None),
@@ -136,7 +124,7 @@ fn picks_of(
 }
 
 // Each version of each block that may hold several, one at a time.
-fn single_picks(alloc: Global, disk: &MemDisk) -> Result<Vec<Vec<Pick>>, AllocError> {
+fn each_picks(alloc: Global, disk: &MemDisk) -> Result<Vec<Vec<Pick>>, AllocError> {
     let mut all = Vec::new(alloc);
     for block in 0..disk.blocks() {
         push_versions(alloc, &mut all, block, choices_of(disk, block))?;
@@ -154,15 +142,13 @@ fn push_versions(
         return Ok(());
     }
     for version in 0..choices {
-        let mut picks = Vec::new(alloc);
-        picks.push(Pick { block, version })?;
-        all.push(picks)?;
+        all.push(vec![in alloc; Pick { block, version }]?)?;
     }
     Ok(())
 }
 
 // So many times one of the versions of each block.
-fn picks_drawn(
+fn many_picks(
     alloc: Global,
     disk: &MemDisk,
     count: u64,
@@ -173,43 +159,4 @@ fn picks_drawn(
         all.push(drawn_picks(alloc, disk, &mut state)?)?;
     }
     Ok(all)
-}
-
-// Obeys lines over the disk as a crash leaves it at its last cells, and over what it leaves with each of these picks:
-// how many the latter are.
-fn over_picks<R: Threads + Wait + Sync>(
-    rt: &R,
-    alloc: Global,
-    images: &[&str],
-    lines: &[&str],
-    disk: &MemDisk,
-    all: &[Vec<Pick>],
-) -> Result<u64, Failure> {
-    over_image(rt, alloc, images, lines, disk, &[])?;
-    for picks in all {
-        over_image(rt, alloc, images, lines, disk, picks)?;
-    }
-    Ok(all.len() as u64)
-}
-
-// Obeys lines over what a crash leaves with these picks.
-fn over_image<R: Threads + Wait + Sync>(
-    rt: &R,
-    alloc: Global,
-    images: &[&str],
-    lines: &[&str],
-    disk: &MemDisk,
-    picks: &[Pick],
-) -> Result<(), Failure> {
-    let Some(image) = left(alloc, disk, picks)? else {
-        return fails_with(alloc, "no such image");
-    };
-    let mut stage = Stage::over(alloc, image);
-    match stage.obey_all(rt, images, lines) {
-        Err(Failure::Case(why)) => Err(Failure::Case(format!(in alloc;
-            "image {picks:?}, {}",
-            why.as_str()
-        )?)),
-        end => end,
-    }
 }

@@ -2,9 +2,8 @@
 
 mod accepted;
 mod agree;
-mod disks;
 mod examples;
 mod given_cells;
 mod history;
-mod superblock;
+mod images;
 mod upgrade;

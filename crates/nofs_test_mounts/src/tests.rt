@@ -1,8 +1,10 @@
 //! The tests, by what they test, with what they share.
 
+mod asks;
+mod crashes;
+mod instances;
 mod mounts;
-mod refusals;
+mod passes;
 mod serving;
-mod sharing;
-mod steps;
+mod verdicts;
 mod write_outs;

@@ -1,9 +1,11 @@
 //! What the definitions say of cells, by the plain slow functions of `nofs_model`.
-use crate::lines::number_of;
+
+use crate::failure::Failure;
+use crate::lines::{hex_bytes, number_of};
 use nofs_disk::Cell;
 use nofs_model::{Value, agreed, is_mountable, owner_of, value_of};
 use nofs_test_disks::used;
-use std::alloc::{AllocError, Global};
+use std::alloc::Global;
 
 /// Whether cells mean what a line says: `None` where it says nothing of a meaning.
 ///
@@ -14,13 +16,19 @@ pub fn meaning_holds(
     alloc: Global,
     cells: &[Cell],
     words: &[&str],
-) -> Result<Option<bool>, AllocError> {
+) -> Result<Option<bool>, Failure> {
     match words {
         ["agreed", inodes @ ..] => Ok(Some(are_agreed(cells, inodes))),
-        ["says", inode, slot, what] => Ok(Some(says(alloc, cells, inode, slot, what)?)),
-        ["owner", block, "none"] => Ok(Some(is_owned(cells, block, None))),
-        ["owner", block, inode, slot] => Ok(Some(is_owned(cells, block, pair_of(inode, slot)))),
-        ["used", inodes, blocks] => Ok(Some(are_used(alloc, cells, inodes, blocks)?)),
+        ["says", inode, slot, what] => Ok(Some(says(alloc, cells, pair_of(inode, slot), what)?)),
+        ["owner", block, "none"] => Ok(Some(is_owned(cells, number_of(block), None))),
+        ["owner", block, inode, slot] => {
+            let owner = pair_of(inode, slot);
+            Ok(Some(owner.is_some() && is_owned(cells, number_of(block), owner)))
+        }
+        ["used", inodes, blocks] => {
+            let counts = (number_of(inodes), number_of(blocks));
+            Ok(Some(are_used(used(alloc, cells)?, counts)))
+        }
         _ => Ok(None),
     }
 }
@@ -29,30 +37,30 @@ fn pair_of(inode: &str, slot: &str) -> Option<(u32, u64)> {
     Some((inode.parse::<u32>().ok()?, number_of(slot)?))
 }
 
-fn is_agreed(cells: &[Cell], inode: u32) -> bool {
-    is_mountable(cells) && agreed(cells, inode)
-}
-
 // Whether just these of the first inodes are agreed.
 fn are_agreed(cells: &[Cell], inodes: &[&str]) -> bool {
     let mut are = true;
     for inode in 0..32_u32 {
-        let named = inodes.iter().any(|word| word.parse::<u32>() == Ok(inode));
-        are = are && is_agreed(cells, inode) == named;
+        are = are && is_agreed(cells, inode) == is_named(inodes, inode);
     }
     are
 }
 
-fn owner_in(cells: &[Cell], block: u64) -> Option<(u32, u64)> {
-    if !is_mountable(cells) {
-        return None;
-    }
-    owner_of(cells, block)
+fn is_agreed(cells: &[Cell], inode: u32) -> bool {
+    is_mountable(cells) && agreed(cells, inode)
 }
 
-fn is_owned(cells: &[Cell], block: &str, owner: Option<(u32, u64)>) -> bool {
-    match number_of(block) {
-        Some(block) => is_mountable(cells) && owner_in(cells, block) == owner,
+fn is_named(inodes: &[&str], inode: u32) -> bool {
+    let mut is_named = false;
+    for word in inodes {
+        is_named = is_named || word.parse::<u32>() == Ok(inode);
+    }
+    is_named
+}
+
+fn is_owned(cells: &[Cell], block: Option<u64>, owner: Option<(u32, u64)>) -> bool {
+    match block {
+        Some(block) => is_mountable(cells) && owner_of(cells, block) == owner,
         None => false,
     }
 }
@@ -60,44 +68,29 @@ fn is_owned(cells: &[Cell], block: &str, owner: Option<(u32, u64)>) -> bool {
 fn says(
     alloc: Global,
     cells: &[Cell],
-    inode: &str,
-    slot: &str,
+    slot: Option<(u32, u64)>,
     what: &str,
-) -> Result<bool, AllocError> {
-    let Some((inode, slot)) = pair_of(inode, slot) else {
+) -> Result<bool, Failure> {
+    let Some((inode, slot)) = slot else {
         return Ok(false);
     };
-    match value_in(alloc, cells, inode, slot)? {
-        None => Ok(false),
-        Some(Value::Hole) => Ok(what == "hole"),
-        Some(Value::Lost) => Ok(what == "lost"),
-        Some(Value::Bytes(content)) => begins(alloc, content.as_slice(), what),
-    }
-}
-
-fn begins(alloc: Global, bytes: &[u8], digits: &str) -> Result<bool, AllocError> {
-    match hex::decode(alloc, digits) {
-        Ok(first) => Ok(bytes.starts_with(&first)),
-        Err(_) => Ok(false),
-    }
-}
-
-// What stands in a slot of a file; `None` where it has no such slot.
-fn value_in(
-    alloc: Global,
-    cells: &[Cell],
-    inode: u32,
-    slot: u64,
-) -> Result<Option<Value>, AllocError> {
     if !is_mountable(cells) || slot >= 4_168 {
-        return Ok(None);
+        return Ok(false);
     }
-    Ok(Some(value_of(alloc, cells, inode, slot)?))
+    is_value(alloc, &value_of(alloc, cells, inode, slot)?, what)
 }
 
-fn are_used(alloc: Global, cells: &[Cell], inodes: &str, blocks: &str) -> Result<bool, AllocError> {
-    match used(alloc, cells)? {
-        Some(found) => Ok(number_of(inodes) == Some(found.0) && number_of(blocks) == Some(found.1)),
-        None => Ok(false),
+fn is_value(alloc: Global, value: &Value, what: &str) -> Result<bool, Failure> {
+    match value {
+        Value::Hole => Ok(what == "hole"),
+        Value::Lost => Ok(what == "lost"),
+        Value::Bytes(content) => Ok(content.as_slice().starts_with(&hex_bytes(alloc, what)?)),
+    }
+}
+
+fn are_used(found: Option<(u64, u64)>, counts: (Option<u64>, Option<u64>)) -> bool {
+    match found {
+        Some((inodes, blocks)) => counts == (Some(inodes), Some(blocks)),
+        None => false,
     }
 }

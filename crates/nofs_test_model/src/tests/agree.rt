@@ -2,15 +2,15 @@
 //! image by hand. Each read that fails fails the check.
 mod checks;
 
-use crate::tests::agree::checks::{LEAF, chain, chain_reads, learns, path, path_reads};
-use crate::tests::disks::fail_read;
+use crate::tests::agree::checks::{
+    agreed_in, chain, chain_reads, is_same, learned_in, path_reads, sound_chain, sound_path,
+};
+use crate::tests::images::{LEAF, image, image_disk};
 use nofs_agree::PathAnswer;
-use nofs_disk::{Cell, Failed, Pointer};
+use nofs_disk::Cell;
 use nofs_memdisk::MemDisk;
-use nofs_model::{Value, agreed, is_mountable, value_of};
-use nofs_test_disks::*;
+use nofs_test_disks::disk_of;
 use std::alloc::{AllocError, Global};
-use std::process::Abort;
 use std::test::Fail;
 
 /// The first stamp of the first mount.
@@ -40,206 +40,99 @@ const SLOTS: [u64; 19] = [
     LEAF + 65,
 ];
 
-// What is expected
-
-fn holds(block: u64, stamp: u64) -> PathAnswer {
-    PathAnswer::Holds(Pointer { block, stamp })
-}
-
-/// What is listed of a slot; it is empty where nothing is.
-fn listed(slots: &[(u32, u64, PathAnswer)], inode: u32, slot: u64) -> PathAnswer {
-    match slots.iter().find(|it| it.0 == inode && it.1 == slot) {
-        Some(it) => it.2,
-        None => PathAnswer::Hole,
-    }
-}
-
-/// Whether the definitions give a slot of content the value that belongs to an answer.
-fn has_value(
-    alloc: Global,
-    cells: &[Cell],
-    inode: u32,
-    slot: u64,
-    found: PathAnswer,
-) -> Result<bool, AllocError> {
-    if slot >= 4168 || !is_mountable(cells) {
-        return Ok(true);
-    }
-    match value_of(alloc, cells, inode, slot)? {
-        Value::Hole => Ok(found == PathAnswer::Hole),
-        Value::Lost => Ok(found == PathAnswer::Lost),
-        Value::Bytes(content) => Ok(has_bytes(cells, found, content.as_slice())),
-    }
-}
-
-fn has_bytes(cells: &[Cell], found: PathAnswer, bytes: &[u8]) -> bool {
+// What the check of a slot finds: a block and the serial of its stamp, `lost`, or nothing where it is empty.
+fn path_text(alloc: Global, found: Option<PathAnswer>) -> Result<String, AllocError> {
     match found {
-        PathAnswer::Hole => false,
-        PathAnswer::Lost => false,
-        PathAnswer::Holds(pointer) => match cells.get(pointer.block as usize) {
-            None => false,
-            Some(cell) => cell.payload[..] == bytes[..],
-        },
+        Some(PathAnswer::Hole) => Ok(String::new(alloc)),
+        Some(PathAnswer::Lost) => String::from_str(alloc, "lost"),
+        Some(PathAnswer::Holds(it)) => {
+            format!(in alloc; "{}+{}", it.block, it.stamp.wrapping_sub(S))
+        }
+        None => String::from_str(alloc, "unsound"),
     }
 }
 
-fn is_agreed(cells: &[Cell], inode: u32) -> bool {
-    if !is_mountable(cells) {
-        return false;
-    }
-    agreed(cells, inode)
-}
-
-// Comparisons
-
-/// The check of a slot answers this, and `Failed` where any of its reads fails. It reads four blocks
-/// at most beside the superblock.
-fn path_answers(
-    rt: &impl Abort,
-    disk: &mut MemDisk,
-    inode: u32,
-    slot: u64,
-    want: PathAnswer,
-) -> Result<(), Fail> {
-    let before = disk.calls().reads;
-    assert_eq!(rt;
-        path(disk, inode, slot),
-        Some(Ok(want)),
-        "slot {slot} of {inode}"
-    );
-    let reads = disk.calls().reads.wrapping_sub(before);
-    assert!(rt; reads <= 5, "slot {slot} of {inode}");
-    for number in 2..=reads {
-        fail_read(disk, number)?;
-        assert_eq!(rt;
-            path(disk, inode, slot),
-            Some(Err(Failed)),
-            "slot {slot} of {inode}"
-        );
-    }
-    Ok(())
-}
-
-/// The check of a chain answers this, and `Failed` where any of its reads fails.
-fn chain_answers(
-    rt: &impl Abort,
+// What the checks of the slots of an inode find. They are to find what the definitions do.
+fn push_paths(
     alloc: Global,
-    disk: &mut MemDisk,
-    known: &[u32],
-    inode: u32,
-    want: bool,
-) -> Result<(), Fail> {
-    let before = disk.calls().reads;
-    assert_eq!(rt;
-        chain(alloc, disk, known, inode)?,
-        Some(Ok(want)),
-        "inode {inode}"
-    );
-    let reads = disk.calls().reads.wrapping_sub(before);
-    for number in 2..=reads {
-        fail_read(disk, number)?;
-        assert_eq!(rt;
-            chain(alloc, disk, known, inode)?,
-            Some(Err(Failed)),
-            "inode {inode}"
-        );
-    }
-    Ok(())
-}
-
-/// Compares both checks with what is listed of an image, the inodes that are agreed and the slots
-/// that are not empty, and with the definitions.
-fn answers(
-    rt: &(impl Abort + AllocGlobal),
+    text: &mut String,
     cells: &[Cell],
-    names: &[u32],
-    slots: &[(u32, u64, PathAnswer)],
-) -> Result<(), Fail> {
-    let alloc = rt.alloc();
-    assert!(rt; is_mountable(cells));
-    let mut disk = disk_of(alloc, cells)?;
-    assert!(rt; learns(alloc, &mut disk, names)?);
-    for inode in 0..18 {
-        let want = names.contains(&inode);
-        assert_eq!(rt; is_agreed(cells, inode), want, "inode {inode}");
-        chain_answers(rt, alloc, &mut disk, &[], inode, want)?;
-        chain_answers(rt, alloc, &mut disk, names, inode, want)?;
-        for slot in SLOTS {
-            let want = listed(slots, inode, slot);
-            assert!(rt;
-                has_value(alloc, cells, inode, slot, want)?,
-                "slot {slot} of {inode}"
-            );
-            path_answers(rt, &mut disk, inode, slot, want)?;
+    disk: &mut MemDisk,
+    inode: u32,
+) -> Result<(), AllocError> {
+    for slot in SLOTS {
+        let found = sound_path(disk, inode, slot)?;
+        if !is_same(alloc, cells, inode, slot, found)? {
+            text.push_str("the definitions say something else ")?;
+        }
+        let found = path_text(alloc, found)?;
+        if !found.as_str().is_empty() {
+            text.push_str(format!(in alloc; "{inode}:{slot}={} ", found.as_str())?.as_str())?;
         }
     }
     Ok(())
 }
 
-const ROOT: (u32, u64, PathAnswer) = (1, 0, PathAnswer::Holds(Pointer { block: 6, stamp: S }));
+fn paths_in(alloc: Global, cells: &[Cell], disk: &mut MemDisk) -> Result<String, AllocError> {
+    let mut text = String::new(alloc);
+    for inode in 0..18 {
+        push_paths(alloc, &mut text, cells, disk, inode)?;
+    }
+    Ok(text)
+}
+
+fn numbers_of(alloc: Global, text: &str) -> Result<Vec<u32>, AllocError> {
+    let mut numbers = Vec::new(alloc);
+    for word in text.split_whitespace() {
+        numbers.push(word.parse::<u32>().unwrap_or(0))?;
+    }
+    Ok(numbers)
+}
+
+/// The inodes that are agreed; what each slot of an inode holds that is not empty.
+const ANSWERS: &str = "\
+    empty: 1 2; 1:0=6+0\n\
+    stamp that differs: 1 2; 1:0=6+0 2:0=lost\n\
+    two owners: 1 2 3; 1:0=6+0 3:0=lost\n\
+    two owners the other way: 1 2 4; 1:0=6+0 4:0=lost\n\
+    inode made again: 1 2 3; 1:0=6+0 3:0=lost\n\
+    bytes ff: ; \n\
+    residue past the size: 1 2; 1:0=6+0 2:8=10+2 2:4294967296=9+1\n\
+    blocks under the top: 1 2; 1:0=6+0 2:72=12+4 2:73=lost 2:136=lost 2:199=lost \
+    2:4294967297=9+1 2:4294967298=10+2 2:4294967299=lost\n\
+    dead second link: 1 2 3; 1:0=6+0\n\
+    one name twice: 1 2 3 4; 1:0=6+0\n\
+    entry of a free record: 1 2; 1:0=6+0\n\
+    entry of another generation: 1 2; 1:0=6+0\n\
+    loop of directories: 1 2; 1:0=6+0 3:0=7+3 4:0=8+4\n";
 
 #[test]
-fn a_slot_is_empty_or_holds_or_is_lost(rt: HostRuntime) -> Result<(), Fail> {
+fn the_checks_say_what_is_told_of_an_image(rt: HostRuntime) -> Result<(), Fail> {
     let alloc = rt.alloc();
-    answers(&rt, &empty(alloc)?, &[1, 2], &[ROOT])?;
-    let lost = |inode| (inode, 0, PathAnswer::Lost);
-    let image = stamp_that_differs(alloc)?;
-    answers(&rt, &image, &[1, 2], &[ROOT, lost(2)])?;
-    for (image, inode) in [
-        (two_owners(alloc)?, 3),
-        (two_owners_the_other_way(alloc)?, 4),
-        (inode_made_again(alloc)?, 3),
-    ] {
-        answers(&rt, &image, &[1, 2, inode], &[ROOT, lost(inode)])?;
+    for line in ANSWERS.lines() {
+        let (name, told) = line.split_once(": ").unwrap_or((line, ""));
+        let (inodes, paths) = told.split_once("; ").unwrap_or((told, ""));
+        let cells = image(alloc, name)?;
+        let mut disk = disk_of(alloc, &cells)?;
+        let names = numbers_of(alloc, inodes)?;
+        let found = learned_in(alloc, &mut disk)?;
+        assert_eq!(rt; found.as_str().trim_end(), inodes, "{name}, learned");
+        let found = agreed_in(alloc, &mut disk, &[])?;
+        assert_eq!(rt; found.as_str().trim_end(), inodes, "{name}");
+        let found = agreed_in(alloc, &mut disk, &names)?;
+        assert_eq!(rt; found.as_str().trim_end(), inodes, "{name}, known");
+        let found = paths_in(alloc, &cells, &mut disk)?;
+        assert_eq!(rt; found.as_str().trim_end(), paths, "{name}");
     }
-    answers(&rt, &bytes_ff(alloc)?, &[], &[])
+    Ok(())
 }
 
 #[test]
-fn a_slot_under_leaf_top_or_child_holds_with_the_ones_above(rt: HostRuntime) -> Result<(), Fail> {
-    let alloc = rt.alloc();
-    let image = residue_past_the_size(alloc)?;
-    let slots = [ROOT, (2, LEAF, holds(9, S + 1)), (2, 8, holds(10, S + 2))];
-    answers(&rt, &image, &[1, 2], &slots)?;
-    answers(
-        &rt,
-        &blocks_under_the_top(alloc)?,
-        &[1, 2],
-        &[
-            ROOT,
-            (2, LEAF + 1, holds(9, S + 1)),
-            (2, LEAF + 2, holds(10, S + 2)),
-            (2, LEAF + 3, PathAnswer::Lost),
-            (2, 72, holds(12, S + 4)),
-            (2, 73, PathAnswer::Lost),
-            (2, 136, PathAnswer::Lost),
-            (2, 199, PathAnswer::Lost),
-        ],
-    )
-}
-
-#[test]
-fn a_chain_leads_to_the_root_by_entries_and_back_links(rt: HostRuntime) -> Result<(), Fail> {
-    let alloc = rt.alloc();
-    answers(&rt, &dead_second_link(alloc)?, &[1, 2, 3], &[ROOT])?;
-    answers(&rt, &one_name_twice(alloc)?, &[1, 2, 3, 4], &[ROOT])?;
-    for image in [
-        entry_of_a_free_record(alloc)?,
-        entry_of_another_generation(alloc)?,
-    ] {
-        answers(&rt, &image, &[1, 2], &[ROOT])?;
-    }
-    let image = loop_of_directories(alloc)?;
-    let slots = [ROOT, (3, 0, holds(7, S + 3)), (4, 0, holds(8, S + 4))];
-    answers(&rt, &image, &[1, 2], &slots)?;
-    // What is wrongly said to be known is believed or not, and the check returns.
-    let mut disk = disk_of(alloc, &image)?;
+fn what_is_wrongly_known_is_believed_or_not(rt: HostRuntime) -> Result<(), Fail> {
+    let mut disk = image_disk(rt.alloc(), "loop of directories")?;
     for inode in 0..6 {
-        let answer = chain(alloc, &mut disk, &[3], inode)?;
-        assert!(rt;
-            answer == Some(Ok(true)) || answer == Some(Ok(false)),
-            "inode {inode}"
-        );
+        let answer = chain(rt.alloc(), &mut disk, &[3], inode)?;
+        assert!(rt; matches!(answer, Some(Ok(_))), "inode {inode}");
     }
     Ok(())
 }
@@ -247,44 +140,33 @@ fn a_chain_leads_to_the_root_by_entries_and_back_links(rt: HostRuntime) -> Resul
 #[test]
 fn a_chain_of_two_thousand_directories_leads_to_the_root(rt: HostRuntime) -> Result<(), Fail> {
     let alloc = rt.alloc();
-    let cells = chain_of_directories(alloc)?;
-    let mut disk = disk_of(alloc, &cells)?;
-    for (inode, want) in [
-        (1, true),
-        (4, true),
-        (1_000, true),
-        (2_002, true),
-        (2_003, false),
-    ] {
-        assert_eq!(rt; is_agreed(&cells, inode), want, "inode {inode}");
-        assert_eq!(rt;
-            chain(alloc, &mut disk, &[], inode)?,
-            Some(Ok(want)),
+    let mut disk = image_disk(alloc, "chain of directories")?;
+    for (inode, want) in [(1, true), (1_000, true), (2_002, true), (2_003, false)] {
+        assert!(rt;
+            chain(alloc, &mut disk, &[], inode)? == Some(Ok(want)),
             "inode {inode}"
         );
     }
-    chain_answers(&rt, alloc, &mut disk, &[], 4, true)?;
-    chain_answers(&rt, alloc, &mut disk, &[1_990], 2_002, true)?;
+    assert_eq!(rt; sound_chain(alloc, &mut disk, &[], 4)?, Some(true));
+    assert_eq!(rt; sound_chain(alloc, &mut disk, &[1_990], 2_002)?, Some(true));
     let mut names = Vec::new(alloc);
     for inode in 1..2_003 {
         names.push(inode)?;
     }
     for inode in 0..2_006 {
         let want = 1 <= inode && inode <= 2_002;
-        assert_eq!(rt;
-            chain(alloc, &mut disk, &names, inode)?,
-            Some(Ok(want)),
+        assert!(rt;
+            chain(alloc, &mut disk, &names, inode)? == Some(Ok(want)),
             "inode {inode}"
         );
     }
     Ok(())
 }
 
+// The table, the top, a child, the block itself.
 #[test]
-fn a_check_reads_no_more_than_it_needs(rt: HostRuntime) -> Result<(), Fail> {
-    let alloc = rt.alloc();
-    // The table, the top, a child, the block itself.
-    let mut disk = disk_of(alloc, &blocks_under_the_top(alloc)?)?;
+fn the_check_of_a_slot_reads_no_more_than_it_needs(rt: HostRuntime) -> Result<(), Fail> {
+    let mut disk = image_disk(rt.alloc(), "blocks under the top")?;
     for (inode, slot, reads) in [
         (5, 0, 0),
         (2, 0, 1),
@@ -300,16 +182,23 @@ fn a_check_reads_no_more_than_it_needs(rt: HostRuntime) -> Result<(), Fail> {
             "slot {slot} of {inode}"
         );
     }
-    // The records of 3, 4 and the root are in one block. A chain that needs it again after the
-    // block of a directory reads it again.
-    let mut disk = disk_of(alloc, &two_owners(alloc)?)?;
-    assert_eq!(rt; chain_reads(alloc, &mut disk, &[], 3)?, 2);
-    assert_eq!(rt; chain_reads(alloc, &mut disk, &[3], 3)?, 0);
-    let mut disk = disk_of(alloc, &loop_of_directories(alloc)?)?;
-    assert_eq!(rt; chain_reads(alloc, &mut disk, &[], 3)?, 1);
-    assert_eq!(rt; chain_reads(alloc, &mut disk, &[], 4)?, 3);
-    // The first directory that is known ends the way up.
-    let mut disk = disk_of(alloc, &chain_of_directories(alloc)?)?;
-    assert_eq!(rt; chain_reads(alloc, &mut disk, &[2_001], 2_002)?, 2);
+    Ok(())
+}
+
+// The records of 3, 4 and the root are in one block. A chain that needs it again after the block of a directory reads
+// it again. The first directory that is known ends the way up.
+#[test]
+fn the_check_of_a_chain_reads_no_more_than_it_needs(rt: HostRuntime) -> Result<(), Fail> {
+    for (name, known, inode, reads) in [
+        ("two owners", [].as_slice(), 3, 2),
+        ("two owners", &[3], 3, 0),
+        ("loop of directories", &[], 3, 1),
+        ("loop of directories", &[], 4, 3),
+        ("chain of directories", &[2_001], 2_002, 2),
+    ] {
+        let mut disk = image_disk(rt.alloc(), name)?;
+        let found = chain_reads(rt.alloc(), &mut disk, known, inode)?;
+        assert_eq!(rt; found, reads, "{inode} in {name}");
+    }
     Ok(())
 }

@@ -2,204 +2,176 @@
 ghost use Rattle.nofs_ptrs.specs.Paths.{slot_limit};
 ghost use Rattle.std.specs.Prelude.{◌<◌};
 
+use crate::tests::images::image;
 use nofs_disk::Cell;
-use nofs_model::{Value, agreed, full_scan, is_mountable, owner_of, value_of};
-use nofs_test_disks::*;
+use nofs_model::{Value, agreed, is_mountable, owner_of, value_of};
+use nofs_test_disks::used;
 use std::alloc::{AllocError, Global};
-use std::process::Abort;
 use std::test::Fail;
 
-/// The number of the leaf's slot. The top's and those of the children follow.
-const LEAF: u64 = 4_294_967_296;
-
-/// What a slot says: nothing was written, what is there is lost, or the first byte.
-#[derive(Clone, Copy, Debug, PartialEq, Eq)]
-enum Says {
-    Nothing,
-    Lost,
-    First(u8),
+fn is_agreed(cells: &[Cell], inode: u32) -> bool {
+    is_mountable(cells) && agreed(cells, inode)
 }
 
-fn slot_says(alloc: Global, cells: &[Cell], inode: u32, slot: u64) -> Result<Says, AllocError>
-    requires { slot < slot_limit }
-{
-    if !is_mountable(cells) {
-        return Ok(Says::First(b'?'));
-    }
-    match value_of(alloc, cells, inode, slot)? {
-        Value::Hole => Ok(Says::Nothing),
-        Value::Lost => Ok(Says::Lost),
-        Value::Bytes(content) => Ok(Says::First(first_of(content.as_slice()))),
-    }
-}
-
-fn first_of(bytes: &[u8]) -> u8 {
-    match bytes.first() {
-        Some(byte) => *byte,
-        None => b'?',
-    }
-}
-
-/// How many inodes and how many blocks a scan finds used.
-fn used(alloc: Global, cells: &[Cell]) -> Result<(u64, u64), AllocError> {
-    if !is_mountable(cells) {
-        return Ok((0, 0));
-    }
-    let scan = full_scan(alloc, cells)?;
-    Ok((scan.inodes.count(), scan.blocks.count()))
-}
-
-fn has_name(cells: &[Cell], inode: u32) -> bool {
-    if !is_mountable(cells) {
-        return false;
-    }
-    agreed(cells, inode)
-}
-
-fn owner(cells: &[Cell], block: u64) -> Option<(u32, u64)> {
+fn owner_in(cells: &[Cell], block: u64) -> Option<(u32, u64)> {
     if !is_mountable(cells) {
         return None;
     }
     owner_of(cells, block)
 }
 
-/// What is listed of a slot; it says nothing where none is.
-fn listed(slots: &[(u32, u64, Says)], inode: u32, slot: u64) -> Says {
-    match slots.iter().find(|it| it.0 == inode && it.1 == slot) {
-        Some(it) => it.2,
-        None => Says::Nothing,
+// The first byte of a slot, `lost`, or nothing where nothing was ever put there.
+fn says(alloc: Global, cells: &[Cell], inode: u32, slot: u64) -> Result<String, AllocError>
+    requires { slot < slot_limit }
+{
+    if !is_mountable(cells) {
+        return String::from_str(alloc, "no image");
     }
-}
-
-/// The owner that is listed of a block.
-fn listed_owner(owners: &[(u64, u32, u64)], block: u64) -> Option<(u32, u64)> {
-    match owners.iter().find(|it| it.0 == block) {
-        Some(it) => Some((it.1, it.2)),
-        None => None,
-    }
-}
-
-/// Compares a whole image with what is listed of it: the inodes that are agreed, the slots that say
-/// something, the blocks that have an owner, and how many inodes and blocks are used.
-fn means(
-    rt: &(impl Abort + AllocGlobal),
-    cells: &[Cell],
-    names: &[u32],
-    slots: &[(u32, u64, Says)],
-    owners: &[(u64, u32, u64)],
-    counts: (u64, u64),
-) -> Result<(), Fail> {
-    let alloc = rt.alloc();
-    assert!(rt; is_mountable(cells));
-    for inode in 0..18 {
-        assert_eq!(rt;
-            has_name(cells, inode),
-            names.contains(&inode),
-            "inode {inode}"
-        );
-        for slot in 0..130 {
-            assert_eq!(rt;
-                slot_says(alloc, cells, inode, slot)?,
-                listed(slots, inode, slot),
-                "slot {slot} of {inode}"
-            );
+    match value_of(alloc, cells, inode, slot)? {
+        Value::Hole => Ok(String::new(alloc)),
+        Value::Lost => String::from_str(alloc, "lost"),
+        Value::Bytes(content) => {
+            let first = content.as_slice().first().copied().unwrap_or(0);
+            format!(in alloc; "{first}")
         }
     }
+}
+
+// The inodes that are agreed.
+fn agreed_in(alloc: Global, cells: &[Cell]) -> Result<String, AllocError> {
+    let mut text = String::new(alloc);
+    for inode in 0..18 {
+        if is_agreed(cells, inode) {
+            text.push_str(format!(in alloc; "{inode} ")?.as_str())?;
+        }
+    }
+    Ok(text)
+}
+
+// What the slots of an inode say.
+fn push_slots(
+    alloc: Global,
+    text: &mut String,
+    cells: &[Cell],
+    inode: u32,
+) -> Result<(), AllocError> {
+    for slot in 0..130 {
+        let says = says(alloc, cells, inode, slot)?;
+        if !says.as_str().is_empty() {
+            text.push_str(format!(in alloc; "{inode}:{slot}={} ", says.as_str())?.as_str())?;
+        }
+    }
+    Ok(())
+}
+
+fn slots_in(alloc: Global, cells: &[Cell]) -> Result<String, AllocError> {
+    let mut text = String::new(alloc);
+    for inode in 0..18 {
+        push_slots(alloc, &mut text, cells, inode)?;
+    }
+    Ok(text)
+}
+
+// The blocks that have an owner.
+fn owners_in(alloc: Global, cells: &[Cell]) -> Result<String, AllocError> {
+    let mut text = String::new(alloc);
     for block in 0..cells.len() as u64 {
-        assert_eq!(rt;
-            owner(cells, block),
-            listed_owner(owners, block),
-            "block {block}"
-        );
+        if let Some((inode, slot)) = owner_in(cells, block) {
+            text.push_str(format!(in alloc; "{block}={inode}:{slot} ")?.as_str())?;
+        }
     }
-    assert_eq!(rt; used(alloc, cells)?, counts);
+    Ok(text)
+}
+
+// What an image means: the inodes that are agreed; what each slot of an inode says that says something; which slot of
+// an inode owns each block that has an owner; how many inodes and blocks are used.
+fn meaning(alloc: Global, cells: &[Cell]) -> Result<String, AllocError> {
+    let inodes = agreed_in(alloc, cells)?;
+    let slots = slots_in(alloc, cells)?;
+    let owners = owners_in(alloc, cells)?;
+    let (used_inodes, used_blocks) = used(alloc, cells)?.unwrap_or((0, 0));
+    let mut text = String::new(alloc);
+    for part in [&inodes, &slots, &owners] {
+        text.push_str(part.as_str().trim_end())?;
+        text.push_str("; ")?;
+    }
+    text.push_str(format!(in alloc; "{used_inodes} {used_blocks}")?.as_str())?;
+    Ok(text)
+}
+
+/// A slot holds a block with just its tag; the blocks of pointers are owned too; an inode has a name where an entry and
+/// a back link agree; of bytes ff only what is fixed is used.
+const MEANINGS: &str = "\
+    empty: 1 2; 1:0=0; 6=1:0; 2 3\n\
+    stamp that differs: 1 2; 1:0=0 2:0=lost; 6=1:0; 2 3\n\
+    two owners: 1 2 3; 1:0=3 3:0=lost; 6=1:0; 3 3\n\
+    two owners the other way: 1 2 4; 1:0=4 4:0=lost; 6=1:0; 3 3\n\
+    inode made again: 1 2 3; 1:0=3 3:0=lost; 6=1:0; 3 3\n\
+    residue past the size: 1 2; 1:0=0 2:8=106; 6=1:0 9=2:4294967296 10=2:8; 2 5\n\
+    blocks under the top: 1 2; 1:0=0 2:72=102 2:73=lost; 6=1:0 9=2:4294967297 10=2:4294967298 12=2:72; 2 6\n\
+    dead second link: 1 2 3; 1:0=3; 6=1:0; 3 3\n\
+    one name twice: 1 2 3 4; 1:0=3; 6=1:0; 4 3\n\
+    entry of a free record: 1 2; 1:0=3; 6=1:0; 2 3\n\
+    entry of another generation: 1 2; 1:0=3; 6=1:0; 2 3\n\
+    loop of directories: 1 2; 1:0=0 3:0=4 4:0=3; 6=1:0; 2 3\n\
+    bytes ff: ; ; ; 2 5\n";
+
+#[test]
+fn an_image_means_what_is_told_of_it(rt: HostRuntime) -> Result<(), Fail> {
+    let alloc = rt.alloc();
+    for line in MEANINGS.lines() {
+        let (name, want) = line.split_once(": ").unwrap_or((line, ""));
+        let cells = image(alloc, name)?;
+        assert_eq!(rt; meaning(alloc, &cells)?.as_str(), want, "{name}");
+    }
     Ok(())
 }
 
-const ROOT: (u64, u32, u64) = (6, 1, 0);
-
-const EMPTY_ROOT: (u32, u64, Says) = (1, 0, Says::First(0));
-
-const NAMES_3: (u32, u64, Says) = (1, 0, Says::First(3));
-
 #[test]
-fn a_slot_holds_a_block_with_just_its_tag(rt: HostRuntime) -> Result<(), Fail> {
+fn each_slot_below_a_lost_child_is_lost(rt: HostRuntime) -> Result<(), Fail> {
     let alloc = rt.alloc();
-    let image = empty(alloc)?;
-    means(&rt, &image, &[1, 2], &[EMPTY_ROOT], &[ROOT], (2, 3))?;
-    let image = stamp_that_differs(alloc)?;
-    let slots = [EMPTY_ROOT, (2, 0, Says::Lost)];
-    means(&rt, &image, &[1, 2], &slots, &[ROOT], (2, 3))?;
-    for (image, inode, first) in [
-        (two_owners(alloc)?, 3, 3),
-        (two_owners_the_other_way(alloc)?, 4, 4),
-        (inode_made_again(alloc)?, 3, 3),
-    ] {
-        let slots = [(1, 0, Says::First(first)), (inode, 0, Says::Lost)];
-        means(&rt, &image, &[1, 2, inode], &slots, &[ROOT], (3, 3))?;
-    }
-    Ok(())
-}
-
-#[test]
-fn the_blocks_of_pointers_are_owned_too(rt: HostRuntime) -> Result<(), Fail> {
-    let alloc = rt.alloc();
-    let image = residue_past_the_size(alloc)?;
-    let slots = [EMPTY_ROOT, (2, 8, Says::First(b'j'))];
-    let owners = [ROOT, (9, 2, LEAF), (10, 2, 8)];
-    means(&rt, &image, &[1, 2], &slots, &owners, (2, 5))?;
-    let top = blocks_under_the_top(alloc)?;
-    let slots = [EMPTY_ROOT, (2, 72, Says::First(b'f')), (2, 73, Says::Lost)];
-    let owners = [ROOT, (9, 2, LEAF + 1), (10, 2, LEAF + 2), (12, 2, 72)];
-    means(&rt, &top, &[1, 2], &slots, &owners, (2, 6))?;
+    let cells = image(alloc, "blocks under the top")?;
     for (slot, want) in [
-        (135, Says::Nothing),
-        (136, Says::Lost),
-        (199, Says::Lost),
-        (200, Says::Nothing),
-        (4_167, Says::Nothing),
+        (135, ""),
+        (136, "lost"),
+        (199, "lost"),
+        (200, ""),
+        (4_167, ""),
     ] {
-        assert_eq!(rt; slot_says(alloc, &top, 2, slot)?, want, "slot {slot}");
+        assert_eq!(rt; says(alloc, &cells, 2, slot)?.as_str(), want, "slot {slot}");
     }
     Ok(())
-}
-
-#[test]
-fn an_inode_has_a_name_where_an_entry_and_a_back_link_agree(rt: HostRuntime) -> Result<(), Fail> {
-    let alloc = rt.alloc();
-    let image = dead_second_link(alloc)?;
-    means(&rt, &image, &[1, 2, 3], &[NAMES_3], &[ROOT], (3, 3))?;
-    let image = one_name_twice(alloc)?;
-    means(&rt, &image, &[1, 2, 3, 4], &[NAMES_3], &[ROOT], (4, 3))?;
-    for image in [
-        entry_of_a_free_record(alloc)?,
-        entry_of_another_generation(alloc)?,
-    ] {
-        means(&rt, &image, &[1, 2], &[NAMES_3], &[ROOT], (2, 3))?;
-    }
-    let image = loop_of_directories(alloc)?;
-    let slots = [EMPTY_ROOT, (3, 0, Says::First(4)), (4, 0, Says::First(3))];
-    means(&rt, &image, &[1, 2], &slots, &[ROOT], (2, 3))
-}
-
-#[test]
-fn in_an_image_of_bytes_ff_only_what_is_fixed_is_used(rt: HostRuntime) -> Result<(), Fail> {
-    means(&rt, &bytes_ff(rt.alloc())?, &[], &[], &[], (2, 5))
 }
 
 #[test]
 fn a_chain_of_two_thousand_directories_leads_to_the_root(rt: HostRuntime) -> Result<(), Fail> {
     let alloc = rt.alloc();
-    let cells = chain_of_directories(alloc)?;
-    for (inode, want) in [(1, true), (3, true), (2_002, true), (2_003, false)] {
-        assert_eq!(rt; has_name(&cells, inode), want, "inode {inode}");
+    let cells = image(alloc, "chain of directories")?;
+    for (inode, want) in [
+        (1, true),
+        (3, true),
+        (4, true),
+        (1_000, true),
+        (2_002, true),
+        (2_003, false),
+    ] {
+        assert_eq!(rt; is_agreed(&cells, inode), want, "inode {inode}");
     }
     // Entry 0 of directory 2,001 names inode 2,002, whose low byte is 210.
-    assert_eq!(rt; slot_says(alloc, &cells, 2_001, 0)?, Says::First(210));
-    assert_eq!(rt; slot_says(alloc, &cells, 2_002, 0)?, Says::Nothing);
-    assert_eq!(rt; owner(&cells, 502), Some((1, 0)));
-    assert_eq!(rt; owner(&cells, 2_501), Some((2_001, 0)));
-    assert_eq!(rt; owner(&cells, 2_502), None);
-    assert_eq!(rt; used(alloc, &cells)?, (2_002, 2_502));
+    for (inode, want) in [(2_001, "210"), (2_002, "")] {
+        assert_eq!(rt;
+            says(alloc, &cells, inode, 0)?.as_str(),
+            want,
+            "inode {inode}"
+        );
+    }
+    for (block, want) in [
+        (502, Some((1, 0))),
+        (2_501, Some((2_001, 0))),
+        (2_502, None),
+    ] {
+        assert_eq!(rt; owner_in(&cells, block), want, "block {block}");
+    }
+    assert_eq!(rt; used(alloc, &cells)?, Some((2_002, 2_502)));
     Ok(())
 }

@@ -17,7 +17,7 @@ pub fn push_bytes(alloc: Global, text: &mut Vec<u8>, byte: u8, count: usize) -> 
 }
 
 /// What was read of the files in all images.
-#[derive(Clone, Copy, Debug, PartialEq, Eq)]
+#[derive(Clone, Copy)]
 pub struct ReadTally {
     pub images: u64,
     pub bytes: u64,
@@ -47,12 +47,11 @@ pub fn count(number: &mut u64) {
 
 // Whether these digits spell these bytes and zeros alone.
 fn is_own(alloc: Global, digits: &[u8], own: &[u8]) -> Result<bool, Fail> {
-    let bytes = hex::decode(alloc, digits)?;
-    Ok(bytes.iter().all(|byte| *byte == 0 || has_byte(own, *byte)))
-}
-
-fn has_byte(bytes: &[u8], byte: u8) -> bool {
-    bytes.iter().any(|one| *one == byte)
+    let mut is_own = true;
+    for byte in &hex::decode(alloc, digits)? {
+        is_own = is_own && (*byte == 0 || own.contains(byte));
+    }
+    Ok(is_own)
 }
 
 fn see_part(alloc: Global, seen: &mut ReadTally, part: &[u8], own: &[u8]) -> Result<(), Fail> {

@@ -205,8 +205,8 @@ fn word_in(bytes: &[u8], at: usize) -> u32 {
     }
 }
 
-// The number of eight bytes at a place, or 0.
-fn number_in(bytes: &[u8], at: usize) -> u64 {
+/// The number of eight bytes at a place, or 0.
+pub(crate) fn number_in(bytes: &[u8], at: usize) -> u64 {
     if at <= bytes.len() && 8 <= bytes.len() - at {
         read_u64_at(bytes, at)
     } else {

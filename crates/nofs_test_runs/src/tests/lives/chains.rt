@@ -1,11 +1,10 @@
 //! What is known of a chain of lives so far, and what is noted of each disk that a crash may leave.
 
 use crate::tests::lives::BLOCKS;
-use crate::tests::lives::numbers::{
-    BlockReading, SERIALS, has_mount, has_number, mount_on, number_at, push_numbers, reading_of,
-};
+use crate::tests::lives::numbers::{SERIALS, has_mount, is_table, mount_on, push_numbers};
 use crate::tests::lives::scripts::{FILES, SLOTS};
 use crate::tests::readings::{ReadTally, count, see_line};
+use crate::tests::walks::number_in;
 use nofs_disk::Cell;
 use nofs_memdisk::MemDisk;
 use nofs_test_disks::{cell_of, choices_of, left};
@@ -13,44 +12,15 @@ use nofs_versions::Pick;
 use std::alloc::{AllocError, Global};
 use std::test::Fail;
 
-/// What a number was given for: the cell of a slot, or an inode, whose generation and slot are 0 here.
-#[derive(Clone, Copy, PartialEq, Eq)]
-struct Claim {
-    number: u64,
-    owner: u64,
-    generation: u64,
-    slot: u64,
-}
-
-/// How often the lives did otherwise than they ought to.
-#[derive(Clone, Copy, Debug, PartialEq, Eq)]
-pub struct Wrong {
-    /// A status that does not tell whether a call failed.
-    pub statuses: u64,
-    /// A mount whose number is not durable, or not above all before it.
-    pub mounts: u64,
-    /// A new number that is not of the life's own mount.
-    pub numbers: u64,
-    /// A number that was given for two things.
-    pub claims: u64,
-    /// An image that cannot be scanned and read.
-    pub images: u64,
-}
-
-impl Wrong {
-    pub const NOTHING: Wrong = Wrong {
-        statuses: 0,
-        mounts: 0,
-        numbers: 0,
-        claims: 0,
-        images: 0,
-    };
-}
+/// What a number was given for: a slot of an inode of a generation, as the tag of a cell tells it, or an inode, whose
+/// generation and slot are 0 here.
+type Owner = (u64, u64, u64);
 
 /// What was found in some chains.
-#[derive(Clone, Copy, Debug, PartialEq, Eq)]
+#[derive(Clone, Copy)]
 pub struct ChainsFound {
-    pub wrong: Wrong,
+    /// The last thing that was otherwise than it ought to be, if something was.
+    pub wrong: &'static str,
     pub seen: ReadTally,
     /// How many mounts ended, and how many failed.
     pub mounts: u64,
@@ -61,7 +31,7 @@ pub struct ChainsFound {
 
 impl ChainsFound {
     pub const NOTHING: ChainsFound = ChainsFound {
-        wrong: Wrong::NOTHING,
+        wrong: "",
         seen: ReadTally::NOTHING,
         mounts: 0,
         failed: 0,
@@ -80,17 +50,17 @@ pub struct Chain {
     /// The numbers on the disk as the life began: stamps, and generations, which are stamps too.
     pub numbers: Vec<u64>,
     /// What each number was given for.
-    claims: Vec<Claim>,
+    claims: Vec<(u64, Owner)>,
     /// The bytes that lives have put.
     pub given: Vec<u8>,
     pub found: ChainsFound,
 }
 
-fn claim_of(claims: &[Claim], number: u64) -> Option<Claim> {
+fn owner_of(claims: &[(u64, Owner)], number: u64) -> Option<Owner> {
     claims
         .iter()
-        .find(|claim| claim.number == number)
-        .map(|claim| *claim)
+        .find(|claim| claim.0 == number)
+        .map(|claim| claim.1)
 }
 
 // The disk that a crash leaves with these versions.
@@ -148,7 +118,7 @@ impl Chain {
     pub fn note_mount(&mut self, disk: &mut MemDisk) -> u64 {
         let mount = mount_on(disk);
         if mount <= self.greatest || has_mount(&self.numbers, mount) || choices_of(disk, 0) != 1 {
-            count(&mut self.found.wrong.mounts);
+            self.found.wrong = "the number of a mount is not durable, or not above all before it";
         }
         count(&mut self.found.mounts);
         mount
@@ -187,14 +157,15 @@ impl Chain {
         let mut numbers = Vec::new(alloc);
         push_numbers(&mut numbers, block, cell)?;
         for number in &numbers {
-            if *number / SERIALS != mount && !has_number(&self.numbers, *number) {
-                count(&mut self.found.wrong.numbers);
+            if *number / SERIALS != mount && !self.numbers.contains(number) {
+                self.found.wrong = "a new number is not of the mount";
             }
         }
         count(&mut self.found.cells);
-        match reading_of(block, cell) {
-            BlockReading::Table => self.note_records(block, cell),
-            _ => self.note_tag(cell),
+        if is_table(block) {
+            self.note_records(block, cell)
+        } else {
+            self.note_tag(cell)
         }
     }
 
@@ -202,47 +173,34 @@ impl Chain {
     fn note_records(&mut self, block: u64, cell: &Cell) -> Result<(), AllocError> {
         for place in 0..4_usize {
             let owner = block.saturating_mul(4).saturating_add(place as u64);
-            self.note_claim(Claim {
-                number: number_at(&cell.payload, place * 256),
-                owner: owner.saturating_sub(3),
-                generation: 0,
-                slot: 0,
-            })?;
+            let owner = (owner.saturating_sub(3), 0, 0);
+            self.note_claim(number_in(&cell.payload, place * 256), owner)?;
         }
         Ok(())
     }
 
     // The stamp of a tag is given for all else that it says, and the generation for the inode alone.
     fn note_tag(&mut self, cell: &Cell) -> Result<(), AllocError> {
-        let owner = number_at(&cell.tag, 0);
-        let generation = number_at(&cell.tag, 8);
-        self.note_claim(Claim {
-            number: number_at(&cell.tag, 24),
-            owner,
-            generation,
-            slot: number_at(&cell.tag, 16),
-        })?;
-        self.note_claim(Claim {
-            number: generation,
-            owner: owner >> 32,
-            generation: 0,
-            slot: 0,
-        })
+        let owner = number_in(&cell.tag, 0);
+        let generation = number_in(&cell.tag, 8);
+        let slot = number_in(&cell.tag, 16);
+        self.note_claim(number_in(&cell.tag, 24), (owner, generation, slot))?;
+        self.note_claim(generation, (owner >> 32, 0, 0))
     }
 
-    fn note_claim(&mut self, claim: Claim) -> Result<(), AllocError> {
-        if claim.number == 0 {
+    fn note_claim(&mut self, number: u64, owner: Owner) -> Result<(), AllocError> {
+        if number == 0 {
             return Ok(());
         }
-        match claim_of(&self.claims, claim.number) {
+        match owner_of(&self.claims, number) {
             Some(old) => {
-                if old != claim {
-                    count(&mut self.found.wrong.claims);
+                if old != owner {
+                    self.found.wrong = "a number was given for two things";
                 }
+                Ok(())
             }
-            None => self.claims.push(claim)?,
+            None => Ok(self.claims.push((number, owner))?),
         }
-        Ok(())
     }
 
     // The bytes that were put into the file with this first byte.

@@ -1,7 +1,8 @@
 //! The numbers that stand on a disk: stamps, and generations, which are stamps too.
 
 use crate::tests::lives::BLOCKS;
-use nofs_disk::{Cell, read_u64_at};
+use crate::tests::walks::number_in;
+use nofs_disk::Cell;
 use nofs_memdisk::MemDisk;
 use nofs_test_disks::cell_of;
 use std::alloc::{AllocError, Global};
@@ -12,43 +13,23 @@ const FIRST_OF_DATA: u64 = 5;
 /// How many stamps a mount has.
 pub(crate) const SERIALS: u64 = 1_099_511_627_776;
 
-// The number in the eight bytes from a place on, or 0 where they are not there.
-pub(crate) fn number_at(bytes: &[u8], at: usize) -> u64 {
-    if at <= bytes.len() && 8 <= bytes.len() - at {
-        read_u64_at(bytes, at)
-    } else {
-        0
-    }
+pub(crate) fn is_table(block: u64) -> bool {
+    block > 0 && block < FIRST_OF_DATA
 }
 
-/// What a block is read as.
-#[derive(Clone, Copy, PartialEq, Eq)]
-pub enum BlockReading {
-    Table,
-    Directory,
-    Leaf,
-    Other,
-}
-
-pub(crate) fn reading_of(block: u64, cell: &Cell) -> BlockReading {
-    if block > 0 && block < FIRST_OF_DATA {
-        return BlockReading::Table;
-    }
-    match number_at(&cell.tag, 0) % 4_294_967_296 {
-        2 => BlockReading::Directory,
-        3 => BlockReading::Leaf,
-        _ => BlockReading::Other,
-    }
-}
-
-// Whether a stamp or generation stands at this place: in a record the generation, and those of four links and ten
+// Whether a stamp or generation stands at this place of a record: its generation, and those of four links and ten
 // pointers.
-fn has_number_at(reading: BlockReading, place: usize) -> bool {
-    match reading {
-        BlockReading::Table => place % 256 == 0 || (place % 256 >= 40 && place % 16 == 8),
-        BlockReading::Directory => place % 64 == 8,
-        BlockReading::Leaf => place % 16 == 8,
-        BlockReading::Other => false,
+fn is_in_record(place: usize) -> bool {
+    place % 256 == 0 || (place % 256 >= 40 && place % 16 == 8)
+}
+
+// Whether one stands at this place of a block of this kind: in each entry of a directory, and in each pointer of a
+// leaf.
+fn is_in_block(kind: u64, place: usize) -> bool {
+    match kind {
+        2 => place % 64 == 8,
+        3 => place % 16 == 8,
+        _ => false,
     }
 }
 
@@ -58,15 +39,18 @@ pub(crate) fn push_numbers(
     block: u64,
     cell: &Cell,
 ) -> Result<(), AllocError> {
-    push_number(numbers, number_at(&cell.tag, 8))?;
-    push_number(numbers, number_at(&cell.tag, 24))?;
-    let reading = reading_of(block, cell);
-    if reading == BlockReading::Other {
-        return Ok(());
-    }
+    push_number(numbers, number_in(&cell.tag, 8))?;
+    push_number(numbers, number_in(&cell.tag, 24))?;
+    let kind = number_in(&cell.tag, 0) % 4_294_967_296;
     for word in 0..128_usize {
-        if has_number_at(reading, word * 8) {
-            push_number(numbers, number_at(&cell.payload, word * 8))?;
+        let place = word * 8;
+        let has_number = if is_table(block) {
+            is_in_record(place)
+        } else {
+            is_in_block(kind, place)
+        };
+        if has_number {
+            push_number(numbers, number_in(&cell.payload, place))?;
         }
     }
     Ok(())
@@ -89,10 +73,6 @@ pub(crate) fn numbers_on(alloc: Global, disk: &mut MemDisk) -> Result<Vec<u64>, 
     Ok(numbers)
 }
 
-pub(crate) fn has_number(numbers: &[u64], number: u64) -> bool {
-    numbers.iter().any(|one| *one == number)
-}
-
 pub(crate) fn has_mount(numbers: &[u64], mount: u64) -> bool {
     numbers.iter().any(|one| *one / SERIALS == mount)
 }
@@ -100,7 +80,7 @@ pub(crate) fn has_mount(numbers: &[u64], mount: u64) -> bool {
 // The mount number on a disk.
 pub(crate) fn mount_on(disk: &mut MemDisk) -> u64 {
     match cell_of(disk, 0) {
-        Some(cell) => number_at(&cell.payload, 32),
+        Some(cell) => number_in(&cell.payload, 32),
         None => 0,
     }
 }

@@ -1,0 +1,176 @@
+//! Verdicts of a pass that are committed after steps of another pass.
+use crate::tests::asks::{Ask, Cases, LABEL, S, follow, follow_as};
+use crate::tests::mounts::{examined, full_below_24, mounted, two_passes, whole};
+use nofs_history::{BLOCK_SWEEPER, Claims, ElementKind, History, Reply};
+use nofs_memdisk::MemDisk;
+use nofs_scan::judge;
+use nofs_shared::Mount;
+use nofs_test_disks::formatted;
+use std::alloc::{AllocError, Global};
+use std::sync::Wait;
+use std::test::Fail;
+
+// The verdict in the reply of a step that examined.
+fn seen(reply: &Reply) -> Option<bool> {
+    match reply {
+        Reply::Seen { used } => Some(*used),
+        _ => None,
+    }
+}
+
+/// Whether an element is found used by one pass, and whether it stands as used when that is committed, after these
+/// steps of another pass. `None` where it is not looked at.
+fn late<R: Wait>(
+    rt: &R,
+    alloc: Global,
+    mount: Mount<MemDisk>,
+    kind: ElementKind,
+    item: u64,
+    between: Cases,
+) -> Result<(Option<(bool, bool)>, Mount<MemDisk>), Fail> {
+    let Some((shared, first, second)) = two_passes(alloc, mount) else {
+        return Err("no passes".into());
+    };
+    let mut sweeper = shared.pass(rt, alloc, BLOCK_SWEEPER, first);
+    let mut user = shared.pass(rt, alloc, 1, second);
+    let mut verdict = None;
+    if let Ok(evidence) = sweeper.look_batch(kind, &[1, item]) {
+        follow_as(alloc, &mut user, between)?;
+        let used = judge(&evidence, 1);
+        let stands = seen(&sweeper.commit(&evidence, 1, used));
+        verdict = stands.map(|stands| (used, stands));
+    }
+    let mut first = sweeper.back();
+    shared.join(&mut first, user.back());
+    match shared.close(first) {
+        Ok(mount) => Ok((verdict, mount)),
+        Err(_) => Err("not closed".into()),
+    }
+}
+
+const PUT: (Ask, &str) = (Ask::Put(LABEL, 0, 1, b'A'), "stored");
+
+/// A new disk of 64 blocks and 16 inodes, of which block 9 was examined.
+fn begun(alloc: Global) -> Result<Mount<MemDisk>, Fail> {
+    examined(alloc, formatted(alloc, 64, 16)?, 9, 10)
+}
+
+#[test]
+fn a_verdict_that_is_committed_late_undoes_no_step(rt: HostRuntime) -> Result<(), Fail> {
+    let alloc = rt.alloc();
+    let made = (Ask::Make(b"a"), "made 3 1099511627776");
+    for (kind, item, between, want) in [
+        (ElementKind::Block, 24, [].as_slice(), Some((false, false))),
+        (
+            ElementKind::Block,
+            24,
+            &[(Ask::SeeBlock(24), "free")],
+            Some((false, false)),
+        ),
+        (ElementKind::Block, 9, &[PUT], Some((false, true))),
+        (ElementKind::Block, 0, &[], Some((true, true))),
+        (ElementKind::Block, 63, &[PUT], Some((false, false))),
+        (ElementKind::Block, 64, &[], None),
+        (ElementKind::Inode, 3, &[], Some((false, false))),
+        (
+            ElementKind::Inode,
+            3,
+            &[(Ask::SeeInode(3), "free"), made],
+            Some((false, true)),
+        ),
+        (ElementKind::Inode, 2, &[], Some((true, true))),
+        (ElementKind::Inode, 0, &[], None),
+        (ElementKind::Inode, 17, &[], None),
+    ] {
+        let (said, _) = late(&rt, alloc, begun(alloc)?, kind, item, between)?;
+        assert_eq!(rt; said, want, "{kind:?} {item}");
+    }
+    Ok(())
+}
+
+fn push_stamps(stamps: &mut Vec<u64>, claims: &Claims) -> Result<(), AllocError> {
+    for pointer in [claims.cell, claims.leaf, claims.top] {
+        if pointer.stamp > 0 {
+            stamps.push(pointer.stamp)?;
+        }
+    }
+    Ok(())
+}
+
+// The stamps of the blocks that were claimed, in order: of each step the cell, the leaf and the top.
+fn claimed(alloc: Global, history: &History) -> Result<Vec<u64>, AllocError> {
+    let mut stamps = Vec::new(alloc);
+    for at in 0..history.len() {
+        if let Some(entry) = history.entry(at) {
+            push_stamps(&mut stamps, &entry.claims)?;
+        }
+    }
+    Ok(stamps)
+}
+
+#[test]
+fn a_block_that_was_freed_since_stays_free(rt: HostRuntime) -> Result<(), Fail> {
+    let alloc = rt.alloc();
+    let mut mount = begun(alloc)?;
+    follow(alloc, &mut mount, &[PUT])?;
+    let freed = [(Ask::Resize(LABEL, 0), "resized")];
+    let (said, mut mount) = late(&rt, alloc, mount, ElementKind::Block, 9, &freed)?;
+    assert_eq!(rt; said, Some((true, false)));
+    let cases = [(Ask::SeeBlock(9), "free"), PUT, (Ask::SeeBlock(9), "used")];
+    follow(alloc, &mut mount, &cases)?;
+    assert_eq!(rt;
+        claimed(alloc, mount.history())?.as_slice(),
+        [S, S + 1].as_slice()
+    );
+    Ok(())
+}
+
+#[test]
+fn what_was_found_free_may_be_claimed(rt: HostRuntime) -> Result<(), Fail> {
+    let alloc = rt.alloc();
+    let mount = mounted(alloc, formatted(alloc, 16, 4)?)?;
+    let (block, mount) = late(&rt, alloc, mount, ElementKind::Block, 15, &[])?;
+    assert_eq!(rt; mount.history().len(), 1);
+    let (inode, mut mount) = late(&rt, alloc, mount, ElementKind::Inode, 4, &[])?;
+    assert_eq!(rt;
+        (block, inode),
+        (Some((false, false)), Some((false, false)))
+    );
+    let counts = mount.counts();
+    assert_eq!(rt; (counts.inodes_free, counts.blocks_free), (1, 1));
+    let cases = [
+        (Ask::Make(b"a"), "made 4 1099511627776"),
+        (Ask::SeeInode(4), "used"),
+        (Ask::SeeBlock(15), "used"),
+        (Ask::SeeBlock(16), "BadRange"),
+        (Ask::SeeInode(0), "BadRange"),
+    ];
+    follow(alloc, &mut mount, &cases)?;
+    assert_eq!(rt;
+        claimed(alloc, mount.history())?.as_slice(),
+        [S + 1].as_slice()
+    );
+    Ok(())
+}
+
+// The disk is full but for block 24. Its 38 entries are those of 19 blocks that were examined, and of 19 puts.
+#[test]
+fn a_verdict_of_a_pass_does_not_undo_a_claim_of_another(rt: HostRuntime) -> Result<(), Fail> {
+    let alloc = rt.alloc();
+    let see = (Ask::SeeBlock(24), "free");
+    let put = (whole(18), "stored");
+    for (between, after, want, free, entries) in [
+        ([].as_slice(), [put].as_slice(), (false, false), 1, 41),
+        (&[see, put], &[], (false, true), 0, 42),
+    ] {
+        let mount = full_below_24(alloc)?;
+        let (said, mut mount) = late(&rt, alloc, mount, ElementKind::Block, 24, between)?;
+        assert_eq!(rt; said, Some(want), "{entries} entries");
+        assert_eq!(rt; mount.counts().blocks_free, free, "{entries} entries");
+        follow(alloc, &mut mount, after)?;
+        assert_eq!(rt; mount.counts().blocks_free, 0);
+        follow(alloc, &mut mount, &[(Ask::SeeBlock(24), "used")])?;
+        assert_eq!(rt; mount.history().len(), entries);
+    }
+    Ok(())
+}
