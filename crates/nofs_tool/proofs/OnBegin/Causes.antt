@@ -41,8 +41,14 @@ refused-by old new why cause told b write read memory is = record {
 faulted : (old new : DiskState) (why : MountFault) → BeginFails old new why → IsCaused old new (mount_cause why)
     → (status_of (mount_cause why) ≢ 3 → KeepsCells old new) → status_of (mount_cause why) ≢ 4
     → IsUnmounted old new (mount_cause why)
-faulted old new why b caused unwritten other =
-  record { why = why; told = refl; fails = b; caused = caused; unwritten = unwritten; table = λ e. absurd (other e) }
+faulted old new why b caused unwritten other = record {
+  why = why;
+  told = refl;
+  fails = b;
+  caused = caused;
+  unwritten = unwritten;
+  table = λ e. absurd (other e);
+}
 
 pub unmounted_by : (old new : DiskState) (why : MountFault) → BeginFails old new why
     → IsUnmounted old new (mount_cause why)
