@@ -3,6 +3,7 @@
 mod asks;
 mod crashes;
 mod instances;
+mod looks;
 mod mounts;
 mod passes;
 mod serving;

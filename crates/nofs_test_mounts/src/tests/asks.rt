@@ -132,8 +132,8 @@ fn names_text(alloc: Global, slot: u64, names: &NameList) -> Result<String, Allo
 }
 
 /// It is an error, of the case of this number, where something else is told of a reply.
-pub fn is_told(alloc: Global, case: usize, reply: &Reply, want: &str) -> Result<(), Fail> {
-    let came = told(alloc, reply)?;
+pub fn is_told(alloc: Global, case: usize, reply: Reply, want: &str) -> Result<(), Fail> {
+    let came = told(alloc, &reply)?;
     if came.as_str() == want {
         return Ok(());
     }
@@ -151,7 +151,7 @@ pub fn follow<D: Disk + Drop>(
 ) -> Result<(), Fail> {
     for (case, (ask, want)) in cases.iter().enumerate() {
         let step = step_of(alloc, *ask)?;
-        is_told(alloc, case, &mount.step(alloc, 1, step), want)?;
+        is_told(alloc, case, mount.step(alloc, 1, step), want)?;
     }
     Ok(())
 }
@@ -160,7 +160,7 @@ pub fn follow<D: Disk + Drop>(
 pub fn follow_as<S: Steps>(alloc: Global, user: &mut S, cases: Cases) -> Result<(), Fail> {
     for (case, (ask, want)) in cases.iter().enumerate() {
         let step = step_of(alloc, *ask)?;
-        is_told(alloc, case, &user.step(step), want)?;
+        is_told(alloc, case, user.step(step), want)?;
     }
     Ok(())
 }

@@ -130,7 +130,7 @@ fn read_after(alloc: Global, disk: &MemDisk, number: usize) -> Result<(), Fail> 
     let mut mount = examined(alloc, image(alloc, disk, crash)?, 0, 16)?;
     for (ask, want) in reads(crash) {
         let step = step_of(alloc, ask)?;
-        is_told(alloc, number, &mount.step(alloc, 1, step), want)?;
+        is_told(alloc, number, mount.step(alloc, 1, step), want)?;
     }
     Ok(())
 }

@@ -116,7 +116,7 @@ fn outs_with_little_memory<R: Wait>(rt: &R, alloc: Global) -> Result<([u64; 2], 
         return Err("no evidence".into());
     };
     let stands = user.commit(&evidence, 0, judge(&evidence, 0));
-    is_told(alloc, 0, &stands, "free")?;
+    is_told(alloc, 0, stands, "free")?;
     let committed = flusher.write_out();
     follow_as(alloc, &mut user, &[(Ask::SeeBlock(13), "free")])?;
     Ok((puts, [idle, committed, flusher.write_out()]))
