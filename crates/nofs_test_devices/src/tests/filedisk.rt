@@ -150,7 +150,7 @@ fn what_could_not_be_put_is_put_by_the_next_flush(rt: HostRuntime) -> Result<(),
 
 /// How many calls of a file with so many blocks of bytes 5 a script costs.
 fn calls_of(alloc: Global, blocks: usize, script: &str) -> Result<u64, Fail> {
-    let bytes = vec![in alloc; 5u8; blocks * 1056]?;
+    let bytes = vec![in alloc; 5u8; blocks.saturating_mul(1056)]?;
     let file = MemFile::new(alloc, bytes.as_slice(), 1 << 30, &[])?;
     let mut disk = FileDisk::over(alloc, file)?;
     follow(&mut disk, script)?;
