@@ -23,17 +23,21 @@ pub fn mounted<D: Disk + Drop>(alloc: Global, disk: D) -> Result<Mount<D>, Fail>
     }
 }
 
+fn examine(alloc: Global, mount: &mut Mount<MemDisk>, block: u64) {
+    mount.step(alloc, BLOCK_SWEEPER, Step::SeeBlock { block });
+}
+
 /// A mount of a disk, of which these blocks were examined.
 pub fn examined(alloc: Global, disk: MemDisk, from: u64, to: u64) -> Result<Mount<MemDisk>, Fail> {
     let mut mount = mounted(alloc, disk)?;
     for block in from..to {
-        mount.step(alloc, BLOCK_SWEEPER, Step::SeeBlock { block });
+        examine(alloc, &mut mount, block);
     }
     Ok(mount)
 }
 
 /// A whole slot of the label file.
-pub fn whole(slot: u64) -> Ask {
+fn whole(slot: u64) -> Ask {
     Ask::Put(LABEL, slot, 1024, b'A')
 }
 

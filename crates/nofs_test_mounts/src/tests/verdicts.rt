@@ -1,6 +1,6 @@
 //! Verdicts of a pass that are committed after steps of another pass.
 use crate::tests::asks::{Ask, Cases, LABEL, S, follow, follow_as};
-use crate::tests::mounts::{examined, full_below_24, mounted, two_passes, whole};
+use crate::tests::mounts::{examined, full_below_24, mounted, two_passes};
 use nofs_history::{BLOCK_SWEEPER, Claims, ElementKind, History, Reply};
 use nofs_memdisk::MemDisk;
 use nofs_scan::judge;
@@ -55,6 +55,18 @@ fn begun(alloc: Global) -> Result<Mount<MemDisk>, Fail> {
     examined(alloc, formatted(alloc, 64, 16)?, 9, 10)
 }
 
+// The same at a mount that was begun.
+fn late_verdict<R: Wait>(
+    rt: &R,
+    alloc: Global,
+    kind: ElementKind,
+    item: u64,
+    between: Cases,
+) -> Result<Option<(bool, bool)>, Fail> {
+    let (verdict, _) = late(rt, alloc, begun(alloc)?, kind, item, between)?;
+    Ok(verdict)
+}
+
 #[test]
 fn a_verdict_that_is_committed_late_undoes_no_step(rt: HostRuntime) -> Result<(), Fail> {
     let alloc = rt.alloc();
@@ -82,8 +94,8 @@ fn a_verdict_that_is_committed_late_undoes_no_step(rt: HostRuntime) -> Result<()
         (ElementKind::Inode, 0, &[], None),
         (ElementKind::Inode, 17, &[], None),
     ] {
-        let (said, _) = late(&rt, alloc, begun(alloc)?, kind, item, between)?;
-        assert_eq!(rt; said, want, "{kind:?} {item}");
+        let verdict = late_verdict(&rt, alloc, kind, item, between)?;
+        assert_eq!(rt; verdict, want, "{kind:?} {item}");
     }
     Ok(())
 }
@@ -153,24 +165,32 @@ fn what_was_found_free_may_be_claimed(rt: HostRuntime) -> Result<(), Fail> {
     Ok(())
 }
 
-// The disk is full but for block 24. Its 38 entries are those of 19 blocks that were examined, and of 19 puts.
+// A late verdict on block 24 of a disk that is full but for it, how many blocks are free when it is committed and after
+// further steps, with which the block is used, and how many entries there are then.
+fn late_on_24<R: Wait>(
+    rt: &R,
+    alloc: Global,
+    before: Cases,
+    after: Cases,
+) -> Result<(Option<(bool, bool)>, [u64; 2], u64), Fail> {
+    let mount = full_below_24(alloc)?;
+    let (verdict, mut mount) = late(rt, alloc, mount, ElementKind::Block, 24, before)?;
+    let free = mount.counts().blocks_free;
+    follow(alloc, &mut mount, after)?;
+    let left = mount.counts().blocks_free;
+    follow(alloc, &mut mount, &[(Ask::SeeBlock(24), "used")])?;
+    Ok((verdict, [free, left], mount.history().len()))
+}
+
+// The first 38 entries are those of 19 blocks that were examined, and of 19 puts.
 #[test]
 fn a_verdict_of_a_pass_does_not_undo_a_claim_of_another(rt: HostRuntime) -> Result<(), Fail> {
     let alloc = rt.alloc();
     let see = (Ask::SeeBlock(24), "free");
-    let put = (whole(18), "stored");
-    for (between, after, want, free, entries) in [
-        ([].as_slice(), [put].as_slice(), (false, false), 1, 41),
-        (&[see, put], &[], (false, true), 0, 42),
-    ] {
-        let mount = full_below_24(alloc)?;
-        let (said, mut mount) = late(&rt, alloc, mount, ElementKind::Block, 24, between)?;
-        assert_eq!(rt; said, Some(want), "{entries} entries");
-        assert_eq!(rt; mount.counts().blocks_free, free, "{entries} entries");
-        follow(alloc, &mut mount, after)?;
-        assert_eq!(rt; mount.counts().blocks_free, 0);
-        follow(alloc, &mut mount, &[(Ask::SeeBlock(24), "used")])?;
-        assert_eq!(rt; mount.history().len(), entries);
-    }
+    let put = (Ask::Put(LABEL, 18, 1024, b'A'), "stored");
+    let claimed_after = late_on_24(&rt, alloc, &[], &[put])?;
+    assert_eq!(rt; claimed_after, (Some((false, false)), [1, 0], 41));
+    let claimed_before = late_on_24(&rt, alloc, &[see, put], &[])?;
+    assert_eq!(rt; claimed_before, (Some((false, true)), [0, 0], 42));
     Ok(())
 }

@@ -166,22 +166,9 @@ fn give_and_mix_nothing<R: Threads + Wait + Sync + Abort + AllocGlobal>(
 }
 
 #[test]
-fn the_first_chains_of_lives_give_no_number_twice_and_mix_no_files(
-    rt: HostRuntime,
-) -> Result<(), Fail> {
-    give_and_mix_nothing(&rt, 1, 17)
-}
-
-#[test]
-fn the_second_chains_of_lives_give_no_number_twice_and_mix_no_files(
-    rt: HostRuntime,
-) -> Result<(), Fail> {
-    give_and_mix_nothing(&rt, 101, 17)
-}
-
-#[test]
-fn the_third_chains_of_lives_give_no_number_twice_and_mix_no_files(
-    rt: HostRuntime,
-) -> Result<(), Fail> {
-    give_and_mix_nothing(&rt, 201, 16)
+fn chains_of_lives_give_no_number_twice_and_mix_no_files(rt: HostRuntime) -> Result<(), Fail> {
+    for (first, chains) in [(1, 17), (101, 17), (201, 16)] {
+        give_and_mix_nothing(&rt, first, chains)?;
+    }
+    Ok(())
 }
