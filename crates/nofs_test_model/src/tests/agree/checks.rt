@@ -70,8 +70,8 @@ fn agreed_text(alloc: Global, inode: u32, agreed: Option<bool>) -> Result<String
     }
 }
 
-// The answer of the check that keeps what it finds, where that is told from then on; nothing is told of an inode that is
-// not there.
+// The answer of the check that keeps what it finds, where that is told from then on; nothing is told of an inode that
+// is not there.
 fn kept(answer: Result<bool, Failed>, told: Option<bool>, is_there: bool) -> Option<bool> {
     let agreed = answer.ok()?;
     (told == is_there.then_some(agreed)).then_some(agreed)
