@@ -60,9 +60,9 @@ fn run_turn<R: Threads + Wait + Sync>(
     images: &[&str],
     body: &[&str],
 ) -> Result<u64, Failure> {
-    let (lines, behind) = body.split_at(place_of(body, "images "));
-    stage.obey_all(rt, images, lines)?;
-    let Some((line, lines)) = behind.split_first() else {
+    let place = place_of(body, "images ");
+    stage.obey_all(rt, images, body.get(..place).unwrap_or(body))?;
+    let Some((line, lines)) = body.get(place..).unwrap_or(&[]).split_first() else {
         return Ok(0);
     };
     match stage.disk.take() {
