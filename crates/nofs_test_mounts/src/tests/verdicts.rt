@@ -67,35 +67,76 @@ fn late_verdict<R: Wait>(
     Ok(verdict)
 }
 
+/// What another pass does before a verdict is committed.
+#[derive(Clone, Copy, Debug)]
+enum Between {
+    Nothing,
+    SeesBlock24,
+    Puts,
+    Makes,
+}
+
+fn late_verdict_after<R: Wait>(
+    rt: &R,
+    alloc: Global,
+    kind: ElementKind,
+    item: u64,
+    between: Between,
+) -> Result<Option<(bool, bool)>, Fail> {
+    match between {
+        Between::Nothing => late_verdict(rt, alloc, kind, item, &[]),
+        Between::SeesBlock24 => {
+            late_verdict(rt, alloc, kind, item, &[(Ask::SeeBlock(24), "free")])
+        }
+        Between::Puts => late_verdict(rt, alloc, kind, item, &[PUT]),
+        Between::Makes => {
+            let made = (Ask::Make(b"a"), "made 3 1099511627776");
+            late_verdict(rt, alloc, kind, item, &[(Ask::SeeInode(3), "free"), made])
+        }
+    }
+}
+
+/// Blocks, and whether each is found used, and stands as used when that is committed.
+const BLOCKS: [(u64, Between, Option<(bool, bool)>); 6] = [
+    (24, Between::Nothing, Some((false, false))),
+    (24, Between::SeesBlock24, Some((false, false))),
+    (9, Between::Puts, Some((false, true))),
+    (0, Between::Nothing, Some((true, true))),
+    (63, Between::Puts, Some((false, false))),
+    (64, Between::Nothing, None),
+];
+
+/// The same of inodes.
+const INODES: [(u64, Between, Option<(bool, bool)>); 5] = [
+    (3, Between::Nothing, Some((false, false))),
+    (3, Between::Makes, Some((false, true))),
+    (2, Between::Nothing, Some((true, true))),
+    (0, Between::Nothing, None),
+    (17, Between::Nothing, None),
+];
+
+/// It is an error where the verdict on an element is another one.
+fn is_late_verdict<R: Wait>(
+    rt: &R,
+    alloc: Global,
+    kind: ElementKind,
+    case: (u64, Between, Option<(bool, bool)>),
+) -> Result<(), Fail> {
+    let (item, between, want) = case;
+    let verdict = late_verdict_after(rt, alloc, kind, item, between)?;
+    if verdict == want {
+        return Ok(());
+    }
+    Err(Fail::new(format_args!("{kind:?} {item} after {between:?}: {verdict:?}, not {want:?}")))
+}
+
 #[test]
 fn a_verdict_that_is_committed_late_undoes_no_step(rt: HostRuntime) -> Result<(), Fail> {
-    let alloc = rt.alloc();
-    let made = (Ask::Make(b"a"), "made 3 1099511627776");
-    for (kind, item, between, want) in [
-        (ElementKind::Block, 24, [].as_slice(), Some((false, false))),
-        (
-            ElementKind::Block,
-            24,
-            &[(Ask::SeeBlock(24), "free")],
-            Some((false, false)),
-        ),
-        (ElementKind::Block, 9, &[PUT], Some((false, true))),
-        (ElementKind::Block, 0, &[], Some((true, true))),
-        (ElementKind::Block, 63, &[PUT], Some((false, false))),
-        (ElementKind::Block, 64, &[], None),
-        (ElementKind::Inode, 3, &[], Some((false, false))),
-        (
-            ElementKind::Inode,
-            3,
-            &[(Ask::SeeInode(3), "free"), made],
-            Some((false, true)),
-        ),
-        (ElementKind::Inode, 2, &[], Some((true, true))),
-        (ElementKind::Inode, 0, &[], None),
-        (ElementKind::Inode, 17, &[], None),
-    ] {
-        let verdict = late_verdict(&rt, alloc, kind, item, between)?;
-        assert_eq!(rt; verdict, want, "{kind:?} {item}");
+    for case in BLOCKS {
+        is_late_verdict(&rt, rt.alloc(), ElementKind::Block, case)?;
+    }
+    for case in INODES {
+        is_late_verdict(&rt, rt.alloc(), ElementKind::Inode, case)?;
     }
     Ok(())
 }
