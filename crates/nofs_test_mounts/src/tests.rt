@@ -1,11 +1,8 @@
 //! The tests, by what they test, with what they share.
 
-mod asks;
-mod crashes;
-mod instances;
-mod looks;
 mod mounts;
-mod passes;
+mod refusals;
 mod serving;
-mod verdicts;
+mod sharing;
+mod steps;
 mod write_outs;

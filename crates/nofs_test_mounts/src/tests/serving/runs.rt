@@ -1,14 +1,13 @@
-//! Runs of two users at a mount.
+//! Runs of two users at a mount of a new disk of 64 blocks and 16 inodes.
 ghost use Rattle.std.specs.Prelude.{◌≤◌, All, IfOk, vec_len};
 ghost use Rattle.nofs_client.specs.Task.Commands.{AreWellFormed};
 ghost use Rattle.nofs_script.specs.Session.{IsSession};
 
-use crate::tests::asks::told;
 use nofs_client::{CommandList, LineList};
 use nofs_disk::Disk;
-use nofs_history::History;
+use nofs_history::{BLOCK_SWEEPER, History, INODE_SWEEPER};
 use nofs_script::{Session, line_text, parse};
-use nofs_serve::{Plan, Sweeps, WriteOuts, serve};
+use nofs_serve::{Plan, Served, Sweeps, WriteOuts, serve};
 use nofs_shared::Mount;
 use nofs_workers::Gate;
 use std::alloc::{AllocError, Global};
@@ -59,31 +58,31 @@ pub(crate) fn plans_of<T: Drop>(
     Ok(plans)
 }
 
-/// What two users were told, and the mount then.
+/// What two users were told, and who made steps meanwhile.
 #[derive(Drop)]
-pub struct RunOutput<D: Disk + Drop> {
+pub struct RunOutput {
     /// The text of all lines, the first user's first.
     pub text: Vec<u8>,
-    pub mount: Mount<D>,
+    /// The caller of each entry.
+    pub callers: Vec<u32>,
     pub out_of_memory: bool,
 }
 
-/// Serves users at a mount, each with a gate, beside both sweeps, of so many inodes and blocks, and a flusher of 64
-/// turns, each with one too.
+/// Serves users at a mount of 64 blocks and 16 inodes, each with a gate, beside both sweeps and a flusher
+/// of 64 turns, each with one too.
 pub(crate) fn run_of<R: Threads + Wait + Sync, D: Disk + Drop + Send, T: Gate + Send + Drop>(
     rt: &R,
     alloc: Global,
     mount: Mount<D>,
     plans: Vec<Plan<T>>,
-    swept: (u32, u64),
     gates: (T, T, T),
-) -> Result<RunOutput<D>, AllocError>
+) -> Result<RunOutput, AllocError>
     requires few { vec_len plans ≤ 8 }
     requires formed { All (λ p. AreWellFormed p.commands) plans.items }
 {
     let sweeps = Sweeps {
-        inodes: u64::from(swept.0),
-        blocks: swept.1,
+        inodes: 16,
+        blocks: 64,
         gates: (gates.0, gates.1),
     };
     let outs = WriteOuts {
@@ -91,11 +90,23 @@ pub(crate) fn run_of<R: Threads + Wait + Sync, D: Disk + Drop + Send, T: Gate + 
         gate: gates.2,
     };
     let served = serve(rt, alloc, mount, plans, sweeps, outs);
-    Ok(RunOutput {
-        text: text_of(alloc, &served.lines)?,
-        mount: served.mount,
-        out_of_memory: served.out_of_memory,
-    })
+    told_of(alloc, served)
+}
+
+fn told_of<D: Disk + Drop>(
+    alloc: Global,
+    served: Served<Mount<D>>,
+) -> Result<RunOutput, AllocError> {
+    let text = text_of(alloc, &served.lines);
+    let callers = callers_of(alloc, served.mount.history());
+    match (text, callers) {
+        (Ok(text), Ok(callers)) => Ok(RunOutput {
+            text,
+            callers,
+            out_of_memory: served.out_of_memory,
+        }),
+        _ => Err(AllocError),
+    }
 }
 
 fn text_of(alloc: Global, users: &[LineList]) -> Result<Vec<u8>, AllocError> {
@@ -113,29 +124,24 @@ fn add_text(alloc: Global, lines: &LineList, text: &mut Vec<u8>) -> Result<(), A
     Ok(())
 }
 
-/// How many entries are of steps that these callers made.
-pub(crate) fn count_of(history: &History, callers: &[u32]) -> u64 {
-    let mut count = 0u64;
+fn callers_of(alloc: Global, history: &History) -> Result<Vec<u32>, AllocError> {
+    let mut callers = Vec::new(alloc);
     for at in 0..history.len() {
-        match history.entry(at) {
-            Some(it) if callers.contains(&it.caller) => count = count.saturating_add(1),
-            _ => {}
+        if let Some(entry) = history.entry(at) {
+            callers.push(entry.caller)?;
         }
     }
-    count
+    Ok(callers)
 }
 
-/// What is told of the replies to the steps that a caller made, a line each.
-pub(crate) fn told_to(alloc: Global, history: &History, caller: u32) -> Result<String, AllocError> {
-    let mut text = String::new(alloc);
-    for at in 0..history.len() {
-        match history.entry(at) {
-            Some(it) if it.caller == caller => {
-                text.push_str(told(alloc, &it.reply)?.as_str())?;
-                text.push_str("\n")?;
-            }
-            _ => {}
-        }
-    }
-    Ok(text)
+/// Whether each of these is a user of two or a sweep.
+pub(crate) fn are_of_team(callers: &Vec<u32>) -> bool {
+    callers
+        .iter()
+        .all(|by| matches!(*by, 1 | 2 | INODE_SWEEPER | BLOCK_SWEEPER))
+}
+
+/// How often a caller is among these.
+pub(crate) fn count_of(callers: &Vec<u32>, caller: u32) -> usize {
+    callers.iter().filter(|by| **by == caller).count()
 }

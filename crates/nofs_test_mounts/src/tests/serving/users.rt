@@ -1,11 +1,11 @@
 //! Two users at once, with gates that hold and count, and the entries that they leave.
 
-use crate::tests::asks::{Ask, step_of};
 use crate::tests::mounts::mounted;
 use crate::tests::serving::gates::{Hold, Marks};
-use crate::tests::serving::runs::{count_of, plans_of, run_of, script, told_to};
-use nofs_history::{BLOCK_SWEEPER, Entry1, INODE_SWEEPER, PROGRAM};
-use nofs_test_disks::{cached, formatted};
+use crate::tests::serving::runs::{are_of_team, count_of, plans_of, run_of, script};
+use nofs_cache::Cached;
+use nofs_history::{BLOCK_SWEEPER, INODE_SWEEPER};
+use nofs_test_disks::formatted;
 use nofs_workers::OpenGate;
 use std::sync::atomic::Ordering;
 use std::test::Fail;
@@ -31,8 +31,8 @@ fn user_1_waits_for_the_first_reply_of_user_2(rt: HostRuntime) -> Result<(), Fai
     let scripts = (script(alloc, stat)?, script(alloc, stat)?);
     let plans = plans_of(alloc, scripts, gates)?;
     let open = (Hold::open(&marks), Hold::open(&marks), Hold::open(&marks));
-    let mount = mounted(alloc, formatted(alloc, 64, 16)?)?;
-    let told = run_of(&rt, alloc, mount, plans, (16, 64), open)?;
+    let mount = mounted(alloc, formatted(alloc, 64, 16)?, 0)?;
+    let told = run_of(&rt, alloc, mount, plans, open)?;
     assert!(rt; !told.out_of_memory);
     assert_eq!(rt;
         told.text.as_slice(),
@@ -56,63 +56,33 @@ const BOTH: &[u8] = b"made\nmade\nput 12\nsynced\nrenamed\nnames lib.rs\n\
     made\nmade\nput 5\nlinked\ndropped\ngot bytes:7465787400\nnames b\n";
 
 #[test]
-fn a_flusher_over_a_cache_makes_no_entry(rt: HostRuntime) -> Result<(), Fail> {
+fn two_users_are_answered_the_same_in_a_hundred_runs(rt: HostRuntime) -> Result<(), Fail> {
     let alloc = rt.alloc();
-    let scripts = (script(alloc, ONE)?, script(alloc, TWO)?);
-    let plans = plans_of(alloc, scripts, (OpenGate, OpenGate))?;
-    let mount = mounted(alloc, cached(alloc, formatted(alloc, 64, 16)?)?)?;
-    let open = (OpenGate, OpenGate, OpenGate);
-    let told = run_of(&rt, alloc, mount, plans, (16, 64), open)?;
-    assert_eq!(rt; told.text.as_slice(), BOTH);
-    let history = told.mount.history();
-    for (callers, count) in [
-        ([INODE_SWEEPER].as_slice(), 16),
-        (&[BLOCK_SWEEPER], 64),
-        (&[1, 2, INODE_SWEEPER, BLOCK_SWEEPER], history.len()),
-    ] {
-        assert_eq!(rt; count_of(history, callers), count, "callers {callers:?}");
+    for run in 0..100 {
+        let scripts = (script(alloc, ONE)?, script(alloc, TWO)?);
+        let plans = plans_of(alloc, scripts, (OpenGate, OpenGate))?;
+        let open = (OpenGate, OpenGate, OpenGate);
+        let mount = mounted(alloc, formatted(alloc, 64, 16)?, 0)?;
+        let told = run_of(&rt, alloc, mount, plans, open)?;
+        assert_eq!(rt; told.text.as_slice(), BOTH, "run {run}");
     }
     Ok(())
 }
 
-// User 1 sizes the label file, which is a step, and gets a slot, which is two: the size is asked first. User 2 flushes.
 #[test]
-fn two_users_and_the_last_flush_stand_in_the_history(rt: HostRuntime) -> Result<(), Fail> {
+fn a_flusher_over_a_cache_makes_no_entry(rt: HostRuntime) -> Result<(), Fail> {
     let alloc = rt.alloc();
-    let scripts = (
-        script(alloc, b"size @ 9\nget @ 0 9\n")?,
-        script(alloc, b"fsync @\n")?,
-    );
+    let scripts = (script(alloc, ONE)?, script(alloc, TWO)?);
     let plans = plans_of(alloc, scripts, (OpenGate, OpenGate))?;
-    let mount = mounted(alloc, formatted(alloc, 16, 4)?)?;
-    let open = (OpenGate, OpenGate, OpenGate);
-    let told = run_of(&rt, alloc, mount, plans, (0, 0), open)?;
-    let text = b"sized 9\ngot hole:9\nsynced\n";
-    assert_eq!(rt; told.text.as_slice(), text.as_slice());
-    let mut mount = told.mount;
-    let flush = step_of(alloc, Ask::Flush)?;
-    mount.step(alloc, PROGRAM, flush);
-    let history = mount.history();
-    for (caller, want) in [
-        (1, "resized\nFile 9 0\nhole\n"),
-        (2, "flushed\n"),
-        (PROGRAM, "flushed\n"),
-    ] {
-        assert_eq!(rt;
-            told_to(alloc, history, caller)?.as_str(),
-            want,
-            "caller {caller}"
-        );
+    let Ok(disk) = Cached::new(alloc, formatted(alloc, 64, 16)?) else {
+        panic!(rt; "no cache")
+    };
+    let mount = mounted(alloc, disk, 0)?;
+    let told = run_of(&rt, alloc, mount, plans, (OpenGate, OpenGate, OpenGate))?;
+    assert_eq!(rt; told.text.as_slice(), BOTH);
+    assert!(rt; are_of_team(&told.callers));
+    for (caller, count) in [(INODE_SWEEPER, 16), (BLOCK_SWEEPER, 64)] {
+        assert_eq!(rt; count_of(&told.callers, caller), count, "caller {caller}");
     }
-    assert_eq!(rt; history.len(), 5);
-    assert!(rt;
-        matches!(
-            history.entry(4),
-            Some(Entry1 {
-                caller: PROGRAM,
-                ..
-            })
-        )
-    );
     Ok(())
 }

@@ -26,11 +26,18 @@ fn found_in(alloc: Global, made: Result<Mount<MemDisk>, Unmade>) -> Option<(u64,
 }
 
 #[test]
-fn each_mount_is_made_and_has_the_bytes(rt: HostRuntime) {
+fn the_mount_is_made_and_has_the_bytes(rt: HostRuntime) {
     let alloc = rt.alloc();
-    let put = found_in(alloc, formatted_put(alloc));
-    assert_eq!(rt; put, Some((2, true)), "a new disk");
-    let left = found_in(alloc, second_mount(alloc));
-    assert_eq!(rt; left, Some((0, true)), "what a crash left");
-    assert!(rt; two_mounts(alloc).is_ok(), "both");
+    assert_eq!(rt; found_in(alloc, formatted_put(alloc)), Some((2, true)));
+}
+
+#[test]
+fn the_mount_of_what_a_crash_left_has_the_bytes_and_no_entry(rt: HostRuntime) {
+    let alloc = rt.alloc();
+    assert_eq!(rt; found_in(alloc, second_mount(alloc)), Some((0, true)));
+}
+
+#[test]
+fn both_mounts_are_made(rt: HostRuntime) {
+    assert!(rt; two_mounts(rt.alloc()).is_ok());
 }
