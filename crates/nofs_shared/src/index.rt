@@ -1,7 +1,7 @@
 //! An index of names that were found, each with what a Look of it answers.
 //!
 //! Promise: where each line was true of the machine's files, so is all that the index tells. Whoever has an index
-//! notes each step in it: one that may change which names are found takes all lines out. Without memory there are
+//! notes each step in it: one after which a name may find something else takes all lines out. Without memory there are
 //! fewer lines.
 ghost use Rattle.std.specs.Prelude.{◌≡◌, IfSome};
 ghost use Rattle.nofs_model.specs.Files.{Files};
@@ -183,23 +183,24 @@ fn is_refused(reply: &Reply) -> bool
     matches!(reply, Reply::Refused(_))
 }
 
-// Whether a step with this reply may change which names are found.
+// Whether after a step with this reply a name may no longer find what it found.
 fn moves_names(step: &Step, reply: &Reply) -> bool
     ensures { result ≡ moves_names step.now reply.now }
 {
     match step {
-        Step::Make { .. } => !is_refused(reply),
-        Step::Link { .. } => !is_refused(reply),
         Step::Drop { .. } => !is_refused(reply),
         Step::Rename { .. } => !is_refused(reply),
-        Step::Look { .. } => false,
-        Step::List { .. } => false,
-        Step::Get { .. } => false,
-        Step::Put { .. } => false,
-        Step::Resize { .. } => false,
-        Step::Stat { .. } => false,
-        Step::Flush { .. } => false,
-        Step::SeeInode { .. } => false,
-        Step::SeeBlock { .. } => false,
+        // A name that is made found nothing before, and leaves all others.
+        Step::Make { .. }
+        | Step::Link { .. }
+        | Step::Look { .. }
+        | Step::List { .. }
+        | Step::Get { .. }
+        | Step::Put { .. }
+        | Step::Resize { .. }
+        | Step::Stat { .. }
+        | Step::Flush { .. }
+        | Step::SeeInode { .. }
+        | Step::SeeBlock { .. } => false,
     }
 }

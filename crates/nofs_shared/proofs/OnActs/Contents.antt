@@ -1,7 +1,14 @@
--- The steps whose replies have the content of a slot.
-use Rattle.std.proofs.Common.{◌≡◌, ℕ, true, List, refl}
+-- The steps whose replies have the content of a slot, and those that found no memory.
+use Rattle.std.proofs.Common.{◌≡◌, ◌⊎◌, inl, inr, ℕ, true, false, List, refl, subst}
 use Rattle.std.specs.Prelude.{Result, Ok, Err, OnOk}
-use Rattle.nofs_history.specs.Steps.{Fits}
+use Rattle.nofs_disk.specs.Disk.{DiskState}
+use Rattle.nofs_history.specs.Claims.{no_claims}
+use Rattle.nofs_history.specs.Steps.{Fits, is_out_of_memory}
+use Rattle.nofs_history.specs.declared.machine.history.Claims.{Claims}
+use Rattle.nofs_history.specs.declared.machine.replies.Reply.{Reply}
+use Rattle.nofs_history.specs.declared.machine.replies.Refusal.TheVariants as refusal
+use Rattle.nofs_state.specs.Cores.Steps.{Goes}
+use Rattle.nofs_state.specs.declared.books.maps.Books.{Books}
 use Rattle.nofs_history.specs.declared.machine.replies.NameLine.{NameLine}
 use Rattle.nofs_history.specs.declared.machine.replies.Refusal.{Refusal}
 use Rattle.nofs_history.specs.declared.machine.replies.Reply.TheVariants as reply
@@ -27,6 +34,25 @@ pub see-reads-none : (s : Step) → is_see s ≡ true → reads_content s ≡ tr
 see-reads-none (step.SeeInode i) see reads = cc reads
 see-reads-none (step.SeeBlock b) see reads = cc reads
 see-reads-none _ see reads = cc see
+
+-- and memory is not wanting for it
+pub see-has-memory : (s : Step) (r : Reply) → is_see s ≡ true → (is_see s ≡ true → is_out_of_memory r ≡ false)
+    → (reads_content s ≡ true) ⊎ (is_out_of_memory r ≡ true) → ⊥
+see-has-memory s r see has (inl reads) = see-reads-none s see reads
+see-has-memory s r see has (inr mem) = let had = has see in cc (had, mem)
+
+-- a step without memory, or without memory for its entry, goes as one that found none
+memory-is : (r : Reply) → is_out_of_memory r ≡ true → r ≡ reply.Refused refusal.OutOfMemory
+memory-is (reply.Refused refusal.OutOfMemory) e = refl
+memory-is _ e = cc e
+
+pub goes-unmade : (old new : DiskState) (k l : Books) (s : Step) (c : Claims) (r : Reply) → Goes old k new l s c r
+    → (reads_content s ≡ true → Goes old k new l s no_claims (reply.Refused refusal.OutOfMemory))
+    → (reads_content s ≡ true) ⊎ (is_out_of_memory r ≡ true)
+    → (of : Claims) × Goes old k new l s of (reply.Refused refusal.OutOfMemory)
+goes-unmade old new k l s c r goes reads (inl content) = (no_claims, reads content)
+goes-unmade old new k l s c r goes reads (inr mem) =
+    (c, subst (λ (x : Reply). Goes old k new l s c x) (memory-is r mem) goes)
 
 -- a Flush that was made has settled the disk
 pub flush-settles : (P : Type 0) (done : Result (Unit {0}) Refusal) → OnOk done P → flush_answer done ≡ reply.Flushed

@@ -10,8 +10,7 @@ use Rattle.nofs_history.specs.declared.machine.replies.Found.{Found}
 use Rattle.nofs_shared.specs.declared.index.Index.{Index}
 use Rattle.nofs_shared.specs.declared.index.Line.{Line}
 use Rattle.nofs_shared.specs.Index.Lines.{AllTrue, IsTrueLine}
-use Rattle.nofs_shared.specs.Index.Names.{Finds, only_names}
-use Rattle.nofs_shared.proofs.OnIndex.Names.{finds-on}
+use Rattle.nofs_shared.specs.Index.Names.{Finds}
 
 abbrev Lines : Type 0
 Lines = HashMap ℕ Line (BuildHasherDefault FoldHasher)
@@ -47,7 +46,9 @@ put-line m n code line (Ok old) up err F all new c l at = go (nat_eq code c) ref
 put-line m n code line (Err e) up err F all new c l at =
     all c l (let same : n.entries ≡ m.entries = err in cc (same, at))
 
--- the lines stay true where the named parts stay
-pub all-true-on : (F G : Files) (index : Index) → only_names G ≡ only_names F → AllTrue F index → AllTrue G index
-all-true-on F G index same all code line at =
-    finds-on F G line.directory line.generation line.name line.found same (all code line at)
+-- the lines stay true where what is found stays found
+pub all-true-on : (F G : Files) (index : Index)
+    → ((d g : ℕ) (name : List ℕ) (it : Found) → Finds F d g name it → Finds G d g name it) → AllTrue F index
+    → AllTrue G index
+all-true-on F G index stays all code line at =
+    stays line.directory line.generation line.name line.found (all code line at)

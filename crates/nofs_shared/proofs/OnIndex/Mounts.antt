@@ -2,7 +2,7 @@
 use Rattle.std.proofs.Common.{◌≡◌, ℕ, ◌-◌, ◌⊎◌, inl, inr, Bool, true, false, ◌||◌, List, [], ◌∷◌, ◌++◌, length}
 use Rattle.std.proofs.Common.{length-append, Some, refl, sym, ap, ◌∙◌, subst, arith}
 use Rattle.std.specs.Prelude.{slice_get, slice_set}
-use Rattle.nofs_disk.specs.Disk.{DiskState}
+use Rattle.nofs_disk.specs.Disk.{DiskState, IsDisk}
 use Rattle.nofs_super.specs.Format.{super_cell}
 use Rattle.nofs_super.specs.declared.superblock.SuperBlock.{SuperBlock}
 use Rattle.nofs_model.specs.Geometry.{Image}
@@ -30,7 +30,9 @@ use Rattle.nofs_shared.specs.Mount.Entries.{AddsStep}
 use Rattle.nofs_shared.specs.Mount.Forms.{Forms}
 use Rattle.nofs_shared.specs.Mount.Invariant.{IsMount, IsSoundDisk}
 use Rattle.nofs_shared.proofs.OnIndex.Lines.{all-true-on}
-use Rattle.nofs_shared.proofs.OnIndex.Names.{answered-next, next-part}
+use Rattle.nofs_shared.proofs.OnIndex.Bases.{world-sane}
+use Rattle.nofs_shared.proofs.OnIndex.Names.{answered-next}
+use Rattle.nofs_shared.proofs.OnIndex.Steps.{names-stay}
 use Rattle.nofs_shared.proofs.OnMount.Histories.{mount-history}
 
 -- The last entry of a run
@@ -104,10 +106,11 @@ module _ (found d e : DiskState) (first : ℕ) (k l : Books) (m : IsMount found 
             m.forms (subst (λ (H : List Entry1). Forms l.history.start false H e.moment l.stopped) same n.forms) ∙ going
 
     -- a step was made, and the index noted it
-    pub index-noted : (index after : Index) (x : Entry1) → l.history.entries ≡ k.history.entries ++ x ∷ []
+    pub index-noted : (index after : Index) (x : Entry1) → IsDisk found
+        → l.history.entries ≡ k.history.entries ++ x ∷ []
         → ((F G : Files) → AllTrue F index → NamesGoOn F G x.step x.reply → AllTrue G after)
         → IsTrueIndex found d k index → IsTrueIndex found e l after
-    index-noted index after x all notes t q going = go (n.stands q).past (n.stands q).base (n.stands q).now
+    index-noted index after x is all notes t q going = go (n.stands q).past (n.stands q).base (n.stands q).now
       where
         before : k.stopped ≡ false
         before = forms-before k.history.entries x l.history.start e.moment k.history.start d.moment false l.stopped
@@ -128,34 +131,23 @@ module _ (found d e : DiskState) (first : ℕ) (k l : Books) (m : IsMount found 
             o.files ∙ ap (λ (B : Image). files_along (agreed_files B) l.history.entries) base in
             subst (λ (F : Files). AllTrue F after) new
             (notes r.0.files p.world.files (subst (λ (F : Files). AllTrue F index) (sym old) (t q before)) (record {
-              same = next-part r.0 p.world x r.2;
+              stays = names-stay r.0 p.world x
+                  (world-sane found e first l is n q p base o k.history.entries r.0 r.1) r.2;
               answered = answered-next r.0 p.world x r.2;
             }))
 
-    -- either, by what a step adds
-    pub index-after : (index after : Index) (caller : ℕ) (s : Step) (r : Reply)
-        → AddsStep caller s r k.history.entries l.history.entries
-        → (is_out_of_memory r ≡ true → after ≡ index)
-        → (is_out_of_memory r ≡ false → (F G : Files) (x : Entry1) → x.step ≡ s → x.reply ≡ r
-        → l.history.entries ≡ k.history.entries ++ x ∷ [] → AllTrue F index → NamesGoOn F G x.step x.reply
-        → AllTrue G after)
-        → IsTrueIndex found d k index → IsTrueIndex found e l after
-    index-after index after caller s r adds none made t = go (is_out_of_memory r) refl
-      where
-        go : (b : Bool) → is_out_of_memory r ≡ b → IsTrueIndex found e l after
-        go true mem =
-            subst (λ (i : Index). IsTrueIndex found e l i) (sym (none mem)) (index-same index (adds.none mem) t)
-        go false mem =
-            let a = adds.one mem in
-            index-noted index after a.0 a.1 (λ F G. made mem F G a.0 a.3 a.4 a.1) t
-
     -- the step moves no names
-    pub index-unmoved : (index : Index) (caller : ℕ) (s : Step) (r : Reply)
+    pub index-unmoved : (index : Index) (caller : ℕ) (s : Step) (r : Reply) → IsDisk found
         → AddsStep caller s r k.history.entries l.history.entries → moves_names s r ≡ false
         → IsTrueIndex found d k index → IsTrueIndex found e l index
-    index-unmoved index caller s r adds still t = index-after index index caller s r adds (λ mem. refl)
-        (λ mem F G x is replied all true_now on. all-true-on F G index
-        (on.same ((λ j. moves_names (is j) (replied j)) ∙ still)) true_now) t
+    index-unmoved index caller s r is adds still t = go (is_out_of_memory r) refl
+      where
+        go : (b : Bool) → is_out_of_memory r ≡ b → IsTrueIndex found e l index
+        go true mem = index-same index (adds.none mem) t
+        go false mem =
+            let a = adds.one mem in
+            index-noted index index a.0 is a.1 (λ F G true_now on. all-true-on F G index
+            (on.stays ((λ j. moves_names (a.3 j) (a.4 j)) ∙ still)) true_now) t
 
 -- other room in the history
 pub index-history : (found d : DiskState) (first : ℕ) (k : Books) (h : HistoryState) (index : Index)

@@ -1,4 +1,4 @@
--- What is found stays found over each step that changes no names.
+-- What is found stays found over each step that neither makes nor moves a name.
 use Rattle.std.proofs.Common.{◌≡◌, ℕ, Bool, true, false, cond, ◌&&◌, not, eqb, eqb-true, List, [], ◌∷◌, Option, Some}
 use Rattle.std.proofs.Common.{None}
 use Rattle.std.proofs.Common.{◌+◌, ◌*◌, max, length, ◌||◌, ltb, is_some, refl, sym, ap, ◌∙◌, subst}
@@ -37,9 +37,25 @@ use Rattle.nofs_crashlaw.proofs.OnHistories.FlushStage.{files-stay}
 use Rattle.nofs_crashlaw.proofs.OnRuns.Acts.{accepted-acts, files-next}
 use Rattle.nofs_crashlaw.proofs.OnRuns.Gives.{none-at, put-file, resize-file, row-none}
 use Rattle.std.proofs.lemmas.Bool.{not-false}
-use Rattle.nofs_shared.specs.Index.Names.{Answered, Finds, moves_names, named_part, only_names}
+use Rattle.nofs_shared.specs.Index.Names.{Answered, Finds}
 
 -- What is found depends on the named part alone
+
+-- of a directory its cells too, and of no file its size
+abbrev named_part : Option FileState → Option FileState
+named_part None = None
+named_part (Some f) = Some (record {
+  generation = f.generation;
+  kind = f.kind;
+  size = 0;
+  links = f.links;
+  values = cond (is_folder f.kind) f.values (λ k. Hole);
+  nodes = λ path. Absent;
+})
+
+-- and of all files
+abbrev only_names : Files → Files
+only_names F i = named_part (F i)
 
 entry-part : (o : Option FileState) (e : ℕ) → entry_in_file (named_part o) e ≡ entry_in_file o e
 entry-part None e = refl
@@ -135,7 +151,7 @@ module _ (F : Files) where
   }
 
 -- where the named parts are the same, the same is found
-pub finds-on : (F G : Files) (d g : ℕ) (name : List ℕ) (it : Found) → only_names G ≡ only_names F
+finds-on : (F G : Files) (d g : ℕ) (name : List ℕ) (it : Found) → only_names G ≡ only_names F
     → Finds F d g name it → Finds G d g name it
 finds-on F G d g name it same f = part-finds G d g name it
     (subst (λ (E : Files). Finds E d g name it) (sym same) (finds-part F d g name it f))
@@ -210,34 +226,37 @@ resize-part F i g size file = λ t j. by j (F j) refl t
             let is : F i ≡ Some f = ap F same ∙ e in
             size-part (resize_given F i g size) j size f (not-folder F i f file is) (rw (q, is, meta_with) refl)
 
-given-part : (W V : World) (s : Step) (c : Claims) → first_of (rows W V s) ≡ None → moves_names s reply.Stored ≡ false
+-- a step that neither makes nor moves a name, whatever it is answered
+abbrev pub leaves_names : Step → Bool
+leaves_names (step.Make _ _ _ _) = false
+leaves_names (step.Link _ _ _ _ _) = false
+leaves_names (step.Drop _ _ _) = false
+leaves_names (step.Rename _ _ _ _) = false
+leaves_names _ = true
+
+given-part : (W V : World) (s : Step) (c : Claims) → first_of (rows W V s) ≡ None → leaves_names s ≡ true
     → only_names (files_after W.files (gives W.files s c)) ≡ only_names W.files
 unfolding gives
-given-part W V (step.Put i g k at bytes) c r m = put-part W.files i g k at bytes (put-file W V i g k at bytes r)
-given-part W V (step.Resize i g size) c r m = resize-part W.files i g size (resize-file W V i g size r)
-given-part W V (step.Make d g name kind) c r m = cc m
-given-part W V (step.Link d g name i of) c r m = cc m
-given-part W V (step.Drop d g name) c r m = cc m
-given-part W V (step.Rename d g old new) c r m = cc m
-given-part W V _ c r m = ap only_names (files-stay W.files)
+given-part W V (step.Put i g k at bytes) c r l = put-part W.files i g k at bytes (put-file W V i g k at bytes r)
+given-part W V (step.Resize i g size) c r l = resize-part W.files i g size (resize-file W V i g size r)
+given-part W V (step.Make d g name kind) c r l = cc l
+given-part W V (step.Link d g name i of) c r l = cc l
+given-part W V (step.Drop d g name) c r l = cc l
+given-part W V (step.Rename d g old new) c r l = cc l
+given-part W V _ c r l = ap only_names (files-stay W.files)
 
-accepted-moves : (s : Step) (r : Reply) → is_refused r ≡ false → moves_names s r ≡ false
-    → moves_names s reply.Stored ≡ false
-accepted-moves (step.Make d g name kind) r ok m = cc (ok, m)
-accepted-moves (step.Link d g name i of) r ok m = cc (ok, m)
-accepted-moves (step.Drop d g name) r ok m = cc (ok, m)
-accepted-moves (step.Rename d g old new) r ok m = cc (ok, m)
-accepted-moves _ r ok m = refl
-
--- an entry that moves no names
-pub next-part : (W V : World) (e : Entry1) → Next W e V → moves_names e.step e.reply ≡ false
+next-part : (W V : World) (e : Entry1) → Next W e V → leaves_names e.step ≡ true
     → only_names V.files ≡ only_names W.files
-next-part W V e next m = ap only_names (files-next W V e next) ∙ go (is_refused e.reply) refl
+next-part W V e next l = ap only_names (files-next W V e next) ∙ go (is_refused e.reply) refl
   where
     go : (b : Bool) → is_refused e.reply ≡ b → only_names (files_by W.files e) ≡ only_names W.files
     go true q = rw q refl
-    go false q =
-        rw q (given-part W V e.step e.claims (accepted-acts W V e next q).0 (accepted-moves e.step e.reply q m))
+    go false q = rw q (given-part W V e.step e.claims (accepted-acts W V e next q).0 l)
+
+-- over such a step all that is found stays found
+pub leaves-finds : (W V : World) (e : Entry1) → Next W e V → leaves_names e.step ≡ true
+    → (d g : ℕ) (name : List ℕ) (it : Found) → Finds W.files d g name it → Finds V.files d g name it
+leaves-finds W V e next l d g name it = finds-on W.files V.files d g name it (next-part W V e next l)
 
 -- A Look that was done
 
@@ -263,8 +282,7 @@ look-finds W V e d g name it next es er =
     subst (λ (s : Step). first_of (rows W V s) ≡ None) es a.0 in
     let f : Finds W.files d g name it = passes-finds W V d g name it r
     (ap (λ (s : Step). reply_of W s e.claims) (sym es) ∙ sym a.2 ∙ er) in
-    finds-on W.files V.files d g name it
-    (next-part W V e next (ap (λ (s : Step). moves_names s e.reply) es)) f
+    leaves-finds W V e next (ap leaves_names es) d g name it f
 
 -- and no row refuses it again
 pub finds-passes : (W : World) (d g : ℕ) (name : List ℕ) (it : Found) → Finds W.files d g name it

@@ -1,9 +1,7 @@
 -- What a Look finds by the machine's files, and which steps may change it.
-use Rattle.std.specs.Prelude.{◌≡◌, ℕ, Bool, true, false, ◌&&◌, not, List, Option, Some, None, is_some, if◌then◌else◌}
-use Rattle.std.specs.Prelude.{◌==◌}
+use Rattle.std.specs.Prelude.{◌≡◌, ℕ, Bool, true, false, ◌&&◌, not, List, is_some, ◌==◌}
 use Rattle.nofs_dirent.specs.Names.{is_name}
-use Rattle.nofs_model.specs.Files.{Absent, FileState, Files, is_folder}
-use Rattle.nofs_model.specs.declared.image.value.Value.TheVariants.{Hole}
+use Rattle.nofs_model.specs.Files.{Files}
 use Rattle.nofs_history.specs.Machine.{found, generation_of, is_folder_at, is_refused}
 use Rattle.nofs_history.specs.Answers.{found_reply}
 use Rattle.nofs_history.specs.declared.machine.replies.Found.{Found}
@@ -19,28 +17,12 @@ pub record Finds (F : Files) (d g : ℕ) (name : List ℕ) (it : Found) : Type 0
   pub folder : is_folder_at F d ≡ true
   pub answer : found_reply F d (found F d name) ≡ reply.Found it
 
--- what of a file decides which names are found: of a directory its cells too, and of no file its size
-abbrev pub named_part : Option FileState → Option FileState
-named_part None = None
-named_part (Some f) = Some (record {
-  generation = f.generation;
-  kind = f.kind;
-  size = 0;
-  links = f.links;
-  values = if is_folder f.kind then f.values else λ k. Hole;
-  nodes = λ path. Absent;
-})
-
--- and of all files
-abbrev pub only_names : Files → Files
-only_names F i = named_part (F i)
-
--- whether a step with this reply may change which names are found
+-- whether after a step with this reply a name may no longer find what it found
 abbrev pub moves_names : Step → Reply → Bool
-moves_names (step.Make _ _ _ _) r = not (is_refused r)
-moves_names (step.Link _ _ _ _ _) r = not (is_refused r)
 moves_names (step.Drop _ _ _) r = not (is_refused r)
 moves_names (step.Rename _ _ _ _) r = not (is_refused r)
+moves_names (step.Make _ _ _ _) r = false
+moves_names (step.Link _ _ _ _ _) r = false
 moves_names (step.Look _ _ _) r = false
 moves_names (step.List _ _ _) r = false
 moves_names (step.Get _ _ _) r = false
@@ -56,7 +38,9 @@ abbrev pub Answered : Step → Reply → Files → Type 0
 Answered (step.Look d g name) (reply.Found it) F = Finds F d g name it
 Answered _ _ F = Unit {0}
 
--- from these files to those after a step with this reply: the same names are found, unless the step may change that
+-- from these files to those after a step with this reply: what a name finds it still finds, unless the step may change
+-- that
 pub record NamesGoOn (F G : Files) (s : Step) (r : Reply) : Type 0 where
-  pub same : moves_names s r ≡ false → only_names G ≡ only_names F
+  pub stays : moves_names s r ≡ false → (d g : ℕ) (name : List ℕ) (it : Found) → Finds F d g name it
+      → Finds G d g name it
   pub answered : Answered s r G

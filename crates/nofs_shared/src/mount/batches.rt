@@ -4,6 +4,7 @@ ghost use Rattle.nofs_disk.specs.Disk.{KeepsCells, StaysButFaults};
 ghost use Rattle.nofs_history.specs.Steps.{is_out_of_memory};
 ghost use Rattle.nofs_state.specs.Books.Agreement.{with_agreement};
 ghost use Rattle.nofs_scan.specs.Steps.Elements.{HasElement, items_of, see_step, verdict_at};
+ghost use Rattle.nofs_shared.specs.Index.Truths.{IsTrueIndex};
 ghost use Rattle.nofs_shared.specs.Mount.Batches as batches;
 ghost use Rattle.nofs_shared.specs.Mount.Commits.{IsCommit, IsVerdict};
 ghost use Rattle.nofs_shared.specs.Mount.Earlier.{IsEarlier, IsOfBooks};
@@ -13,6 +14,7 @@ ghost use Rattle.nofs_shared.specs.Passes.Entries.{TellsStep};
 ghost use Rattle.nofs_shared.specs.Acts.Sees.{TakesKept};
 
 use crate::acts::room::take_room;
+use crate::index::Index;
 use crate::mount::mount::Mount;
 use crate::mount::steps::step_in;
 use nofs_disk::Disk;
@@ -49,6 +51,7 @@ fn are_elements(kind: ElementKind, at: &SuperBlock, items: &[u64]) -> bool
 // Commits a verdict of an earlier state of the mount, with its entry. It takes no memory.
 fn commit_in<D: Disk + Drop>(
     core: &mut Core<D>,
+    index: &mut Index,
     caller: u32,
     alloc: Global,
     evidence: &Evidence<D>,
@@ -61,7 +64,13 @@ fn commit_in<D: Disk + Drop>(
     ensures keeps { (found : D) (first : ℕ)
         → IsMount (D.state found) (D.state evidence.now.core.value.disk) first evidence.now.core.value.books
         → IsMount (D.state found) (D.state core.old.disk) first core.old.books
+        → IsTrueIndex (D.state found) (D.state core.old.disk) core.old.books index.old
         → IsMount (D.state found) (D.state core.new.disk) first core.new.books }
+    ensures notes { (found : D) (first : ℕ)
+        → IsMount (D.state found) (D.state evidence.now.core.value.disk) first evidence.now.core.value.books
+        → IsMount (D.state found) (D.state core.old.disk) first core.old.books
+        → IsTrueIndex (D.state found) (D.state core.old.disk) core.old.books index.old
+        → IsTrueIndex (D.state found) (D.state core.new.disk) core.new.books index.new }
     ensures commits { (found : D) (first : ℕ)
         → IsMount (D.state found) (D.state evidence.now.core.value.disk) first evidence.now.core.value.books
         → IsMount (D.state found) (D.state core.old.disk) first core.old.books
@@ -76,7 +85,7 @@ fn commit_in<D: Disk + Drop>(
     let item = evidence.verdicts.item(at);
     let step = step_of(evidence.kind, item);
     if core.books.stopped {
-        return step_in(core, alloc, caller, step);
+        return step_in(core, index, alloc, caller, step);
     }
     let from = core.disk.moment();
     let stands = commit(core, evidence, at, used);
@@ -158,7 +167,15 @@ impl<D: Disk + Drop> Mount<D> {
             None => Reply::Refused(Refusal::OutOfMemory),
             Some(left) => {
                 self.kept = left;
-                commit_in(&mut self.core, caller, alloc, evidence, at, used)
+                commit_in(
+                    &mut self.core,
+                    &mut self.index,
+                    caller,
+                    alloc,
+                    evidence,
+                    at,
+                    used,
+                )
             }
         }
     }

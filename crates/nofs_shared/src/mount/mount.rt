@@ -36,7 +36,7 @@ ghost use Rattle.nofs_shared.specs.Mount.Causes.{MeetsSound, StepCauses, StepOrd
 use crate::acts::room::take_room;
 use crate::index::Index;
 use crate::mount::begin::{Prepared, prepare};
-use crate::mount::indexed::step_by;
+use crate::mount::steps::step_in;
 use nofs_disk::{Disk, OutFault};
 use nofs_history::{History, Refusal, Reply, Step};
 use nofs_state::{Core, Counts};
@@ -132,7 +132,7 @@ impl<D: Disk + Drop> Mount<D> {
             None => Reply::Refused(Refusal::OutOfMemory),
             Some(left) => {
                 self.kept = left;
-                step_by(&mut self.core, &mut self.index, alloc, caller, step)
+                step_in(&mut self.core, &mut self.index, alloc, caller, step)
             }
         }
     }

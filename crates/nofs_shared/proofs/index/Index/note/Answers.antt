@@ -7,4 +7,4 @@ returns-then-moves_names c = λ F G all on. c.forget.ensures G
 
 pub returns : goal.returns
 returns c = λ F G all on. c.learn_from.ensures G
-    (all-true-on F G c.args.self.now (on.same (sym c.moves_names.ensures ∙ c.if-moves_names.false)) all) on.answered
+    (all-true-on F G c.args.self.now (on.stays (sym c.moves_names.ensures ∙ c.if-moves_names.false)) all) on.answered

@@ -10,11 +10,12 @@ use Rattle.nofs_shared.proofs.OnMount.Histories.{safe-history}
 use Rattle.nofs_history.specs.declared.machine.replies.Reply.TheVariants as reply
 use Rattle.nofs_shared.specs.Mount.Commits.{IsCommit}
 use Rattle.nofs_shared.specs.Acts.Sees.{is_see}
+use Rattle.nofs_shared.proofs.OnIndex.Mounts.{index-unmoved, see-unmoved}
 use Rattle.nofs_shared.proofs.OnMount.Commits.{commit-stopped, fits-seen, mount-answers, mount-kept, see-is}
 use Rattle.nofs_shared.proofs.mount.batches.commit_in.Goals as goal
 
 pub returns-clause-keeps : goal.returns-clause-keeps
-returns-clause-keeps g c = λ found first then m.
+returns-clause-keeps g c = λ found first then m t.
     subst₂ (λ (d : DiskState) (l : Books). IsMount (g.D.Disk.state found) d first l)
     (ap g.D.Disk.state (sym (c.keep_step.ensures.disk ∙ c.commit-stands.ensures.disk))) (sym c.keep_step.ensures.books)
     (mount-kept (g.D.Disk.state found) (g.D.Disk.state c.args.evidence.now.core.value.disk)
@@ -27,6 +28,23 @@ returns-clause-keeps g c = λ found first then m.
     (c.step_of-step.ensures ∙ ap (see_step c.args.evidence.now.kind) c.item-item.ensures) c.moment-from.ensures
     (λ j. (g.D.Disk.state (c.commit-stands.ensures.disk j)).moment))
 
+pub returns-clause-tells : goal.returns-clause-tells
+returns-clause-tells g c = record {
+  adds = search rules;
+  fits = fits-seen c.args.evidence.now.kind
+      (verdict_at c.args.evidence.now.verdicts c.args.at).item c.commit-stands.result;
+}
+
+pub returns-clause-notes : goal.returns-clause-notes
+returns-clause-notes g c = λ found first then m t.
+    index-unmoved (g.D.Disk.state found) (g.D.Disk.state c.args.core.now.disk)
+    (g.D.Disk.state c.keep_step.new.self.disk) first c.args.core.now.books c.keep_step.new.self.books m
+    (returns-clause-keeps g c found first then m t) c.args.index.now c.args.caller
+    (see_step c.args.evidence.now.kind (verdict_at c.args.evidence.now.verdicts c.args.at).item)
+    (reply.Seen c.commit-stands.result) (g.met.D.Disk.is_disk found) (returns-clause-tells g c).adds
+    (see-unmoved c.args.evidence.now.kind (verdict_at c.args.evidence.now.verdicts c.args.at).item
+    (reply.Seen c.commit-stands.result)) t
+
 pub returns-clause-commits : goal.returns-clause-commits
 returns-clause-commits g c = λ found first then m.
     subst (λ (l : Books). IsCommit (g.D.Disk.state found)
@@ -38,6 +56,9 @@ returns-clause-commits g c = λ found first then m.
     c.commit-stands.new.core.books then m c.requires.earlier c.if-core.false c.args.evidence.now.kind
     (verdict_at c.args.evidence.now.verdicts c.args.at).item c.args.used c.commit-stands.result
     c.commit-stands.ensures.commits c.args.caller _)
+
+pub returns-then-core-clause-notes : goal.returns-then-core-clause-notes
+returns-then-core-clause-notes g c = λ found first then m t. c.step_in.ensures.notes found first m t
 
 pub returns-then-core-clause-commits : goal.returns-then-core-clause-commits
 returns-then-core-clause-commits g c = λ found first then m.
@@ -57,13 +78,6 @@ returns-clause-goes_on g c = record {
       (g.D.Disk.state c.args.core.now.disk) c.commit-stands.ensures.commits.safe);
   same = search rules;
   room = search rules;
-}
-
-pub returns-clause-tells : goal.returns-clause-tells
-returns-clause-tells g c = record {
-  adds = search rules;
-  fits = fits-seen c.args.evidence.now.kind
-      (verdict_at c.args.evidence.now.verdicts c.args.at).item c.commit-stands.result;
 }
 
 pub returns-clause-leaves : goal.returns-clause-leaves

@@ -13,47 +13,64 @@ use Rattle.nofs_shared.specs.Mount.Flushes.{Settles}
 use Rattle.nofs_shared.specs.Mount.Causes.{StepCauses, StepOrder}
 use Rattle.nofs_shared.proofs.OnMount.Claims.{unowned-kept, unowned-more}
 use Rattle.nofs_shared.proofs.OnMount.Causes.{causes-kept, causes-none}
-use Rattle.nofs_shared.proofs.OnActs.Contents.{see-reads-none}
+use Rattle.nofs_shared.proofs.OnActs.Contents.{goes-unmade, see-has-memory}
+use Rattle.nofs_shared.proofs.OnIndex.Hits.{told-keeps, told-order, told-unmoved}
+use Rattle.nofs_shared.proofs.OnIndex.Mounts.{index-noted, index-same, index-unmoved}
 use Rattle.nofs_shared.proofs.OnMount.Steps.{mount-none, mount-goes}
 use Rattle.nofs_shared.proofs.OnMount.Histories.{entry_at, safe-history}
 use Rattle.nofs_shared.proofs.OnActs.Room.{adds-none, settles-memory}
 use Rattle.nofs_shared.proofs.mount.steps.step_in.Goals as goal
 
--- no memory for the step
+-- the index told it
 
-pub returns-then-is_out_of_memory-clause-keeps : goal.returns-then-is_out_of_memory-clause-keeps
-returns-then-is_out_of_memory-clause-keeps g c = λ found first m.
-    mount-none (g.D.Disk.state found) (g.D.Disk.state c.args.core.now.disk) (g.D.Disk.state c.act-reply.new.core.disk)
-    first c.args.core.now.books c.act-reply.new.core.books m
-    c.act-reply.result.reply (goes-safely c.act-reply.ensures.goes)
-    (sym c.is_out_of_memory.ensures ∙ c.if-is_out_of_memory.true)
+pub returns-in-Some-clause-keeps : goal.returns-in-Some-clause-keeps
+returns-in-Some-clause-keeps g c = λ found first m t.
+    subst₂ (λ (d : DiskState) (l : Books). IsMount (g.D.Disk.state found) d first l)
+    (ap g.D.Disk.state (sym c.keep_found.ensures.disk)) (sym c.keep_found.ensures.books)
+    (told-keeps c.args.index.now c.args.step c.in-Some.it c.in-Some.ensures.told (g.D.Disk.state c.args.core.now.disk)
+    c.args.core.now.books c.in-Some.ensures.going (g.D.Disk.state found) first
+    (g.met.D.Disk.is_disk c.args.core.now.disk) m c.args.caller t _ refl refl)
 
-pub returns-then-is_out_of_memory-clause-claims : goal.returns-then-is_out_of_memory-clause-claims
-returns-then-is_out_of_memory-clause-claims g c = λ found first m q.
-    unowned-kept (g.D.Disk.state c.args.core.now.disk).now c.args.core.now.books c.act-reply.new.core.books
-    c.act-reply.ensures.goes.history
+pub returns-in-Some-clause-notes : goal.returns-in-Some-clause-notes
+returns-in-Some-clause-notes g c = λ found first m t.
+    index-unmoved (g.D.Disk.state found) (g.D.Disk.state c.args.core.now.disk)
+    (g.D.Disk.state c.keep_found.new.core.disk) first c.args.core.now.books c.keep_found.new.core.books m
+    (returns-in-Some-clause-keeps g c found first m t) c.args.index.now c.args.caller c.args.step
+    (reply.Found c.in-Some.it) (g.met.D.Disk.is_disk found)
+    (record {
+      none = λ e. cc e;
+      one = λ e. (_, ap (λ (l : Books). l.history.entries) c.keep_found.ensures.books, refl, refl, refl);
+    })
+    (told-unmoved c.args.index.now c.args.step c.in-Some.it c.in-Some.ensures.told) t
 
-pub returns-then-is_out_of_memory-clause-causes : goal.returns-then-is_out_of_memory-clause-causes
-returns-then-is_out_of_memory-clause-causes g c =
-    causes-none (g.D.Disk.state c.args.core.now.disk) (g.D.Disk.state c.act-reply.new.core.disk)
-    c.args.core.now.books c.act-reply.new.core.books
-    c.act-reply.result.reply (goes-safely c.act-reply.ensures.goes)
+pub returns-in-Some-clause-order : goal.returns-in-Some-clause-order
+returns-in-Some-clause-order g c = subst (λ (d : DiskState). StepOrder (g.D.Disk.state c.args.core.now.disk) d
+    (MeetsOpen (g.D.Disk.state c.args.core.now.disk) c.args.core.now.books) c.args.step (reply.Found c.in-Some.it)
+    c.keep_found.new.core.books.history.entries)
+    (ap g.D.Disk.state (sym c.keep_found.ensures.disk))
+    (record {
+      claims = no_claims;
+      entry = λ e. (_, _, ap (λ (l : Books). l.history.entries) c.keep_found.ensures.books, refl);
+      order = told-order c.args.index.now c.args.step c.in-Some.it c.in-Some.ensures.told
+          (g.D.Disk.state c.args.core.now.disk) c.args.core.now.books c.in-Some.ensures.going;
+    })
 
-pub returns-then-is_out_of_memory-clause-order : goal.returns-then-is_out_of_memory-clause-order
-returns-then-is_out_of_memory-clause-order g c =
-    record {
-      claims = c.act-reply.result.claims;
-      entry = λ e. absurd (let m = sym c.is_out_of_memory.ensures ∙ c.if-is_out_of_memory.true in cc (e, m));
-      order = c.act-reply.ensures.goes.order;
-    }
-
--- no memory for a second reply
+-- no memory
 
 pub returns-in-Err-clause-keeps : goal.returns-in-Err-clause-keeps
-returns-in-Err-clause-keeps g c = λ found first m.
+returns-in-Err-clause-keeps g c = λ found first m t.
     mount-none (g.D.Disk.state found) (g.D.Disk.state c.args.core.now.disk) (g.D.Disk.state c.act-reply.new.core.disk)
     first c.args.core.now.books c.act-reply.new.core.books m (reply.Refused refusal.OutOfMemory)
-    (goes-safely (c.act-reply.ensures.memory (c.in-Err.ensures.memory c.args.step c.act-reply.ensures.fits))) refl
+    (goes-safely (goes-unmade (g.D.Disk.state c.args.core.now.disk) (g.D.Disk.state c.act-reply.new.core.disk)
+    c.args.core.now.books c.act-reply.new.core.books c.args.step c.act-reply.result.claims c.act-reply.result.reply
+    c.act-reply.ensures.goes c.act-reply.ensures.memory
+    (c.in-Err.ensures.memory c.args.step c.act-reply.ensures.fits)).1) refl
+
+pub returns-in-Err-clause-notes : goal.returns-in-Err-clause-notes
+returns-in-Err-clause-notes g c = λ found first m t.
+    index-same (g.D.Disk.state found) (g.D.Disk.state c.args.core.now.disk) (g.D.Disk.state c.act-reply.new.core.disk)
+    first c.args.core.now.books c.act-reply.new.core.books m (returns-in-Err-clause-keeps g c found first m t)
+    c.args.index.now (ap (λ h. h.entries) c.act-reply.ensures.goes.history) t
 
 pub returns-in-Err-clause-claims : goal.returns-in-Err-clause-claims
 returns-in-Err-clause-claims g c = λ found first m q.
@@ -69,8 +86,8 @@ returns-in-Err-clause-tells g c = record {
 }
 
 pub returns-in-Err-clause-sees : goal.returns-in-Err-clause-sees
-returns-in-Err-clause-sees g c = λ see.
-    absurd (see-reads-none c.args.step see (c.in-Err.ensures.memory c.args.step c.act-reply.ensures.fits))
+returns-in-Err-clause-sees g c = λ see. absurd (see-has-memory c.args.step c.act-reply.result.reply see
+    c.act-reply.ensures.sees (c.in-Err.ensures.memory c.args.step c.act-reply.ensures.fits))
 
 pub returns-in-Err-clause-settled : goal.returns-in-Err-clause-settled
 returns-in-Err-clause-settled g c = settles-memory c.args.step (g.D.Disk.state c.act-reply.new.core.disk)
@@ -79,36 +96,55 @@ pub returns-in-Err-clause-causes : goal.returns-in-Err-clause-causes
 returns-in-Err-clause-causes g c = causes-none (g.D.Disk.state c.args.core.now.disk)
     (g.D.Disk.state c.act-reply.new.core.disk)
     c.args.core.now.books c.act-reply.new.core.books (reply.Refused refusal.OutOfMemory)
-    (goes-safely (c.act-reply.ensures.memory (c.in-Err.ensures.memory c.args.step c.act-reply.ensures.fits)))
+    (goes-safely (goes-unmade (g.D.Disk.state c.args.core.now.disk) (g.D.Disk.state c.act-reply.new.core.disk)
+    c.args.core.now.books c.act-reply.new.core.books c.args.step c.act-reply.result.claims c.act-reply.result.reply
+    c.act-reply.ensures.goes c.act-reply.ensures.memory
+    (c.in-Err.ensures.memory c.args.step c.act-reply.ensures.fits)).1)
 
 pub returns-in-Err-clause-order : goal.returns-in-Err-clause-order
-returns-in-Err-clause-order g c = record {
-  claims = no_claims;
-  entry = λ e. cc;
-  order = (c.act-reply.ensures.memory (c.in-Err.ensures.memory c.args.step c.act-reply.ensures.fits)).order;
-}
+returns-in-Err-clause-order g c =
+    let (of, goes) = goes-unmade (g.D.Disk.state c.args.core.now.disk) (g.D.Disk.state c.act-reply.new.core.disk)
+    c.args.core.now.books c.act-reply.new.core.books c.args.step c.act-reply.result.claims c.act-reply.result.reply
+    c.act-reply.ensures.goes c.act-reply.ensures.memory
+    (c.in-Err.ensures.memory c.args.step c.act-reply.ensures.fits) in
+    record { claims = of; entry = λ e. cc; order = goes.order }
 
 -- with its entry
 
 pub returns-in-Ok-clause-keeps : goal.returns-in-Ok-clause-keeps
-returns-in-Ok-clause-keeps g c = λ found first m.
+returns-in-Ok-clause-keeps g c = λ found first m t.
     subst₂ (λ (d : DiskState) (l : Books). IsMount (g.D.Disk.state found) d first l)
     (ap g.D.Disk.state (sym c.keep_step.ensures.disk)) (sym c.keep_step.ensures.books)
     (mount-goes (g.D.Disk.state found) (g.D.Disk.state c.args.core.now.disk) (g.D.Disk.state c.act-reply.new.core.disk)
     first c.args.core.now.books c.act-reply.new.core.books m
     c.args.step c.act-reply.result.claims c.act-reply.result.reply c.args.caller c.act-reply.ensures.goes
-    (sym c.is_out_of_memory.ensures ∙ c.if-is_out_of_memory.false) _ refl
+    (c.in-Ok.ensures.made) _ refl
     (ap (λ (x : ℕ × Reply). c.act-reply.new.core.books.history.entries
     ++ entry_at c.args.caller x.0 (g.D.Disk.state c.act-reply.new.core.disk).moment c.args.step
     c.act-reply.result.claims x.1 ∷ [])
     (λ i. (c.moment-from.ensures i, c.in-Ok.ensures.same i))))
+
+pub returns-in-Ok-clause-notes : goal.returns-in-Ok-clause-notes
+returns-in-Ok-clause-notes g c = λ found first m t.
+    index-noted (g.D.Disk.state found) (g.D.Disk.state c.args.core.now.disk)
+    (g.D.Disk.state c.keep_step.new.self.disk) first c.args.core.now.books c.keep_step.new.self.books m
+    (returns-in-Ok-clause-keeps g c found first m t) c.args.index.now c.note.new.self
+    (entry_at c.args.caller (g.D.Disk.state c.args.core.now.disk).moment
+    (g.D.Disk.state c.act-reply.new.core.disk).moment c.args.step c.act-reply.result.claims c.act-reply.result.reply)
+    (g.met.D.Disk.is_disk found)
+    (ap (λ (l : Books). l.history.entries) c.keep_step.ensures.books
+    ∙ ap (λ (x : List Entry1 × ℕ × Reply). x.0
+    ++ entry_at c.args.caller x.1 (g.D.Disk.state c.act-reply.new.core.disk).moment c.args.step
+    c.act-reply.result.claims x.2 ∷ [])
+    (λ i. ((c.act-reply.ensures.goes.history i).entries, c.moment-from.ensures i, c.in-Ok.ensures.same i)))
+    c.note.ensures t
 
 pub returns-in-Ok-clause-claims : goal.returns-in-Ok-clause-claims
 returns-in-Ok-clause-claims g c = λ found first m q.
     unowned-more (g.D.Disk.state found) (g.D.Disk.state c.args.core.now.disk) (g.D.Disk.state c.act-reply.new.core.disk)
     first c.args.core.now.books c.act-reply.new.core.books
     c.args.step c.act-reply.result.claims c.act-reply.result.reply c.args.caller c.act-reply.ensures.goes m
-    (sym c.is_out_of_memory.ensures ∙ c.if-is_out_of_memory.false) q c.keep_step.new.self.books.history.entries
+    (c.in-Ok.ensures.made) q c.keep_step.new.self.books.history.entries
     (ap (λ (l : Books). l.history.entries) c.keep_step.ensures.books
     ∙ ap (λ (x : List Entry1 × ℕ × Reply). x.0
     ++ entry_at c.args.caller x.1 (g.D.Disk.state c.act-reply.new.core.disk).moment c.args.step

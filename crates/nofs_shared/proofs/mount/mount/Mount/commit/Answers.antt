@@ -11,9 +11,7 @@ use Rattle.nofs_turn.proofs.OnLists.Words.{prefix_self}
 use Rattle.nofs_shared.specs.Mount.Earlier.{earlier-on}
 use Rattle.nofs_shared.proofs.OnPasses.Entries.{adds-prefix}
 use Rattle.nofs_shared.proofs.OnMount.Commits.{commit-beside, commit-unmade}
-use Rattle.nofs_shared.proofs.OnMount.Histories.{mount-history}
-use Rattle.nofs_shared.proofs.OnIndex.Mounts.{index-history, index-unmoved, see-unmoved}
-use Rattle.nofs_shared.proofs.OnActs.OtherRoom.{roomed}
+use Rattle.nofs_shared.proofs.OnActs.OtherRoom.{roomed, with-room}
 use Rattle.nofs_shared.proofs.OnActs.Room.{adds-none, few-left, taken-left, taken-same, takes-kept}
 use Rattle.nofs_shared.proofs.mount.mount.Mount.commit.Goals as goal
 
@@ -27,20 +25,10 @@ commit_in-requires-clause-earlier g c = record {
 }
 
 pub invariant_of-self : goal.invariant_of-self
-invariant_of-self g c =
-    let is = roomed _ _ _ _ c.take_room.new.history _ c.take_room.ensures.stays c.args.self.now.few
-    c.args.self.now.taken c.args.self.now.safe c.args.self.now.stands in
-    record {
-      few = is.few;
-      room = c.take_room.ensures.kept;
-      taken = is.taken;
-      safe = is.safe;
-      stands = is.stands;
-      indexed = ∥∥₁_elim c.args.self.now.stands ∥∥₁_prop (λ m. ∥∥₁_elim c.args.self.now.indexed ∥∥₁_prop
-          (λ t. ∣ index-history (g.D.Disk.state c.args.self.now.found.value) (g.D.Disk.state c.args.self.now.core.disk)
-          c.args.self.now.first c.args.self.now.core.books c.take_room.new.history c.args.self.now.index
-          c.take_room.ensures.stays.1 c.take_room.ensures.stays.0 m t ∣₁));
-    }
+invariant_of-self g c = let s = c.args.self.now in
+    let is = roomed _ _ _ _ c.take_room.new.history _ s.index c.take_room.ensures.stays c.take_room.ensures.kept s.few
+    s.taken s.safe s.stands s.indexed in
+    record { few = is.few; room = is.room; taken = is.taken; safe = is.safe; stands = is.stands; indexed = is.indexed }
 
 pub invariant_of-self-in-Some : goal.invariant_of-self-in-Some
 invariant_of-self-in-Some g c = record {
@@ -51,26 +39,16 @@ invariant_of-self-in-Some g c = record {
       c.in-Some.ensures.few;
   room = (let a = c.in-Some.ensures.room in let b = c.commit_in.ensures.goes_on.room in omega (arith, a, b));
   safe = c.commit_in.ensures.goes_on.safe;
-  stands = ∥∥₁_elim c.requires.own.stood ∥∥₁_prop (λ then. ∥∥₁_elim c.args.self.now.stands ∥∥₁_prop
-      (λ m. ∣ c.commit_in.ensures.keeps c.args.self.now.found.value c.args.self.now.first then
-      (mount-history (g.D.Disk.state c.args.self.now.found.value) (g.D.Disk.state c.args.self.now.core.disk)
-      c.args.self.now.first c.args.self.now.core.books c.take_room.new.history c.take_room.ensures.stays.1
-      c.take_room.ensures.stays.0 m) ∣₁));
-  indexed = ∥∥₁_elim c.requires.own.stood ∥∥₁_prop (λ then. ∥∥₁_elim c.args.self.now.stands ∥∥₁_prop
-      (λ m. ∥∥₁_elim c.args.self.now.indexed ∥∥₁_prop (λ t.
-      let found = g.D.Disk.state c.args.self.now.found.value in
-      let old = g.D.Disk.state c.args.self.now.core.disk in
-      let was = mount-history found old c.args.self.now.first c.args.self.now.core.books c.take_room.new.history
-      c.take_room.ensures.stays.1 c.take_room.ensures.stays.0 m in
-      ∣ index-unmoved found old (g.D.Disk.state c.commit_in.new.core.disk) c.args.self.now.first
-      (record c.args.self.now.core.books { history = c.take_room.new.history }) c.commit_in.new.core.books was
-      (c.commit_in.ensures.keeps c.args.self.now.found.value c.args.self.now.first then was) c.args.self.now.index
-      c.args.caller (see_step c.args.evidence.now.kind (verdict_at c.args.evidence.now.verdicts c.args.at).item)
-      c.commit_in.result c.commit_in.ensures.tells.adds
-      (see-unmoved c.args.evidence.now.kind (verdict_at c.args.evidence.now.verdicts c.args.at).item
-      c.commit_in.result)
-      (index-history found old c.args.self.now.first c.args.self.now.core.books c.take_room.new.history
-      c.args.self.now.index c.take_room.ensures.stays.1 c.take_room.ensures.stays.0 m t) ∣₁)));
+  stands = ∥∥₁_elim c.requires.own.stood ∥∥₁_prop (λ then.
+      with-room (g.D.Disk.state c.args.self.now.found.value) (g.D.Disk.state c.args.self.now.core.disk)
+      c.args.self.now.first c.args.self.now.core.books c.take_room.new.history c.args.self.now.index _
+      c.take_room.ensures.stays c.args.self.now.stands c.args.self.now.indexed
+      (λ m t. c.commit_in.ensures.keeps c.args.self.now.found.value c.args.self.now.first then m t));
+  indexed = ∥∥₁_elim c.requires.own.stood ∥∥₁_prop (λ then.
+      with-room (g.D.Disk.state c.args.self.now.found.value) (g.D.Disk.state c.args.self.now.core.disk)
+      c.args.self.now.first c.args.self.now.core.books c.take_room.new.history c.args.self.now.index _
+      c.take_room.ensures.stays c.args.self.now.stands c.args.self.now.indexed
+      (λ m t. c.commit_in.ensures.notes c.args.self.now.found.value c.args.self.now.first then m t));
   taken =
       (let same = c.step_of-step.ensures ∙ ap (see_step c.args.evidence.now.kind) c.item-item.ensures in
       subst (λ (s : SuperBlock).
@@ -98,15 +76,14 @@ returns-in-None-clause-commits g c =
     (verdict_at c.args.evidence.now.verdicts c.args.at).item c.args.used ∣₁
 
 pub returns-clause-commits : goal.returns-clause-commits
-returns-clause-commits g c =
-    ∥∥₁_elim c.requires.own.stood ∥∥₁_prop (λ then. ∥∥₁_elim c.args.self.now.stands ∥∥₁_prop (λ m.
-    ∣ commit-beside (g.D.Disk.state c.args.self.now.found.value) (g.D.Disk.state c.args.self.now.core.disk)
+returns-clause-commits g c = ∥∥₁_elim c.requires.own.stood ∥∥₁_prop (λ then.
+    with-room (g.D.Disk.state c.args.self.now.found.value) (g.D.Disk.state c.args.self.now.core.disk)
+    c.args.self.now.first c.args.self.now.core.books c.take_room.new.history c.args.self.now.index _
+    c.take_room.ensures.stays c.args.self.now.stands c.args.self.now.indexed
+    (λ m t. commit-beside (g.D.Disk.state c.args.self.now.found.value) (g.D.Disk.state c.args.self.now.core.disk)
     c.args.self.now.core.books c.commit_in.new.core.books c.take_room.new.history c.args.evidence.now.kind
     (verdict_at c.args.evidence.now.verdicts c.args.at).item c.args.used c.commit_in.result
-    (c.commit_in.ensures.commits c.args.self.now.found.value c.args.self.now.first then
-    (mount-history (g.D.Disk.state c.args.self.now.found.value) (g.D.Disk.state c.args.self.now.core.disk)
-    c.args.self.now.first c.args.self.now.core.books c.take_room.new.history c.take_room.ensures.stays.1
-    c.take_room.ensures.stays.0 m)) ∣₁))
+    (c.commit_in.ensures.commits c.args.self.now.found.value c.args.self.now.first then m)))
 
 pub returns-in-None-clause-tells : goal.returns-in-None-clause-tells
 returns-in-None-clause-tells g c = record {
