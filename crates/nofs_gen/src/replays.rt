@@ -38,27 +38,20 @@ impl Wanted {
             Step::Put {
                 inode,
                 generation,
+                ..
+            }
+            | Step::Resize {
+                inode,
+                generation,
+                ..
+            } if !self.is(*inode, *generation) => Ok(file),
+            Step::Put {
                 slot,
                 at,
                 bytes,
-            } => {
-                if self.is(*inode, *generation) {
-                    file.with_put(alloc, *slot, *at, bytes.as_slice())
-                } else {
-                    Ok(file)
-                }
-            }
-            Step::Resize {
-                inode,
-                generation,
-                size,
-            } => {
-                if self.is(*inode, *generation) {
-                    file.resized(alloc, *size)
-                } else {
-                    Ok(file)
-                }
-            }
+                ..
+            } => file.with_put(alloc, *slot, *at, bytes.as_slice()),
+            Step::Resize { size, .. } => file.resized(alloc, *size),
             Step::Look { .. }
             | Step::Make { .. }
             | Step::Link { .. }

@@ -238,15 +238,23 @@ large W i g k a =
     let here : nat_le (slots a.before) k ≡ true = large-by a.before a.after a.entry i g k a.asked a.replied a.next in
     leb-true (slots W) k (subst (λ (n : ℕ). nat_le n k ≡ true) (slots-same a.before W a.version) here)
 
+-- what was read is not lost
+kept : (W : World) (i g k : ℕ) (r : Reply) → is_refused r ≡ false → is_lost_reply r ≡ false
+    → IsAnswered W (step.Get i g k, r) → (k < slots W) × (is_lost (value_of W.files i k) ≡ false)
+kept W i g k r ok other a =
+    let x = got-done W i g k r (done W (step.Get i g k) r ok a) in (x.0, got-kept r (value_of W.files i k) other x.1)
+
 pub got-is : (old : List Made) (i g k : ℕ) (r : Reply)
     → IfOk (got_by r) (λ got. (W : World) → AreAnswered W old (with_made old (step.Get i g k) r) → IsGot W i k got)
-got-is old i g k (reply.Refused refusal.TooLarge) =
-    λ W a. large W i g k (answered-one W old _ (step.Get i g k, reply.Refused refusal.TooLarge) refl a)
-got-is old i g k (reply.Refused why) = tt
+got-is old i g k (reply.Bytes b) =
+    λ W a. kept W i g k (reply.Bytes b) refl refl (answered-one W old _ (step.Get i g k, reply.Bytes b) refl a)
+got-is old i g k reply.Hole =
+    λ W a. kept W i g k reply.Hole refl refl (answered-one W old _ (step.Get i g k, reply.Hole) refl a)
 got-is old i g k reply.Lost = λ W a.
     let x = got-done W i g k reply.Lost
     (done W (step.Get i g k) reply.Lost refl (answered-one W old _ (step.Get i g k, reply.Lost) refl a)) in
     (x.0, got-lost (value_of W.files i k) x.1)
-got-is old i g k r = λ W a.
-    let x = got-done W i g k r (done W (step.Get i g k) r refl (answered-one W old _ (step.Get i g k, r) refl a)) in
-    (x.0, got-kept r (value_of W.files i k) refl x.1)
+got-is old i g k (reply.Refused refusal.TooLarge) =
+    λ W a. large W i g k (answered-one W old _ (step.Get i g k, reply.Refused refusal.TooLarge) refl a)
+got-is old i g k (reply.Refused why) = tt
+got-is old i g k _ = tt

@@ -229,10 +229,12 @@ told-on old mid new at size k r ok more h = go (is_out_of_memory r) refl more
 pub got-told : (mid : List Made) (at : InodeHandle) (k : ℕ) (r : Reply)
     → IfOk (got_by r) (λ got. (old : List Made) (size : ℕ) → has_slot got ≡ true
     → HasTold old mid at size → HasTold old (with_made mid (step.Get at.inode at.generation k) r) at size)
+got-told mid at k (reply.Bytes b) = λ old size slot h. told-on old mid _ at size k (reply.Bytes b) refl refl h
+got-told mid at k reply.Hole = λ old size slot h. told-on old mid _ at size k reply.Hole refl refl h
+got-told mid at k reply.Lost = λ old size slot h. told-on old mid _ at size k reply.Lost refl refl h
 got-told mid at k (reply.Refused refusal.TooLarge) = λ old size slot h. absurd (cc slot)
 got-told mid at k (reply.Refused why) = tt
-got-told mid at k reply.Lost = λ old size slot h. told-on old mid _ at size k reply.Lost refl refl h
-got-told mid at k r = λ old size slot h. told-on old mid _ at size k r refl refl h
+got-told mid at k _ = tt
 
 -- The lines
 

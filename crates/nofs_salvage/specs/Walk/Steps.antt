@@ -91,20 +91,8 @@ listed_by reply.NoMore = Ok listed.NoMore
 listed_by _ = Err fault.OutOfMemory
 
 abbrev pub got_by : Reply → Result SlotState SalvageFault
-got_by (reply.Refused why) = if is_too_large why then Ok got.NoSlot else Err (fault_by why)
-got_by reply.Lost = Ok got.Lost
-got_by (reply.Found found) = Ok got.Kept
-got_by (reply.Made inode generation) = Ok got.Kept
-got_by reply.Linked = Ok got.Kept
-got_by (reply.Dropped freed) = Ok got.Kept
-got_by reply.Renamed = Ok got.Kept
-got_by (reply.Names slot names) = Ok got.Kept
-got_by (reply.LostNames slot) = Ok got.Kept
-got_by reply.NoMore = Ok got.Kept
 got_by (reply.Bytes bytes) = Ok got.Kept
 got_by reply.Hole = Ok got.Kept
-got_by reply.Stored = Ok got.Kept
-got_by reply.Resized = Ok got.Kept
-got_by (reply.Stat stat) = Ok got.Kept
-got_by reply.Flushed = Ok got.Kept
-got_by (reply.Seen used) = Ok got.Kept
+got_by reply.Lost = Ok got.Lost
+got_by (reply.Refused why) = if is_too_large why then Ok got.NoSlot else Err (fault_by why)
+got_by _ = Err fault.OutOfMemory

@@ -183,6 +183,8 @@ fn told(reply: Reply) -> Result<SlotState, SalvageFault>
     ensures { result ≡ got_by reply }
 {
     match reply {
+        Reply::Bytes(_) | Reply::Hole => Ok(SlotState::Kept),
+        Reply::Lost => Ok(SlotState::Lost),
         Reply::Refused(why) => {
             if is_too_large(why) {
                 Ok(SlotState::NoSlot)
@@ -190,22 +192,7 @@ fn told(reply: Reply) -> Result<SlotState, SalvageFault>
                 Err(fault_of(why))
             }
         }
-        Reply::Lost => Ok(SlotState::Lost),
-        Reply::Found(_)
-        | Reply::Made { .. }
-        | Reply::Linked
-        | Reply::Dropped { .. }
-        | Reply::Renamed
-        | Reply::Names(..)
-        | Reply::LostNames(_)
-        | Reply::NoMore
-        | Reply::Bytes(_)
-        | Reply::Hole
-        | Reply::Stored
-        | Reply::Resized
-        | Reply::Stat(_)
-        | Reply::Flushed
-        | Reply::Seen { .. } => Ok(SlotState::Kept),
+        _ => Err(SalvageFault::OutOfMemory),
     }
 }
 

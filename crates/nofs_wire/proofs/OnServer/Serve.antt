@@ -63,22 +63,24 @@ pub along-goes : (first left new_left first_given given new_given : Option (List
     → GoesOn old new left new_left given new_given made new_made
     → Along first new_left first_given new_given first_made new_made new
 along-goes first left new_left first_given given new_given first_made made new_made old new a g =
-    let moved : (a.done ++ old.window) ++ g.bytes ≡ (a.done ++ g.front) ++ new.window =
-    append_assoc a.done old.window g.bytes ∙ ap (λ l. a.done ++ l) g.uses
-    ∙ sym (append_assoc a.done g.front new.window) in
+    let f = g.frames in
+    let r = g.replies in
+    let moved : (a.done ++ old.window) ++ f.bytes ≡ (a.done ++ f.front) ++ new.window =
+    append_assoc a.done old.window f.bytes ∙ ap (λ l. a.done ++ l) f.uses
+    ∙ sym (append_assoc a.done f.front new.window) in
     record {
-      done = a.done ++ g.front;
-      steps = a.steps ++ g.steps;
+      done = a.done ++ f.front;
+      steps = a.steps ++ f.steps;
       takes = subst (Consumes first new_left) moved
-          (Consumes-trans first left new_left (a.done ++ old.window) g.bytes a.takes g.takes);
-      makes = g.makes ∙ ap (λ l. l ++ g.steps) a.makes ∙ append_assoc first_made a.steps g.steps;
-      framed = framed-more a.steps g.steps a.done g.front a.framed g.framed;
-      written = a.written ++ g.written;
-      gives = Appends-trans first_given given new_given a.written g.written a.gives g.gives;
-      keeps = append_assoc a.written g.written new.kept ∙ ap (λ l. a.written ++ l) (sym g.keeps)
-          ∙ sym (append_assoc a.written old.kept (replies_of g.steps)) ∙ ap (λ l. l ++ replies_of g.steps) a.keeps
-          ∙ sym (flat_map-append made_bytes a.steps g.steps);
-      counts = g.counts ∙ ap (λ n. n + length g.bytes) a.counts ∙ sym (length-append (a.done ++ old.window) g.bytes)
+          (Consumes-trans first left new_left (a.done ++ old.window) f.bytes a.takes f.takes);
+      makes = f.makes ∙ ap (λ l. l ++ f.steps) a.makes ∙ append_assoc first_made a.steps f.steps;
+      framed = framed-more a.steps f.steps a.done f.front a.framed f.framed;
+      written = a.written ++ r.written;
+      gives = Appends-trans first_given given new_given a.written r.written a.gives r.gives;
+      keeps = append_assoc a.written r.written new.kept ∙ ap (λ l. a.written ++ l) (sym r.keeps)
+          ∙ sym (append_assoc a.written old.kept (replies_of f.steps)) ∙ ap (λ l. l ++ replies_of f.steps) a.keeps
+          ∙ sym (flat_map-append made_bytes a.steps f.steps);
+      counts = f.counts ∙ ap (λ n. n + length f.bytes) a.counts ∙ sym (length-append (a.done ++ old.window) f.bytes)
           ∙ ap length moved;
     }
 

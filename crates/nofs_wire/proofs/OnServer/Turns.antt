@@ -142,20 +142,16 @@ module _ (old mid : BuffersState) (left new_left given mid_given new_given : Opt
   after-goes new on =
       let g : GoesOn between new left new_left mid_given new_given made new_made =
       subst (λ (b : BuffersState). GoesOn b new left new_left mid_given new_given made new_made) gave.4 on in
+      let r = g.replies in
+      let replies = replies_of g.frames.steps in
       record {
-        bytes = g.bytes;
-        front = g.front;
-        steps = g.steps;
-        takes = g.takes;
-        counts = g.counts;
-        uses = g.uses;
-        framed = g.framed;
-        makes = g.makes;
-        written = first ++ g.written;
-        gives = Appends-trans given mid_given new_given first g.written gave.2 g.gives;
-        keeps = ap (λ l. l ++ replies_of g.steps) gave.3 ∙ append_assoc first gave.1 (replies_of g.steps)
-            ∙ ap (λ l. first ++ l) g.keeps ∙ sym (append_assoc first g.written new.kept);
-        nearer = g.nearer;
+        frames = g.frames;
+        replies = record {
+          written = first ++ r.written;
+          gives = Appends-trans given mid_given new_given first r.written gave.2 r.gives;
+          keeps = ap (λ l. l ++ replies) gave.3 ∙ append_assoc first gave.1 replies ∙ ap (λ l. first ++ l) r.keeps
+              ∙ sym (append_assoc first r.written new.kept);
+        };
       }
 
   all-kept : (w : List ℕ) → w ≡ gave.1 → first ++ w ≡ old.kept
@@ -228,18 +224,22 @@ pub goes-answered : (old new : BuffersState) (left given : Option (List ℕ)) (m
     → KeepsAnswer answered.Whole old new made new_made
     → GoesOn old new left left given given made new_made
 goes-answered old new left given made new_made (one, front, uses, some, framed, taken, kept, makes) = record {
-  bytes = [];
-  front = front;
-  steps = one ∷ [];
-  takes = Consumes-nil left;
-  counts = omega (arith, taken);
-  uses = append-nil old.window ∙ uses;
-  framed = framed;
-  makes = makes;
-  written = [];
-  gives = Appends-nil given;
-  keeps = ap (λ l. old.kept ++ l) (append-nil (reply_bytes one.1)) ∙ sym kept;
-  nearer = omega (arith, some, ap length uses, length-append front new.window);
+  frames = record {
+    bytes = [];
+    front = front;
+    steps = one ∷ [];
+    takes = Consumes-nil left;
+    counts = omega (arith, taken);
+    uses = append-nil old.window ∙ uses;
+    framed = framed;
+    makes = makes;
+    nearer = omega (arith, some, ap length uses, length-append front new.window);
+  };
+  replies = record {
+    written = [];
+    gives = Appends-nil given;
+    keeps = ap (λ l. old.kept ++ l) (append-nil (reply_bytes one.1)) ∙ sym kept;
+  };
 }
 
 -- bytes that were taken
@@ -248,18 +248,18 @@ pub goes-taken : (old new : BuffersState) (left new_left given : Option (List �
     → new.window ≡ old.window ++ bytes → new.taken ≡ old.taken + length bytes → new.kept ≡ old.kept → 0 < length bytes
     → GoesOn old new left new_left given given made made
 goes-taken old new left new_left given made bytes takes is counts kept some = record {
-  bytes = bytes;
-  front = [];
-  steps = [];
-  takes = takes;
-  counts = counts;
-  uses = sym is;
-  framed = framed-none;
-  makes = sym (append-nil made);
-  written = [];
-  gives = Appends-nil given;
-  keeps = append-nil old.kept ∙ sym kept;
-  nearer = omega (arith, ap length is, length-append old.window bytes);
+  frames = record {
+    bytes = bytes;
+    front = [];
+    steps = [];
+    takes = takes;
+    counts = counts;
+    uses = sym is;
+    framed = framed-none;
+    makes = sym (append-nil made);
+    nearer = omega (arith, ap length is, length-append old.window bytes);
+  };
+  replies = record { written = []; gives = Appends-nil given; keeps = append-nil old.kept ∙ sym kept };
 }
 
 -- nothing but bytes was taken

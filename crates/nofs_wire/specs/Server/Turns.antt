@@ -48,22 +48,30 @@ abbrev pub IsFramed : List Made → List ℕ → Type 0
 IsFramed steps front =
     (rest : List ℕ) → split_of (front ++ rest) ≡ (map made_step steps ++ (split_of rest).0, (split_of rest).1)
 
--- the server goes on: it took bytes, and used others for the steps that it made; replies to them or to earlier ones
--- were given, and the others are kept
-pub record GoesOn (old new : BuffersState) (left new_left given new_given : Option (List ℕ))
+-- bytes came behind those of a window, and the first of them all were the frames of the steps that were made
+pub record UsesFrames (window new_window : List ℕ) (taken new_taken : ℕ) (left new_left : Option (List ℕ))
     (made new_made : List Made) : Type 0 where
   pub bytes : List ℕ
   pub front : List ℕ
   pub steps : List Made
   pub takes : Consumes left new_left bytes
-  pub counts : new.taken ≡ old.taken + length bytes
-  pub uses : old.window ++ bytes ≡ front ++ new.window
+  pub counts : new_taken ≡ taken + length bytes
+  pub uses : window ++ bytes ≡ front ++ new_window
   pub framed : IsFramed steps front
   pub makes : new_made ≡ made ++ steps
+  pub nearer : length new_window < length window + 2 * length bytes
+
+-- of the replies that were kept and of those to these steps the first were given, and the others are kept
+pub record GivesReplies (kept new_kept : List ℕ) (steps : List Made) (given new_given : Option (List ℕ)) : Type 0 where
   pub written : List ℕ
   pub gives : Appends given new_given written
-  pub keeps : old.kept ++ replies_of steps ≡ written ++ new.kept
-  pub nearer : length new.window < length old.window + 2 * length bytes
+  pub keeps : kept ++ replies_of steps ≡ written ++ new_kept
+
+-- the server goes on: it took bytes, used others for the steps that it made, and gave replies
+pub record GoesOn (old new : BuffersState) (left new_left given new_given : Option (List ℕ))
+    (made new_made : List Made) : Type 0 where
+  pub frames : UsesFrames old.window new.window old.taken new.taken left new_left made new_made
+  pub replies : GivesReplies old.kept new.kept frames.steps given new_given
 
 -- the step of the frame in front was made and the reply to it kept, or all that came is as it was
 abbrev pub KeepsAnswer : Answered → BuffersState → BuffersState → List Made → List Made → Type 0

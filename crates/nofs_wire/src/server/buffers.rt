@@ -11,11 +11,9 @@ use nofs_io::{Failed, Sink, Source, write_all};
 use std::alloc::{AllocError, Global};
 use std::marker::Model;
 
-/// How many bytes are there at most before they are used, 64 KiB.
+/// How many bytes either buffer has room for, 64 KiB. No more are there before they are used, and replies that have as
+/// many together are given though more frames are here.
 const ROOM: usize = 65_536;
-
-/// How many bytes replies have together where they are given though more frames are here, 64 KiB.
-const MANY: usize = 65_536;
 
 /// The bytes that weren't used yet, and the replies that weren't given yet. Contracts see both, and how many bytes came
 /// in all.
@@ -53,7 +51,7 @@ impl Buffers {
             from: 0,
             here: 0,
             taken: 0,
-            kept: Vec::with_capacity(alloc, MANY)?,
+            kept: Vec::with_capacity(alloc, ROOM)?,
         })
     }
 
@@ -129,7 +127,7 @@ impl Buffers {
         ensures given { GivesKept result self.old self.new (K.state sink.old).given (K.state sink.new).given }
         ensures cause { HasCause (K.state sink.old).faults (K.state sink.new).faults result }
     {
-        if self.kept.len() < MANY {
+        if self.kept.len() < ROOM {
             return Ok(());
         }
         self.give(sink)

@@ -1,5 +1,10 @@
-use Rattle.nofs_wire.proofs.OnServer.Turns.{bad-fault, bad-stops, memory-stops}
+use Rattle.nofs_wire.proofs.OnServer.Turns.{bad-fault, bad-stops, goes-answered, memory-stops}
 use Rattle.nofs_wire.proofs.server.serve.answer_front.Goals as goal
+
+pub returns-in-Whole-clause-on : goal.returns-in-Whole-clause-on
+returns-in-Whole-clause-on g c =
+    λ left. goes-answered c.args.buffers.now c.keep_answer.new.buffers left (g.K.Sink.state c.args.sink.now).given
+    (g.S.Steps.made c.args.steps.now) (g.S.Steps.made c.keep_answer.new.steps) c.in-Whole.ensures.so
 
 pub returns-in-Err-clause-ends : goal.returns-in-Err-clause-ends
 returns-in-Err-clause-ends g c =
