@@ -47,31 +47,23 @@ fn answer_text(alloc: Global, reply: &Reply) -> Result<String, AllocError> {
     match reply {
         Reply::Found(found) => found_text(alloc, found),
         Reply::Made { inode, generation } => handle_text(alloc, "made", *inode, *generation),
+        Reply::Linked => String::from_str(alloc, "linked"),
+        Reply::Dropped { removed: true } => String::from_str(alloc, "dropped and removed"),
+        Reply::Dropped { removed: false } => String::from_str(alloc, "dropped"),
+        Reply::Renamed => String::from_str(alloc, "renamed"),
         Reply::Names(slot, names) => names_text(alloc, *slot, names),
         Reply::LostNames(slot) => format!(in alloc; "lost names {slot}"),
+        Reply::NoMore => String::from_str(alloc, "no more"),
         Reply::Bytes(content) => bytes_text(alloc, content),
+        Reply::Hole => String::from_str(alloc, "hole"),
+        Reply::Lost => String::from_str(alloc, "lost"),
+        Reply::Stored => String::from_str(alloc, "stored"),
+        Reply::Resized => String::from_str(alloc, "resized"),
         Reply::Stat(stat) => stat_text(alloc, stat),
+        Reply::Flushed => String::from_str(alloc, "flushed"),
+        Reply::Seen { used: true } => String::from_str(alloc, "used"),
+        Reply::Seen { used: false } => String::from_str(alloc, "free"),
         Reply::Refused(why) => format!(in alloc; "refused {why:?}"),
-        _ => String::from_str(alloc, word_of(reply)),
-    }
-}
-
-// The word of a reply that tells no more.
-fn word_of(reply: &Reply) -> &'static str {
-    match reply {
-        Reply::Linked => "linked",
-        Reply::Renamed => "renamed",
-        Reply::Dropped { removed: true } => "dropped and removed",
-        Reply::Dropped { removed: false } => "dropped",
-        Reply::NoMore => "no more",
-        Reply::Hole => "hole",
-        Reply::Lost => "lost",
-        Reply::Stored => "stored",
-        Reply::Resized => "resized",
-        Reply::Seen { used: true } => "used",
-        Reply::Seen { used: false } => "free",
-        Reply::Flushed => "flushed",
-        _ => "?",
     }
 }
 

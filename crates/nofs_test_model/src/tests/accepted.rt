@@ -24,14 +24,42 @@ fn push(history: &mut History, step: Step, reply: Reply, claims: Claims) -> Resu
     Ok(())
 }
 
-// Whether a value is none, a hole, lost, or has bytes, and its first 17 bytes.
-fn says(value: Option<&Value>) -> (&'static str, &[u8]) {
-    match value {
-        None => ("none", &[]),
-        Some(Value::Hole) => ("hole", &[]),
-        Some(Value::Lost) => ("lost", &[]),
-        Some(Value::Bytes(content)) => ("bytes", content.as_slice().get(0..17).unwrap_or(&[])),
+// The bytes that are not 0, by their places.
+fn push_bytes(alloc: Global, text: &mut String, bytes: &[u8]) -> Result<(), AllocError> {
+    for (at, byte) in bytes.iter().enumerate() {
+        if *byte != 0 {
+            text.push_str(format!(in alloc; " {at}={byte}")?.as_str())?;
+        }
     }
+    Ok(())
+}
+
+fn push_value(alloc: Global, text: &mut String, value: &Value) -> Result<(), AllocError> {
+    match value {
+        Value::Hole => text.push_str("hole"),
+        Value::Lost => text.push_str("lost"),
+        Value::Bytes(content) => {
+            text.push_str("bytes")?;
+            push_bytes(alloc, text, content.as_slice())
+        }
+    }
+}
+
+// The values that a history accepted for a slot over the empty image, each with a mark behind it.
+fn accepted_in(
+    alloc: Global,
+    history: &History,
+    inode: u32,
+    generation: u64,
+    slot: u64,
+) -> Result<String, AllocError> {
+    let values = accepted_of(alloc, &empty(alloc)?, history, inode, generation, slot)?;
+    let mut text = String::new(alloc);
+    for value in values.as_slice() {
+        push_value(alloc, &mut text, value)?;
+        text.push_str(";")?;
+    }
+    Ok(text)
 }
 
 /// Resizes the label file, and puts a byte 255 into its slot 2.
@@ -61,16 +89,8 @@ fn sized_and_put(alloc: Global) -> Result<History, AllocError> {
 #[test]
 fn a_put_behind_a_new_size_is_the_third_value(rt: HostRuntime) -> Result<(), Fail> {
     let alloc = rt.alloc();
-    let history = sized_and_put(alloc)?;
-    let values = accepted_of(alloc, &empty(alloc)?, &history, 2, 2, 2)?;
-    for (at, kind, first) in [
-        (0, "hole", b"".as_slice()),
-        (1, "hole", b""),
-        (2, "bytes", b"\xff\0\0\0\0\0\0\0\0\0\0\0\0\0\0\0\0"),
-        (3, "none", b""),
-    ] {
-        assert!(rt; says(values.get(at)) == (kind, first), "value {at}");
-    }
+    let values = accepted_in(alloc, &sized_and_put(alloc)?, 2, 2, 2)?;
+    assert_eq!(rt; values.as_str(), "hole;hole;bytes 0=255;");
     Ok(())
 }
 
@@ -100,15 +120,9 @@ fn made(alloc: Global) -> Result<History, AllocError> {
 fn a_new_name_is_in_the_second_value_of_its_directory(rt: HostRuntime) -> Result<(), Fail> {
     let alloc = rt.alloc();
     let history = made(alloc)?;
-    let values = accepted_of(alloc, &empty(alloc)?, &history, 1, 1, 0)?;
-    for (at, kind, first) in [
-        (0, "bytes", [0; 17].as_slice()),
-        (1, "bytes", b"\x03\0\0\0\x01\0\0\0\0\0\0\0\0\x01\0\0a"),
-        (2, "none", b""),
-    ] {
-        assert!(rt; says(values.get(at)) == (kind, first), "value {at}");
-    }
-    let values = accepted_of(alloc, &empty(alloc)?, &history, 3, S, 0)?;
-    assert_eq!(rt; says(values.get(0)).0, "hole");
+    let root = accepted_in(alloc, &history, 1, 1, 0)?;
+    assert_eq!(rt; root.as_str(), "bytes;bytes 0=3 4=1 13=1 16=97;");
+    let file = accepted_in(alloc, &history, 3, S, 0)?;
+    assert_eq!(rt; file.as_str(), "hole;");
     Ok(())
 }

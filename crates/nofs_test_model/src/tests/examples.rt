@@ -147,16 +147,10 @@ fn each_slot_below_a_lost_child_is_lost(rt: HostRuntime) -> Result<(), Fail> {
 fn a_chain_of_two_thousand_directories_leads_to_the_root(rt: HostRuntime) -> Result<(), Fail> {
     let alloc = rt.alloc();
     let cells = image(alloc, "chain of directories")?;
-    for (inode, want) in [
-        (1, true),
-        (3, true),
-        (4, true),
-        (1_000, true),
-        (2_002, true),
-        (2_003, false),
-    ] {
-        assert_eq!(rt; is_agreed(&cells, inode), want, "inode {inode}");
+    for inode in [1, 3, 4, 1_000, 2_002] {
+        assert!(rt; is_agreed(&cells, inode), "inode {inode}");
     }
+    assert!(rt; !is_agreed(&cells, 2_003));
     // Entry 0 of directory 2,001 names inode 2,002, whose low byte is 210.
     for (inode, want) in [(2_001, "210"), (2_002, "")] {
         assert_eq!(rt;

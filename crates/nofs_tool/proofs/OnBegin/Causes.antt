@@ -3,7 +3,7 @@ use Rattle.std.proofs.Common.{◌≡◌, ◌≢◌, inl, inr, ℕ, ◌<◌, ◌�
 use Rattle.std.proofs.Common.{arith}
 use Rattle.std.specs.Prelude.{is_none}
 use Rattle.nofs_disk.specs.Adds.{Adds}
-use Rattle.nofs_disk.specs.Disk.{DiskState, KeepsCells, cell_at}
+use Rattle.nofs_disk.specs.Disk.{DiskState, KeepsCells, Rose, cell_at}
 use Rattle.nofs_disk.specs.declared.tag.Cell.{Cell}
 use Rattle.nofs_super.specs.Format.{FormatEnds, IsFormatRefused, IsFormatted, IsFreshCell, formatted_cell, fresh_super}
 use Rattle.nofs_super.specs.Format.{super_cell}
@@ -16,7 +16,8 @@ use Rattle.nofs_super.specs.declared.superblock.MountFault.{MountFault}
 use Rattle.nofs_super.specs.declared.superblock.MountFault.TheVariants as fault
 use Rattle.nofs_shared.specs.Mount.Begin.{BeginFails}
 use Rattle.nofs_tool.specs.declared.begin.mounts.Cause.{Cause}
-use Rattle.nofs_tool.specs.Begin.Mounts.{IsCaused, IsMountRefusal, IsUnformatted, IsUnmounted, format_cause}
+use Rattle.nofs_tool.specs.declared.begin.mounts.Cause.TheVariants.{Device}
+use Rattle.nofs_tool.specs.Begin.Mounts.{IsMountRefusal, IsUnformatted, IsUnmounted, format_cause}
 use Rattle.nofs_tool.specs.Begin.Mounts.{mount_cause, status_of}
 
 -- the superblock's fault is one of the table
@@ -38,14 +39,15 @@ refused-by old new why cause told b write read memory is = record {
 }
 
 -- a fault with a status of its own
-faulted : (old new : DiskState) (why : MountFault) → BeginFails old new why → IsCaused old new (mount_cause why)
+faulted : (old new : DiskState) (why : MountFault) → BeginFails old new why
+    → (mount_cause why ≡ Device → Rose old.faults new.faults)
     → (status_of (mount_cause why) ≢ 3 → KeepsCells old new) → status_of (mount_cause why) ≢ 4
     → IsUnmounted old new (mount_cause why)
-faulted old new why b caused unwritten other = record {
+faulted old new why b device unwritten other = record {
   why = why;
   told = refl;
   fails = b;
-  caused = caused;
+  caused = record { later = b.disk.faults; device = device };
   unwritten = unwritten;
   table = λ e. absurd (other e);
 }
@@ -53,13 +55,12 @@ faulted old new why b caused unwritten other = record {
 pub unmounted_by : (old new : DiskState) (why : MountFault) → BeginFails old new why
     → IsUnmounted old new (mount_cause why)
 unmounted_by old new fault.ReadFault b = faulted old new fault.ReadFault b
-    (record { later = b.disk.faults; device = λ e. (b.refused (λ h. cc h)).1.read refl })
-    (λ e. absurd (e refl)) (λ e. omega (arith, e))
+    (λ e. (b.refused (λ h. cc h)).1.read refl) (λ e. absurd (e refl)) (λ e. omega (arith, e))
 unmounted_by old new fault.WriteFault b = faulted old new fault.WriteFault b
-    (record { later = b.disk.faults; device = λ e. b.wrote refl }) (λ e. absurd (e refl)) (λ e. omega (arith, e))
+    (λ e. b.wrote refl) (λ e. absurd (e refl)) (λ e. omega (arith, e))
 unmounted_by old new fault.OutOfMemory b = faulted old new fault.OutOfMemory b
-    (record { later = b.disk.faults; device = λ e. absurd (let s = ap status_of e in omega (arith, s)) })
-    (λ e. (b.refused (λ h. cc h)).0) (λ e. omega (arith, e))
+    (λ e. absurd (let s = ap status_of e in omega (arith, s))) (λ e. (b.refused (λ h. cc h)).0)
+    (λ e. omega (arith, e))
 unmounted_by old new (fault.BadMagic x) b =
     refused-by old new (fault.BadMagic x) _ refl b (λ h. cc h) (λ h. cc h) (λ h. cc h) refl
 unmounted_by old new (fault.BadVersion x) b =

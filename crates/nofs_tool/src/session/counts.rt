@@ -15,38 +15,33 @@ fn push_counts(
     alloc: Global,
     text: &mut Vec<u8>,
     kind: &str,
-    used: u64,
-    free: u64,
-    unchecked: u64,
+    counts: (u64, u64, u64),
 ) -> Result<(), AllocError>
-    ensures { OnOk result (text.new.items ≡ text.old.items ++ kind_text kind.now used free unchecked) }
+    ensures { OnOk result (text.new.items ≡ text.old.items ++ kind_text kind.now counts.0 counts.1 counts.2) }
 {
+    let (used, free, unchecked) = counts;
     push_number(alloc, text, kind, used)?;
     push_number(alloc, text, " free ", free)?;
     push_number(alloc, text, " unchecked ", unchecked)
 }
 
-/// The line that says how many inodes and blocks are used.
+/// The line that says how many inodes and blocks are used, free and not examined.
 pub(crate) fn counts_text(alloc: Global, counts: &Counts) -> Result<Content, AllocError>
     ensures { IfOk result (λ text. text ≡ counts_line counts.now) }
 {
-    let mut text = Vec::new(alloc);
-    push_counts(
-        alloc,
-        &mut text,
-        "inodes used ",
+    let inodes = (
         counts.inodes_used,
         counts.inodes_free,
         counts.inodes_unchecked,
-    )?;
-    push_counts(
-        alloc,
-        &mut text,
-        ", blocks used ",
+    );
+    let blocks = (
         counts.blocks_used,
         counts.blocks_free,
         counts.blocks_unchecked,
-    )?;
+    );
+    let mut text = Vec::new(alloc);
+    push_counts(alloc, &mut text, "inodes used ", inodes)?;
+    push_counts(alloc, &mut text, ", blocks used ", blocks)?;
     text.push(b'\n')?;
     Ok(Content::from_vec(text))
 }
