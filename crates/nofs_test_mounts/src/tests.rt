@@ -1,8 +1,11 @@
 //! The tests, by what they test, with what they share.
 
+mod asks;
+mod crashes;
+mod instances;
+mod looks;
 mod mounts;
-mod refusals;
+mod passes;
 mod serving;
-mod sharing;
-mod steps;
+mod verdicts;
 mod write_outs;

@@ -1,93 +1,90 @@
 //! Write-outs of a mount over a cache: as many as its step left dirty.
-use crate::tests::mounts::{is_stored, is_used, mounted, put, put_step, seen, two_passes};
+use crate::tests::asks::{Ask, Cases, LABEL, follow, follow_as};
+use crate::tests::mounts::{Verdict, committed, mounted, two_passes};
 use nofs_cache::Cached;
-use nofs_disk::{Disk, OutFault};
-use nofs_history::{ElementKind, FLUSHER, Step, Steps};
+use nofs_disk::OutFault;
+use nofs_history::{ElementKind, FLUSHER, Steps};
 use nofs_memdisk::{MemDisk, Unready};
-use nofs_scan::judge;
-use nofs_shared::{Mount, Serves, SharedPass};
-use nofs_test_disks::formatted;
+use nofs_shared::{Serves, SharedPass};
+use nofs_test_disks::{cached, formatted};
+use nofs_workers::WritesOut;
 use std::alloc::Global;
 use std::sync::Wait;
 use std::test::Fail;
 
 // A cache over a new disk of 16 blocks, whose block 1 holds the inodes.
 fn cache(alloc: Global) -> Result<Cached<MemDisk>, Fail> {
-    match Cached::new(alloc, formatted(alloc, 16, 4)?) {
-        Ok(disk) => Ok(disk),
-        Err(_) => Err("no cache".into()),
-    }
-}
-
-// A mount of it.
-fn cached(alloc: Global) -> Result<Mount<Cached<MemDisk>>, Fail> {
-    mounted(alloc, cache(alloc)?, 0)
-}
-
-// Puts a block of bytes, for which block 15 is examined: whether both went well.
-fn put_in_15<D: Disk + Drop>(alloc: Global, mount: &mut Mount<D>) -> Result<bool, Fail> {
-    let free = is_used(alloc, mount, 15) == Some(false);
-    let stored = is_stored(&put(alloc, mount, 0)?);
-    Ok(free && stored)
+    Ok(cached(alloc, formatted(alloc, 16, 4)?)?)
 }
 
 /// The answer of a write-out.
 type Out = Result<Option<u64>, OutFault>;
 
-// The write-outs of a mount over a cache: one before a put, whether that is stored, three after it, how
-// many entries there are, and how many writes came to the disk below.
-fn outs_of_a_mount(alloc: Global) -> Result<(Out, bool, [Out; 3], u64, u64), Fail> {
-    let mut mount = cached(alloc)?;
+/// A put of a whole slot of the label file.
+const PUT: (Ask, &str) = (Ask::Put(LABEL, 0, 1024, b'A'), "stored");
+
+const PUTS: Cases = &[PUT];
+
+/// A put, for which block 15 is examined.
+const PUT_IN_15: Cases = &[(Ask::SeeBlock(15), "free"), PUT];
+
+const SEES_BLOCK_13: Cases = &[(Ask::SeeBlock(13), "free")];
+
+// Those of a mount over a cache: one before a put, for which block 15 is examined, and three after it. How many
+// entries there are, and how many writes came to the disk below.
+fn outs_of_a_mount(alloc: Global) -> Result<([Out; 4], u64, u64), Fail> {
+    let mut mount = mounted(alloc, cache(alloc)?)?;
     let before = mount.write_out();
-    let stored = put_in_15(alloc, &mut mount)?;
-    let outs = [mount.write_out(), mount.write_out(), mount.write_out()];
+    follow(alloc, &mut mount, PUT_IN_15)?;
+    let outs = [
+        before,
+        mount.write_out(),
+        mount.write_out(),
+        mount.write_out(),
+    ];
     let (disk, history) = mount.end();
-    let writes = disk.below().calls().writes;
-    Ok((before, stored, outs, history.len(), writes))
+    Ok((outs, history.len(), disk.below().calls().writes))
 }
 
 #[test]
 fn a_mount_over_a_cache_writes_out_what_a_put_left_dirty(rt: HostRuntime) -> Result<(), Fail> {
-    let outs = [Ok(Some(1)), Ok(Some(15)), Ok(None)];
-    let want = (Ok(None), true, outs, 2, 19);
-    assert_eq!(rt; outs_of_a_mount(rt.alloc())?, want);
+    let outs = [Ok(None), Ok(Some(1)), Ok(Some(15)), Ok(None)];
+    assert_eq!(rt; outs_of_a_mount(rt.alloc())?, (outs, 2, 19));
     Ok(())
 }
 
-// What a pass finds in block 15, whether its put is stored, the write-outs of another pass, and how many
-// entries that one knows of.
-fn outs_of_a_pass<R: Wait>(
+// Those of a pass, where another one has examined block 15 and put: how many entries the first knows of.
+fn outs_of_a_pass<R: Wait, V: Serves>(
     rt: &R,
     alloc: Global,
-) -> Result<(Option<bool>, bool, [Out; 3], u64), Fail> {
-    let Some((shared, first, second)) = two_passes(alloc, cached(alloc)?) else {
+    mount: V,
+) -> Result<([Out; 3], u64), Fail> {
+    let Some((shared, first, second)) = two_passes(alloc, mount) else {
         return Err("no passes".into());
     };
     let mut user = shared.pass(rt, alloc, 1, first);
-    let found = seen(&user.step(Step::SeeBlock { block: 15 }));
-    let stored = is_stored(&user.step(put_step(alloc, 0)?));
+    follow_as(alloc, &mut user, PUT_IN_15)?;
     let mut flusher = shared.pass(rt, alloc, FLUSHER, second);
     let outs = [
         flusher.write_out(),
         flusher.write_out(),
         flusher.write_out(),
     ];
-    Ok((found, stored, outs, flusher.progress()))
+    Ok((outs, flusher.progress()))
 }
 
 #[test]
 fn a_pass_of_a_mount_over_a_cache_writes_out_too(rt: HostRuntime) -> Result<(), Fail> {
     let alloc = rt.alloc();
-    let outs = [Ok(Some(1)), Ok(Some(15)), Ok(None)];
-    let want = (Some(false), true, outs, 2);
-    assert_eq!(rt; outs_of_a_pass(&rt, alloc)?, want);
+    let told = outs_of_a_pass(&rt, alloc, mounted(alloc, cache(alloc)?)?)?;
+    assert_eq!(rt; told, ([Ok(Some(1)), Ok(Some(15)), Ok(None)], 2));
     Ok(())
 }
 
 // Writes out until nothing is left: how many blocks.
-fn write_all_out<R: Wait, V: Serves>(pass: &mut SharedPass<'_, R, V>) -> u64 {
+fn write_all_out<W: WritesOut>(flusher: &mut W) -> u64 {
     for blocks in 0..10 {
-        match pass.write_out() {
+        match flusher.write_out() {
             Ok(Some(_)) => {}
             _ => return blocks,
         }
@@ -95,53 +92,65 @@ fn write_all_out<R: Wait, V: Serves>(pass: &mut SharedPass<'_, R, V>) -> u64 {
     10
 }
 
-// A step, and how many write-outs follow it: whether a put is stored, and how many blocks are written.
-fn put_and_write_out<S: Steps, R: Wait, V: Serves>(
+// Two puts of a user, for which block 15 is examined: how many write-outs follow each.
+fn outs_of_puts<S: Steps, W: WritesOut>(
     alloc: Global,
     user: &mut S,
-    flusher: &mut SharedPass<'_, R, V>,
-) -> Result<(bool, u64), Fail> {
-    let stored = is_stored(&user.step(put_step(alloc, 0)?));
-    Ok((stored, write_all_out(flusher)))
+    flusher: &mut W,
+) -> Result<[u64; 2], Fail> {
+    follow_as(alloc, user, PUT_IN_15)?;
+    let first = write_all_out(flusher);
+    follow_as(alloc, user, PUTS)?;
+    Ok([first, write_all_out(flusher)])
 }
 
-// The mount finds memory to begin, for two puts and for six write-outs. So a later write-out that says
-// `None` did not ask it. What is found in three blocks, both puts, and three write-outs: after the puts,
-// after a commit, and after a step.
-fn outs_with_little_memory<R: Wait>(
+// The verdict on block 14, which is looked at and committed.
+fn verdict_of_14<R: Wait, V: Serves>(user: &mut SharedPass<'_, R, V>) -> Verdict {
+    match user.look_batch(ElementKind::Block, &[14]) {
+        Ok(evidence) => committed(user, &evidence, 0),
+        Err(_) => None,
+    }
+}
+
+// Three write-outs behind those: one, one after a commit, and one after a step. What was committed.
+fn later_outs<R: Wait, V: Serves, W: WritesOut>(
+    alloc: Global,
+    user: &mut SharedPass<'_, R, V>,
+    flusher: &mut W,
+) -> Result<([Out; 3], Verdict), Fail> {
+    let idle = flusher.write_out();
+    let verdict = verdict_of_14(user);
+    let committed = flusher.write_out();
+    follow_as(alloc, user, SEES_BLOCK_13)?;
+    Ok(([idle, committed, flusher.write_out()], verdict))
+}
+
+fn outs_of_both<R: Wait, V: Serves>(
     rt: &R,
     alloc: Global,
-) -> Result<([Option<bool>; 3], [(bool, u64); 2], [Out; 3]), Fail> {
-    let disk = Unready {
-        under: cache(alloc)?,
-        rooms: 9,
-    };
-    let Some((shared, first, second)) = two_passes(alloc, mounted(alloc, disk, 0)?) else {
+    mount: V,
+) -> Result<([u64; 2], [Out; 3], Verdict), Fail> {
+    let Some((shared, first, second)) = two_passes(alloc, mount) else {
         return Err("no passes".into());
     };
     let mut user = shared.pass(rt, alloc, 1, first);
     let mut flusher = shared.pass(rt, alloc, FLUSHER, second);
-    let found = seen(&user.step(Step::SeeBlock { block: 15 }));
-    let puts = [
-        put_and_write_out(alloc, &mut user, &mut flusher)?,
-        put_and_write_out(alloc, &mut user, &mut flusher)?,
-    ];
-    let idle = flusher.write_out();
-    let Ok(evidence) = user.look_batch(ElementKind::Block, &[14]) else {
-        return Err("no evidence".into());
-    };
-    let stands = seen(&user.commit(&evidence, 0, judge(&evidence, 0)));
-    let committed = flusher.write_out();
-    let then = seen(&user.step(Step::SeeBlock { block: 13 }));
-    let asked = flusher.write_out();
-    Ok(([found, stands, then], puts, [idle, committed, asked]))
+    let puts = outs_of_puts(alloc, &mut user, &mut flusher)?;
+    let (outs, verdict) = later_outs(alloc, &mut user, &mut flusher)?;
+    Ok((puts, outs, verdict))
 }
 
+// The mount finds memory to begin, for two puts and for six write-outs. So a later write-out that says
+// `None` did not ask it.
 #[test]
 fn a_write_out_asks_the_mount_only_after_a_step(rt: HostRuntime) -> Result<(), Fail> {
     let alloc = rt.alloc();
+    let disk = Unready {
+        under: cache(alloc)?,
+        rooms: 9,
+    };
+    let told = outs_of_both(&rt, alloc, mounted(alloc, disk)?)?;
     let outs = [Ok(None), Ok(None), Err(OutFault::OutOfMemory)];
-    let want = ([Some(false); 3], [(true, 2); 2], outs);
-    assert_eq!(rt; outs_with_little_memory(&rt, alloc)?, want);
+    assert_eq!(rt; told, ([2, 2], outs, Some((false, false))));
     Ok(())
 }

@@ -2,37 +2,47 @@
 
 use crate::tests::mounts::mounted;
 use crate::tests::serving::gates::{Hold, Marks};
-use crate::tests::serving::runs::{are_of_team, count_of, plans_of, run_of, script};
-use nofs_cache::Cached;
-use nofs_history::{BLOCK_SWEEPER, INODE_SWEEPER};
-use nofs_test_disks::formatted;
+use crate::tests::serving::runs::{RunOutput, count_of, is_last_by, plans_for, run_of, told_to};
+use nofs_history::{BLOCK_SWEEPER, INODE_SWEEPER, PROGRAM};
+use nofs_test_disks::{cached, formatted};
 use nofs_workers::OpenGate;
+use std::alloc::Global;
+use std::sync::Wait;
 use std::sync::atomic::Ordering;
 use std::test::Fail;
+use std::thread::Threads;
 
 /// How often user 1 looks for user 2's reply before it gives up.
 const MOST_TURNS: u64 = 200_000_000;
 
-#[test]
-fn user_1_waits_for_the_first_reply_of_user_2(rt: HostRuntime) -> Result<(), Fail> {
-    let alloc = rt.alloc();
-    let marks = Marks::new();
+const STAT: &[u8] = b"stat @\n";
+
+// A run in which user 1 waits for a reply to user 2.
+fn run_with_marks<R: Threads + Wait + Sync>(
+    rt: &R,
+    alloc: Global,
+    marks: &Marks,
+) -> Result<RunOutput, Fail> {
     let gates = (
         Hold {
             turns: MOST_TURNS,
-            ..Hold::open(&marks)
+            ..Hold::open(marks)
         },
         Hold {
             counts: true,
-            ..Hold::open(&marks)
+            ..Hold::open(marks)
         },
     );
-    let stat = b"stat @\n";
-    let scripts = (script(alloc, stat)?, script(alloc, stat)?);
-    let plans = plans_of(alloc, scripts, gates)?;
-    let open = (Hold::open(&marks), Hold::open(&marks), Hold::open(&marks));
-    let mount = mounted(alloc, formatted(alloc, 64, 16)?, 0)?;
-    let told = run_of(&rt, alloc, mount, plans, open)?;
+    let plans = plans_for(alloc, (STAT, STAT), gates)?;
+    let mount = mounted(alloc, formatted(alloc, 64, 16)?)?;
+    let open = (Hold::open(marks), Hold::open(marks), Hold::open(marks));
+    Ok(run_of(rt, alloc, mount, plans, (16, 64), open)?)
+}
+
+#[test]
+fn user_1_waits_for_the_first_reply_of_user_2(rt: HostRuntime) -> Result<(), Fail> {
+    let marks = Marks::new();
+    let told = run_with_marks(&rt, rt.alloc(), &marks)?;
     assert!(rt; !told.out_of_memory);
     assert_eq!(rt;
         told.text.as_slice(),
@@ -55,34 +65,55 @@ const TWO: &[u8] = b"mkdir /doc\nmake /doc/a\nput /doc/a 0 7465787400\nlink /doc
 const BOTH: &[u8] = b"made\nmade\nput 12\nsynced\nrenamed\nnames lib.rs\n\
     made\nmade\nput 5\nlinked\ndropped\ngot bytes:7465787400\nnames b\n";
 
-#[test]
-fn two_users_are_answered_the_same_in_a_hundred_runs(rt: HostRuntime) -> Result<(), Fail> {
-    let alloc = rt.alloc();
-    for run in 0..100 {
-        let scripts = (script(alloc, ONE)?, script(alloc, TWO)?);
-        let plans = plans_of(alloc, scripts, (OpenGate, OpenGate))?;
-        let open = (OpenGate, OpenGate, OpenGate);
-        let mount = mounted(alloc, formatted(alloc, 64, 16)?, 0)?;
-        let told = run_of(&rt, alloc, mount, plans, open)?;
-        assert_eq!(rt; told.text.as_slice(), BOTH, "run {run}");
-    }
-    Ok(())
+fn run_over_a_cache<R: Threads + Wait + Sync>(rt: &R, alloc: Global) -> Result<RunOutput, Fail> {
+    let plans = plans_for(alloc, (ONE, TWO), (OpenGate, OpenGate))?;
+    let mount = mounted(alloc, cached(alloc, formatted(alloc, 64, 16)?)?)?;
+    let open = (OpenGate, OpenGate, OpenGate);
+    Ok(run_of(rt, alloc, mount, plans, (16, 64), open)?)
+}
+
+// The entries of the sweeps, and of users, sweeps and the last flush.
+fn counts_of(told: &RunOutput) -> [u64; 4] {
+    let history = &told.history;
+    [
+        count_of(history, &[INODE_SWEEPER]),
+        count_of(history, &[BLOCK_SWEEPER]),
+        count_of(history, &[PROGRAM]),
+        count_of(history, &[1, 2, INODE_SWEEPER, BLOCK_SWEEPER, PROGRAM]),
+    ]
 }
 
 #[test]
 fn a_flusher_over_a_cache_makes_no_entry(rt: HostRuntime) -> Result<(), Fail> {
-    let alloc = rt.alloc();
-    let scripts = (script(alloc, ONE)?, script(alloc, TWO)?);
-    let plans = plans_of(alloc, scripts, (OpenGate, OpenGate))?;
-    let Ok(disk) = Cached::new(alloc, formatted(alloc, 64, 16)?) else {
-        panic!(rt; "no cache")
-    };
-    let mount = mounted(alloc, disk, 0)?;
-    let told = run_of(&rt, alloc, mount, plans, (OpenGate, OpenGate, OpenGate))?;
+    let told = run_over_a_cache(&rt, rt.alloc())?;
     assert_eq!(rt; told.text.as_slice(), BOTH);
-    assert!(rt; are_of_team(&told.callers));
-    for (caller, count) in [(INODE_SWEEPER, 16), (BLOCK_SWEEPER, 64)] {
-        assert_eq!(rt; count_of(&told.callers, caller), count, "caller {caller}");
-    }
+    assert_eq!(rt; counts_of(&told), [16, 64, 1, told.history.len()]);
+    Ok(())
+}
+
+// User 1 sizes the label file, which is a step, and gets a slot, which is two: the size is asked first. User 2 flushes.
+fn run_with_no_sweep<R: Threads + Wait + Sync>(rt: &R, alloc: Global) -> Result<RunOutput, Fail> {
+    let texts = (b"size @ 9\nget @ 0 9\n".as_slice(), b"fsync @\n".as_slice());
+    let plans = plans_for(alloc, texts, (OpenGate, OpenGate))?;
+    let mount = mounted(alloc, formatted(alloc, 16, 4)?)?;
+    let open = (OpenGate, OpenGate, OpenGate);
+    Ok(run_of(rt, alloc, mount, plans, (0, 0), open)?)
+}
+
+#[test]
+fn two_users_and_the_last_flush_stand_in_the_history(rt: HostRuntime) -> Result<(), Fail> {
+    let alloc = rt.alloc();
+    let run = run_with_no_sweep(&rt, alloc)?;
+    let told = told_to(alloc, &run.history, &[1, 2, PROGRAM])?;
+    assert_eq!(rt;
+        run.text.as_slice(),
+        b"sized 9\ngot hole:9\nsynced\n".as_slice()
+    );
+    assert_eq!(rt;
+        told.as_str(),
+        "resized, File 9 0, hole, end\nflushed, end\nflushed, end\n"
+    );
+    assert_eq!(rt; run.history.len(), 5);
+    assert!(rt; is_last_by(&run.history, PROGRAM));
     Ok(())
 }
