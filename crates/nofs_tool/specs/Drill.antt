@@ -225,7 +225,17 @@ wrong_told H (Some file) = slots_wrong (replay_of H file.found.inode file.found.
 abbrev pub is_refused_line : Line → Bool
 is_refused_line (line.Refused _) = true
 is_refused_line (line.RefusedPut _ _) = true
-is_refused_line _ = false
+is_refused_line line.Made = false
+is_refused_line (line.Put _) = false
+is_refused_line (line.Got _) = false
+is_refused_line (line.Sized _) = false
+is_refused_line (line.Stat _) = false
+is_refused_line (line.Names _) = false
+is_refused_line line.Linked = false
+is_refused_line line.Dropped = false
+is_refused_line line.Renamed = false
+is_refused_line line.Synced = false
+is_refused_line line.Moved = false
 
 -- the line of a drill
 unfoldable pub drill_line : ℕ → ℕ → ℕ → ℕ → ℕ → ℕ → List ℕ

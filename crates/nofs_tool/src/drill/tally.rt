@@ -204,7 +204,21 @@ fn wrongs(alloc: Global, history: &History, reads: &[Option<FileRead>]) -> Resul
 fn is_refused(line: &Line) -> bool
     ensures { result ≡ is_refused_line line.now }
 {
-    matches!(line, Line::Refused(_) | Line::RefusedPut { .. })
+    match line {
+        Line::Refused(_) => true,
+        Line::RefusedPut { .. } => true,
+        Line::Made
+        | Line::Put(_)
+        | Line::Got(_)
+        | Line::Sized(_)
+        | Line::Stat(_)
+        | Line::Names(_)
+        | Line::Linked
+        | Line::Dropped
+        | Line::Renamed
+        | Line::Synced
+        | Line::Moved => false,
+    }
 }
 
 fn refused_in(lines: &[Line]) -> Result<u64, AllocError>
