@@ -1,6 +1,9 @@
 pub mod Names
 pub mod NewNames
+pub mod WasLinks
+pub mod Learned
 pub mod NewEntries
+pub mod Makes
 pub mod Steps
 pub mod Bases
 pub mod Lines

@@ -1,9 +1,9 @@
-//! An index of names that were found, each with what a Look of it answers.
+//! An index of names that were found or made, each with what a Look of it answers.
 //!
 //! Promise: where each line was true of the machine's files, so is all that the index tells. Whoever has an index
 //! notes each step in it: one after which a name may find something else takes all lines out. Without memory there are
 //! fewer lines.
-ghost use Rattle.std.specs.Prelude.{◌≡◌, IfSome};
+ghost use Rattle.std.specs.Prelude.{◌≡◌, ℕ, List, IfSome};
 ghost use Rattle.nofs_model.specs.Files.{Files};
 ghost use Rattle.nofs_shared.specs.Index.Lines.{AllTrue, IsTrueLine};
 ghost use Rattle.nofs_shared.specs.Index.Names.{Answered, Finds, NamesGoOn, moves_names};
@@ -11,6 +11,7 @@ ghost use Rattle.nofs_history.specs.Machine.{is_refused};
 
 use nofs_dirent::Name;
 use nofs_history::{Found, Reply, Step};
+use nofs_inode::inode::FileKind;
 use std::alloc::Global;
 use std::collections::HashMap;
 
@@ -22,7 +23,7 @@ const FIRST_CODE: u64 = 0xcbf2_9ce4_8422_2325;
 
 const CODE_FACTOR: u64 = 0x0100_0000_01b3;
 
-/// A name that was found in a directory, and the file to which it leads.
+/// A name in a directory, and the file to which it leads.
 #[derive(Drop)]
 pub struct Line {
     pub(crate) directory: u32,
@@ -31,7 +32,7 @@ pub struct Line {
     pub(crate) found: Found,
 }
 
-/// Names that were found. Names of one code push each other out.
+/// Names that were found or made. Names of one code push each other out.
 #[derive(Drop)]
 pub struct Index {
     pub(crate) lines: HashMap<u64, Line>,
@@ -120,7 +121,7 @@ impl Index {
         let _done = self.lines.insert(code, line);
     }
 
-    // Adds the answer of a Look.
+    // Adds what a Look of the name answers.
     fn learn(&mut self, alloc: Global, directory: u32, generation: u64, name: &Name, found: Found)
         ensures { (F : Files) → AllTrue F self.old → Finds F directory generation name.now found → AllTrue F self.new }
     {
@@ -138,7 +139,25 @@ impl Index {
         }
     }
 
-    // Adds the answer of a step, where it is a Look that found a file.
+    // Adds the file of a name, where there is one.
+    fn learn_some(
+        &mut self,
+        alloc: Global,
+        directory: u32,
+        generation: u64,
+        name: &Name,
+        found: Option<Found>,
+    )
+        ensures { (F : Files) → AllTrue F self.old
+            → IfSome found (λ it. Finds F directory generation name.now it) → AllTrue F self.new }
+    {
+        match found {
+            Some(it) => self.learn(alloc, directory, generation, name, it),
+            None => {}
+        }
+    }
+
+    // Adds the name of a step, where its reply tells which file it finds.
     fn learn_from(&mut self, alloc: Global, step: &Step, reply: &Reply)
         ensures { (F : Files) → AllTrue F self.old → Answered step.now reply.now F → AllTrue F self.new }
     {
@@ -147,10 +166,19 @@ impl Index {
                 directory,
                 generation,
                 name,
-            } => match found_in(reply) {
-                Some(it) => self.learn(alloc, *directory, *generation, name, it),
-                None => {}
-            },
+            } => self.learn_some(alloc, *directory, *generation, name, found_in(reply)),
+            Step::Make {
+                directory,
+                generation,
+                name,
+                kind,
+            } => self.learn_some(alloc, *directory, *generation, name, made_in(reply, *kind)),
+            Step::Link {
+                directory,
+                generation,
+                name,
+                ..
+            } => self.learn_some(alloc, *directory, *generation, name, linked_in(step, reply)),
             _ => {}
         }
     }
@@ -167,12 +195,43 @@ impl Index {
     }
 }
 
-// The file that a reply found.
+// The file that a Look found.
 fn found_in(reply: &Reply) -> Option<Found>
-    ensures { IfSome result (λ it. reply.now ≡ Reply.Found it) }
+    ensures { (F : Files) (d g : ℕ) (name : List ℕ) → Answered (Step.Look d g name) reply.now F
+        → IfSome result (λ it. Finds F d g name it) }
 {
     match reply {
         Reply::Found(it) => Some(*it),
+        _ => None,
+    }
+}
+
+// The file that a Make of this kind made.
+fn made_in(reply: &Reply, kind: FileKind) -> Option<Found>
+    ensures { (F : Files) (d g : ℕ) (name : List ℕ) → Answered (Step.Make d g name kind) reply.now F
+        → IfSome result (λ it. Finds F d g name it) }
+{
+    match reply {
+        Reply::Made { inode, generation } => Some(Found {
+            inode: *inode,
+            generation: *generation,
+            kind,
+        }),
+        _ => None,
+    }
+}
+
+// The file that a Link gave a name. It is no directory.
+fn linked_in(step: &Step, reply: &Reply) -> Option<Found>
+    ensures { (F : Files) (d g i of : ℕ) (name : List ℕ) → step.now ≡ Step.Link d g name i of
+        → Answered step.now reply.now F → IfSome result (λ it. Finds F d g name it) }
+{
+    match (step, reply) {
+        (Step::Link { inode, of, .. }, Reply::Linked) => Some(Found {
+            inode: *inode,
+            generation: *of,
+            kind: FileKind::File,
+        }),
         _ => None,
     }
 }

@@ -7,7 +7,7 @@
 //! The parts, from the lowest up:
 //!
 //! - `acts`: each step by its kind: the call of the core that makes it, and the room in the history that it needs.
-//! - `index`: names that were found, and the files to which they lead.
+//! - `index`: names that were found or made, and the files to which they lead.
 //! - `mount`: a mounted disk with its history: it begins, makes steps, looks at elements, writes out, and ends.
 //! - `passes`: the mount behind a turn, with a pass for each caller.
 //! - `laws`: mounts with crashes between them.

@@ -31,8 +31,7 @@ use Rattle.nofs_shared.specs.Mount.Forms.{Forms}
 use Rattle.nofs_shared.specs.Mount.Invariant.{IsMount, IsSoundDisk}
 use Rattle.nofs_shared.proofs.OnIndex.Lines.{all-true-on}
 use Rattle.nofs_shared.proofs.OnIndex.Bases.{world-sane}
-use Rattle.nofs_shared.proofs.OnIndex.Names.{answered-next}
-use Rattle.nofs_shared.proofs.OnIndex.Steps.{names-stay}
+use Rattle.nofs_shared.proofs.OnIndex.Steps.{answered-next, names-stay}
 use Rattle.nofs_shared.proofs.OnMount.Histories.{mount-history}
 
 -- The last entry of a run
@@ -129,11 +128,11 @@ module _ (found d e : DiskState) (first : ℕ) (k l : Books) (m : IsMount found 
             ∙ ap (λ (B : Image). files_along (agreed_files B) k.history.entries) (base ∙ was-same q) in
             let new : p.world.files ≡ files_of e l =
             o.files ∙ ap (λ (B : Image). files_along (agreed_files B) l.history.entries) base in
+            let sane = world-sane found e first l is n q p base o k.history.entries r.0 r.1 in
             subst (λ (F : Files). AllTrue F after) new
             (notes r.0.files p.world.files (subst (λ (F : Files). AllTrue F index) (sym old) (t q before)) (record {
-              stays = names-stay r.0 p.world x
-                  (world-sane found e first l is n q p base o k.history.entries r.0 r.1) r.2;
-              answered = answered-next r.0 p.world x r.2;
+              stays = names-stay r.0 p.world x sane r.2;
+              answered = answered-next r.0 p.world x sane r.2;
             }))
 
     -- the step moves no names

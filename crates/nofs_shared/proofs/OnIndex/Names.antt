@@ -29,7 +29,6 @@ use Rattle.nofs_history.specs.Next.{Next}
 use Rattle.nofs_history.specs.declared.machine.history.Claims.{Claims}
 use Rattle.nofs_history.specs.declared.machine.history.Entry1.{Entry1}
 use Rattle.nofs_history.specs.declared.machine.replies.Found.{Found}
-use Rattle.nofs_history.specs.declared.machine.replies.Reply.{Reply}
 use Rattle.nofs_history.specs.declared.machine.replies.Reply.TheVariants as reply
 use Rattle.nofs_history.specs.declared.machine.steps.Step.{Step}
 use Rattle.nofs_history.specs.declared.machine.steps.Step.TheVariants as step
@@ -37,7 +36,7 @@ use Rattle.nofs_crashlaw.proofs.OnHistories.FlushStage.{files-stay}
 use Rattle.nofs_crashlaw.proofs.OnRuns.Acts.{accepted-acts, files-next}
 use Rattle.nofs_crashlaw.proofs.OnRuns.Gives.{none-at, put-file, resize-file, row-none}
 use Rattle.std.proofs.lemmas.Bool.{not-false}
-use Rattle.nofs_shared.specs.Index.Names.{Answered, Finds}
+use Rattle.nofs_shared.specs.Index.Names.{Finds}
 
 -- What is found depends on the named part alone
 
@@ -295,10 +294,3 @@ finds-passes W d g name it f =
     missing-none None e = absurd (let z : reply.Refused refusal.Missing ≡ reply.Found it =
         sym (ap (found_reply W.files d) e) ∙ f.answer in let y : true ≡ false = ap is_refused z in cc y)
     missing-none (Some p) e = rw e refl
-
-pub answered-next : (W V : World) (e : Entry1) → Next W e V → Answered e.step e.reply V.files
-answered-next W V e next = go e.step e.reply refl refl
-  where
-    go : (s : Step) (r : Reply) → e.step ≡ s → e.reply ≡ r → Answered s r V.files
-    go (step.Look d g name) (reply.Found it) es er = look-finds W V e d g name it next es er
-    go _ _ es er = tt

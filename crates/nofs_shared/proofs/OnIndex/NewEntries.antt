@@ -1,48 +1,47 @@
--- A Make and a Link that are accepted make one new name.
-use Rattle.std.proofs.Common.{◌≡◌, ◌≢◌, ℕ, zero, suc, ◌/◌, ◌%◌, Bool, true, false, cond, eqb, ◌&&◌, not, List, [], ◌∷◌}
-use Rattle.std.proofs.Common.{length, Option, Some, None, is_some, unwrap_or, ◌⊎◌, inl, inr, refl, sym, ap, ◌∙◌, subst}
-use Rattle.std.proofs.Common.{subst₂, arith, Contains, eqb-true, eq-eqb, ne_eqb, lt-ltb, ltb}
-use Rattle.nofs_dirent.specs.declared.entry.Entry.{Entry}
+-- What a step leaves that makes one entry and one back link, and that a Link makes one new name, which finds its file.
+use Rattle.std.proofs.Common.{Contains, List, None, Option, Some, ap, arith, cond, false, is_some, length, ltb, not}
+use Rattle.std.proofs.Common.{refl, subst, subst₂, sym, true, ℕ, ◌%◌, ◌&&◌, ◌/◌, ◌∙◌, ◌≡◌, ◌≢◌}
+use Rattle.std.specs.Prelude.{unwrap_or}
 use Rattle.nofs_dirent.specs.Entries.{entry_limit, spelled_entry}
+use Rattle.nofs_dirent.specs.declared.entry.Entry.{Entry}
 use Rattle.nofs_inode.specs.declared.inode.BackLink.{BackLink}
+use Rattle.nofs_inode.specs.declared.inode.FileKind.TheVariants.{Directory as Folder, File}
 use Rattle.nofs_inode.specs.declared.inode.FileKind.{FileKind}
 use Rattle.nofs_model.specs.Files.{FileState, Files, entry_at, entry_held, entry_in_file, is_folder}
-use Rattle.nofs_model.specs.declared.image.value.Value.{Value}
 use Rattle.nofs_model.specs.declared.image.value.Value.TheVariants.{Bytes, Hole, Lost}
-use Rattle.nofs_model.proofs.OnSlots.Find.{and-both}
-use Rattle.nofs_history.specs.Meta.{Gone, Is, Meta}
-use Rattle.nofs_history.specs.Search.{first_of}
+use Rattle.nofs_model.specs.declared.image.value.Value.{Value}
 use Rattle.nofs_history.specs.Answers.{reply_of}
-use Rattle.nofs_history.specs.Machine.{Given, after_meta, born_file, bytes_in, entry_given, file_after, files_after}
-use Rattle.nofs_history.specs.Machine.{filled, found, gives, is_at, is_paired, is_refused, link_given, link_to}
-use Rattle.nofs_history.specs.Machine.{make_given}
-use Rattle.nofs_history.specs.Machine.{meta_with, new_file, no_meta, place_for, set_link, value_of, with_entry}
-use Rattle.nofs_history.specs.Machine.{with_meta}
-use Rattle.nofs_history.specs.World.{World}
 use Rattle.nofs_history.specs.Claims.{IsClaim}
+use Rattle.nofs_history.specs.Machine.{Given, bytes_in, files_after, filled, found, gives, is_paired, is_refused}
+use Rattle.nofs_history.specs.Machine.{link_given, no_meta, place_for, value_of, with_entry}
 use Rattle.nofs_history.specs.Next.{Next}
-use Rattle.nofs_history.specs.Refusals.{bad_name, directory_full, exists, not_directory, rows, stale}
-use Rattle.nofs_history.specs.declared.machine.history.Claims.{Claims}
+use Rattle.nofs_history.specs.Refusals.{bad_name, directory_full, rows}
+use Rattle.nofs_history.specs.Search.{first_of}
+use Rattle.nofs_history.specs.World.{World}
 use Rattle.nofs_history.specs.declared.machine.history.Entry1.{Entry1}
 use Rattle.nofs_history.specs.declared.machine.replies.Refusal.TheVariants as refusal
-use Rattle.nofs_history.specs.declared.machine.steps.Step.{Step}
 use Rattle.nofs_history.specs.declared.machine.steps.Step.TheVariants as step
-use Rattle.nofs_crashlaw.proofs.OnFiles.Given.{at-itself, value-of}
+use Rattle.nofs_history.specs.declared.machine.steps.Step.{Step}
+use Rattle.nofs_crashlaw.specs.Paths.Moves.{named_entry}
+use Rattle.nofs_crashlaw.specs.Runs.Pairs.{IsDirectory, is_drop}
+use Rattle.nofs_crashlaw.proofs.OnFiles.Given.{value-of}
+use Rattle.nofs_crashlaw.proofs.OnLives.Era.{gives-birth}
 use Rattle.nofs_crashlaw.proofs.OnNames.EntryCells.{entry-there}
-use Rattle.nofs_crashlaw.proofs.OnNames.Premises.{link-gives, make-given-is, no-entry-unpaired, place-unpaired}
+use Rattle.nofs_crashlaw.proofs.OnNames.Premises.{link-gives, no-entry-unpaired, place-unpaired}
+use Rattle.nofs_crashlaw.proofs.OnPaths.Links.{link-asks, link-linked}
+use Rattle.nofs_crashlaw.proofs.OnPaths.Looks.{Only}
 use Rattle.nofs_crashlaw.proofs.OnRuns.Acts.{accepted-acts}
 use Rattle.nofs_crashlaw.proofs.OnRuns.Chains.{Names}
-use Rattle.nofs_crashlaw.proofs.OnRuns.Directories.{directory-row, place-range}
-use Rattle.nofs_crashlaw.proofs.OnRuns.Gives.{folder-metas, none-at, not-born, other-inode, row-none}
+use Rattle.nofs_crashlaw.proofs.OnRuns.Gives.{folder-at, folder-metas, given-kind, none-at, not-born, row-none}
 use Rattle.nofs_crashlaw.proofs.OnRuns.Links.{IsSane, directory-after, linked-paired, pair-linked}
-use Rattle.nofs_crashlaw.proofs.OnRuns.PairEntries.{entry-slot, read-back, short-entry}
-use Rattle.nofs_crashlaw.proofs.OnRuns.Places.{at-contains, contains-at}
-use Rattle.nofs_crashlaw.proofs.OnRuns.Sane.{make-new, new-spelled}
+use Rattle.nofs_crashlaw.proofs.OnRuns.PairEntries.{entry-slot, short-entry}
+use Rattle.nofs_crashlaw.proofs.OnRuns.Places.{contains-at}
+use Rattle.nofs_crashlaw.proofs.OnRuns.Sane.{After, New, Old, after}
 use Rattle.nofs_crashlaw.proofs.OnRuns.StepLinks.{directory-next, done, link-next}
-use Rattle.nofs_crashlaw.proofs.OnPaths.Links.{link-asks, link-linked}
-use Rattle.nofs_crashlaw.specs.Paths.Moves.{named_entry}
-use Rattle.nofs_crashlaw.specs.Runs.Pairs.{HasAt, IsDirectory, is_drop}
+use Rattle.nofs_shared.specs.Index.Names.{Finds}
+use Rattle.nofs_shared.proofs.OnIndex.Learned.{linked-finds}
 use Rattle.nofs_shared.proofs.OnIndex.NewNames.{IsNewName, WasLink, pair-file}
+use Rattle.nofs_shared.proofs.OnIndex.WasLinks.{link-was}
 
 -- Cells
 
@@ -55,140 +54,28 @@ entry-beside Hole e l bytes whole short ne = entry-there Hole e l bytes whole sh
 entry-beside Lost e l bytes whole short ne = entry-there Hole e l bytes whole short (λ z. cc z) ne
 
 -- where a cell is given to what has a file, it has these bytes at this place
-abbrev OneEntry : Files → Given → ℕ → ℕ → List ℕ → Type 0
+abbrev pub OneEntry : Files → Given → ℕ → ℕ → List ℕ → Type 0
 OneEntry F given dir place bytes = (d k : ℕ) (f : FileState) (v : Value) → F d ≡ Some f
     → given.slots d f.generation k ≡ Some v
     → (dir ≡ d) × (place / 16 ≡ k) × (with_entry (value_of F dir (place / 16)) place bytes ≡ v)
 
--- Back links
-
-some-same : (a b : FileState) → Some a ≡ Some b → a ≡ b
-some-same a b e = cc e
-
--- a link that is set is the new one, and each other one was there
-set-cases : (ls : List BackLink) (b c : ℕ) (link new : BackLink) → HasAt (set_link ls b new) c link
-    → (new ≡ link) ⊎ HasAt ls c link
-set-cases [] b c link new h = absurd h
-set-cases (l ∷ ls) zero zero link new h = inl h
-set-cases (l ∷ ls) zero (suc c) link new h = inr h
-set-cases (l ∷ ls) (suc b) zero link new h = inr h
-set-cases (l ∷ ls) (suc b) (suc c) link new h = set-cases ls b c link new h
-
--- the links of a file that is made
-first-cases : (a z : BackLink) (b : ℕ) (link : BackLink) → HasAt (a ∷ z ∷ z ∷ z ∷ []) b link
-    → (a ≡ link) ⊎ (z ≡ link)
-first-cases a z zero link h = inl h
-first-cases a z (suc zero) link h = inr h
-first-cases a z (suc (suc zero)) link h = inr h
-first-cases a z (suc (suc (suc zero))) link h = inr h
-first-cases a z (suc (suc (suc (suc b)))) link h = absurd h
-
-module _ (F : Files) (dir g place j : ℕ) (name : List ℕ) (h : FileState) (link : BackLink)
-    (has : Contains h.links link) (apart : link.directory ≡ dir → link.entry ≡ place → ⊥) where
-  -- a file that gets no meta
-  unchanged : (given : Given) (f : FileState) → F j ≡ Some f → Some (filled given j f) ≡ Some h → WasLink F j h link
-  unchanged given f is e =
-      let s = some-same (filled given j f) h e in
-      record {
-        file = f;
-        is = is;
-        generation = sym (ap (λ (q : FileState). q.generation) s);
-        kind = sym (ap (λ (q : FileState). q.kind) s);
-        has = subst (λ (q : FileState). Contains q.links link) (sym s) has;
-      }
-
-  not-new : link_to dir place g ≡ link → ⊥
-  not-new e = apart (sym (ap (λ (q : BackLink). q.directory) e)) (sym (ap (λ (q : BackLink). q.entry) e))
-
-  module _ (i of b : ℕ) where
-    abbrev set_meta : FileState → Meta
-    set_meta q = Is q.kind q.size (set_link q.links b (link_to dir place g))
-
-    abbrev linked : Given
-    linked = link_given F dir g name i of place b
-
-    set-links : (f : FileState) → F j ≡ Some f → with_meta (filled linked j f) (set_meta f) ≡ Some h
-        → WasLink F j h link
-    set-links f is e =
-        let s : record (filled linked j f) { links = set_link f.links b (link_to dir place g) } ≡ h =
-        some-same _ h e in
-        let at = contains-at (set_link f.links b (link_to dir place g)) link
-        (subst (λ (q : FileState). Contains q.links link) (sym s) has) in
-        elim (set-cases f.links b at.0 link (link_to dir place g) at.1) [
-          | inl new ↦ absurd (not-new new)
-          | inr old ↦ record {
-            file = f;
-            is = is;
-            generation = sym (ap (λ (q : FileState). q.generation) s);
-            kind = sym (ap (λ (q : FileState). q.kind) s);
-            has = at-contains f.links at.0 link old;
-          }
-        ]
-
-    pub link-was : files_after F (link_given F dir g name i of place b) j ≡ Some h → WasLink F j h link
-    link-was e = go (F j) refl e
-      where
-        by : (f : FileState) → F j ≡ Some f → (c : Bool) → is_at i of j f.generation ≡ c
-            → after_meta (cond c (Some (meta_with F i (λ q. set_meta q))) None) (filled linked j f) ≡ Some h
-            → WasLink F j h link
-        by f is false ec q = unchanged linked f is q
-        by f is true ec q =
-            let at : F i ≡ Some f = ap F (eqb-true i j (and-both (eqb i j) (eqb of f.generation) ec).0) ∙ is in
-            let m : meta_with F i (λ q. set_meta q) ≡ set_meta f =
-            ap (λ (o : Option FileState). elim o [ None ↦ Gone | Some q ↦ set_meta q ]) at in
-            set-links f is (ap (λ (x : Meta). with_meta (filled linked j f) x) (sym m) ∙ q)
-
-        go : (o : Option FileState) → F j ≡ o → file_after linked j o ≡ Some h → WasLink F j h link
-        go None eo q = cc q
-        go (Some f) eo q = by f eo (is_at i of j f.generation) refl q
-
-  module _ (kind : FileKind) (c : Claims) (q : ℕ) (bottom : F 0 ≡ None) (at : IsDirectory F link.directory q) where
-    abbrev made : Given
-    made = make_given F dir g name kind c place
-
-    not-first : Contains (link_to dir place g ∷ link_to 0 0 0 ∷ link_to 0 0 0 ∷ link_to 0 0 0 ∷ []) link → ⊥
-    not-first there =
-        let k = contains-at (link_to dir place g ∷ link_to 0 0 0 ∷ link_to 0 0 0 ∷ link_to 0 0 0 ∷ []) link there in
-        elim (first-cases (link_to dir place g) (link_to 0 0 0) k.0 link k.1) [
-          | inl new ↦ not-new new
-          | inr none ↦
-              let z : F 0 ≡ Some at.file = ap F (ap (λ (x : BackLink). x.directory) none) ∙ at.is in
-              cc (z, bottom)
-        ]
-
-    pub make-was : files_after F (make_given F dir g name kind c place) j ≡ Some h → WasLink F j h link
-    make-was e = go (eqb j c.inode) refl e
-      where
-        by : eqb j c.inode ≡ false → (o : Option FileState) → F j ≡ o → file_after made j o ≡ Some h
-            → WasLink F j h link
-        by ec None eo x = cc x
-        by ec (Some f) eo x =
-            let m : made.metas j f.generation ≡ None = rw ec refl in
-            unchanged made f eo (sym (ap (λ (o : Option Meta). after_meta o (filled made j f)) m) ∙ x)
-
-        go : (b : Bool) → eqb j c.inode ≡ b
-            → file_after made j (born_file (cond b (Some c.generation) None) (F j)) ≡ Some h → WasLink F j h link
-        go false ec x = by ec (F j) refl x
-        go true ec x =
-            let same = eq-eqb c.generation c.generation refl in
-            let m : made.metas j c.generation ≡ Some (Is kind 0
-            (link_to dir place g ∷ link_to 0 0 0 ∷ link_to 0 0 0 ∷ link_to 0 0 0 ∷ [])) = rw (ec, same) refl in
-            let y : with_meta (filled made j (new_file c.generation)) (Is kind 0
-            (link_to dir place g ∷ link_to 0 0 0 ∷ link_to 0 0 0 ∷ link_to 0 0 0 ∷ [])) ≡ Some h =
-            sym (ap (λ (o : Option Meta). after_meta o (filled made j (new_file c.generation))) m) ∙ x in
-            let s = some-same _ h y in
-            absurd (not-first (subst (λ (f : FileState). Contains f.links link) (sym s) has))
-
 -- The new entry
 
-some-place : (o : Option ℕ) → not (is_some o) ≡ false → (p : ℕ) × (o ≡ Some p)
+pub same-file : (o : Option FileState) (a b : FileState) → o ≡ Some a → o ≡ Some b → a ≡ b
+same-file o a b x y = cc (x, y)
+
+file-kind : (k : FileKind) → is_folder k ≡ false → k ≡ File
+file-kind File e = refl
+file-kind Folder e = cc e
+
+pub some-place : (o : Option ℕ) → not (is_some o) ≡ false → (p : ℕ) × (o ≡ Some p)
 some-place None h = cc h
 some-place (Some p) h = (p, refl)
 
 module _ (W V : World) (e : Entry1) (sane : IsSane W) (next : Next W e V) (ok : is_refused e.reply ≡ false)
     (undropped : is_drop e.step ≡ true → ⊥) where
   -- a directory after the step
-  directory : (d g : ℕ) (at : IsDirectory W.files d g)
+  pub directory : (d g : ℕ) (at : IsDirectory W.files d g)
       → V.files d ≡ Some (filled (gives W.files e.step e.claims) d at.file)
   directory d g at =
       let a = accepted-acts W V e next ok in
@@ -235,8 +122,22 @@ module _ (W V : World) (e : Entry1) (sane : IsSane W) (next : Next W e V) (ok : 
           subst₂ (λ (a b : ℕ). is_paired V.files a b ≡ true) p.directory p.entry
           (linked-paired (λ y. Names x.inode p.file.generation y) V.files x.inode p.file.generation at.0 p.link n)
 
+  -- a file keeps its kind
+  kept-kind : (j : ℕ) (f h : FileState) → W.files j ≡ Some f → V.files j ≡ Some h → h.kind ≡ f.kind
+  kept-kind j f h is now =
+      let a = accepted-acts W V e next ok in
+      go a.1 (after W.files (gives W.files e.step e.claims) j h (gives-birth W.files e.step e.claims)
+      (λ q at. given-kind W e.claims e.step a.1 j q at)
+      (sym (ap (λ (F : Files). F j) (done W V e sane next ok)) ∙ now))
+    where
+      go : IsClaim W e.step e.claims → After W.files (gives W.files e.step e.claims) j h → h.kind ≡ f.kind
+      go claim (Old q was gen kind values alive) =
+          let same : q ≡ f = same-file (W.files j) q f was is in kind ∙ ap (λ (x : FileState). x.kind) same
+      go claim (New g born gen values metas) =
+          absurd (let z = not-born W V e.claims e.step claim j f is in cc (born, z))
+
   -- a new name, where no more than one entry and one link are new
-  new-name : (dir place i of : ℕ) (name : List ℕ) → bad_name name ≡ None
+  pub new-name : (dir place i of : ℕ) (name : List ℕ) → bad_name name ≡ None
       → OneEntry W.files (gives W.files e.step e.claims) dir place (spelled_entry i of name)
       → place_for W.files dir name ≡ Some place → is_some (found W.files dir name) ≡ false
       → entry_at V.files dir place ≡ Some (named_entry i of name)
@@ -256,9 +157,11 @@ module _ (W V : World) (e : Entry1) (sane : IsSane W) (next : Next W e V) (ok : 
     was = was;
   }
 
+-- a Link's new name, and the file that it finds
 pub link-new : (W V : World) (e : Entry1) (dir g i of : ℕ) (name : List ℕ) → IsSane W → Next W e V
     → is_refused e.reply ≡ false → e.step ≡ step.Link dir g name i of
     → (p : ℕ) × IsNewName W.files V.files dir p name
+    × Finds V.files dir g name (record { inode = i; generation = of; kind = File })
 link-new W V e dir g i of name sane next ok es =
     let a = accepted-acts W V e next ok in
     let r : first_of (rows W V (step.Link dir g name i of)) ≡ None =
@@ -273,96 +176,20 @@ link-new W V e dir g i of name sane next ok es =
     let files : V.files ≡ files_after W.files (link_given W.files dir g name i of p asks.place) =
     done W V e sane next ok ∙ ap (λ (x : Given). files_after W.files x) given in
     let l = link-linked W V e dir g i of p name sane next es
-    (a.2 ∙ ap (λ (s : Step). reply_of W s e.claims) es) at.1 in (
+    (a.2 ∙ ap (λ (s : Step). reply_of W s e.claims) es) at.1 in
+    let new : IsNewName W.files V.files dir p name = new-name W V e sane next ok undropped dir p i of name asks.good
+    (λ d k f v is q. entry-slot W.files dir g p (spelled_entry i of name) no_meta d f.generation k v
+    (sym (ap (λ (x : Given). x.slots d f.generation k) given) ∙ q))
+    at.1 l.2 (l.1.there ∙ ap Some l.1.passes)
+    (λ j q h link is has dir' apart. link-was W.files dir g p j name h link has apart i of asks.place
+    (sym (ap (λ (F : Files). F j) files) ∙ is)) in
+    let kind : l.1.file.kind ≡ File = kept-kind W V e sane next ok undropped i asks.own.file l.1.file asks.own.is l.1.is
+    ∙ file-kind asks.own.file.kind (sym (folder-at W.files i asks.own.file asks.own.is) ∙ asks.file) in (
       p,
-      new-name W V e sane next ok (λ q. let z : is_drop e.step ≡ false = ap is_drop es in cc (q, z)) dir p i of name
-          asks.good
-          (λ d k f v is q. entry-slot W.files dir g p (spelled_entry i of name) no_meta d f.generation k v
-          (sym (ap (λ (x : Given). x.slots d f.generation k) given) ∙ q))
-          at.1 l.2 (l.1.there ∙ ap Some l.1.passes)
-          (λ j q h link is has dir' apart. link-was W.files dir g p j name h link has apart i of asks.place
-          (sym (ap (λ (F : Files). F j) files) ∙ is)),
+      new,
+      linked-finds (λ x. Only (named_entry i of name) x) W.files V.files dir g p i of l.0 name File new
+          asks.parent asks.good l.1 kind,
     )
-
-module _ (W V : World) (e : Entry1) (dir g : ℕ) (name : List ℕ) (kind : FileKind) (sane : IsSane W) (next : Next W e V)
-    (ok : is_refused e.reply ≡ false) (es : e.step ≡ step.Make dir g name kind) where
-  row : first_of (rows W V (step.Make dir g name kind)) ≡ None
-  row = subst (λ (s : Step). first_of (rows W V s) ≡ None) es (accepted-acts W V e next ok).0
-
-  claim : IsClaim W (step.Make dir g name kind) e.claims
-  claim = subst (λ (s : Step). IsClaim W s e.claims) es (accepted-acts W V e next ok).1
-
-  undropped : is_drop e.step ≡ true → ⊥
-  undropped q = let z : is_drop e.step ≡ false = ap is_drop es in cc (q, z)
-
-  good : bad_name name ≡ None
-  good = none-at (rows W V (step.Make dir g name kind)) row 0 (bad_name name) refl
-
-  parent : IsDirectory W.files dir g
-  parent = directory-row W dir g (none-at (rows W V (step.Make dir g name kind)) row 1 (stale W dir g) refl)
-      (none-at (rows W V (step.Make dir g name kind)) row 2 (not_directory W dir) refl)
-
-  free : is_some (found W.files dir name) ≡ false
-  free = row-none (is_some (found W.files dir name)) refusal.Exists
-      (none-at (rows W V (step.Make dir g name kind)) row 3 (exists W dir name) refl)
-
-  place : (p : ℕ) × (place_for W.files dir name ≡ Some p)
-  place = some-place (place_for W.files dir name) (row-none _ refusal.DirectoryFull
-      (none-at (rows W V (step.Make dir g name kind)) row 4 (directory_full W dir name) refl))
-
-  module _ (p : ℕ) (ep : place_for W.files dir name ≡ Some p) where
-    given : gives W.files e.step e.claims ≡ make_given W.files dir g name kind e.claims p
-    given = ap (λ (s : Step). gives W.files s e.claims) es
-        ∙ make-given-is W.files dir g name kind e.claims p ep
-
-    files : V.files ≡ files_after W.files (make_given W.files dir g name kind e.claims p)
-    files = done W V e sane next ok ∙ ap (λ (x : Given). files_after W.files x) given
-
-    -- the cells of what has a file are those of the new entry alone
-    slots : (d k : ℕ) (f : FileState) → W.files d ≡ Some f
-        → (gives W.files e.step e.claims).slots d f.generation k
-        ≡ (entry_given W.files dir g p (spelled_entry e.claims.inode e.claims.generation name) no_meta).slots d
-        f.generation k
-    slots d k f is =
-        let z : eqb e.claims.inode d ≡ false = ne_eqb e.claims.inode d
-        (λ t. other-inode W dir g name kind e.claims d f claim is (sym t)) in
-        ap (λ (x : Given). x.slots d f.generation k) given
-        ∙ ap (λ (t : Bool). cond (t && eqb e.claims.generation f.generation) (Some Hole)
-        ((entry_given W.files dir g p (spelled_entry e.claims.inode e.claims.generation name) no_meta).slots d
-        f.generation k)) z
-
-    slot : (gives W.files e.step e.claims).slots dir parent.file.generation (p / 16)
-        ≡ Some (with_entry (value_of W.files dir (p / 16)) p
-        (spelled_entry e.claims.inode e.claims.generation name))
-    slot =
-        let same = at-itself dir g in
-        let k = eq-eqb (p / 16) (p / 16) refl in
-        slots dir (p / 16) parent.file parent.is
-        ∙ ap (λ (q : ℕ). (entry_given W.files dir g p (spelled_entry e.claims.inode e.claims.generation name)
-        no_meta).slots dir q (p / 16)) parent.generation
-        ∙ rw (same, k) refl
-
-    inside : entry_in_file (Some (filled (gives W.files e.step e.claims) dir parent.file)) p
-        ≡ Some (named_entry e.claims.inode e.claims.generation name)
-    inside =
-        let lt = lt-ltb p entry_limit (place-range W.files dir name p ep) in
-        let k = parent.folder in
-        let numbers = new-spelled W e.claims sane (make-new W V e.claims dir g name kind row claim) in
-        let whole : length (bytes_in (value_of W.files dir (p / 16))) ≡ 1024 =
-        ap (λ (v : Value). length (bytes_in v)) (value-of W.files dir parent.file parent.is (p / 16))
-        ∙ sane.whole dir parent.file parent.is parent.folder (p / 16) in
-        rw (k, lt) (ap (λ (o : Option Value). entry_held (unwrap_or o (parent.file.values (p / 16))) p) slot
-        ∙ read-back (value_of W.files dir (p / 16)) p e.claims.inode e.claims.generation name whole numbers good)
-
-    make-at : IsNewName W.files V.files dir p name
-    make-at = new-name W V e sane next ok undropped dir p e.claims.inode e.claims.generation name good
-        (λ d k f v is q. entry-slot W.files dir g p (spelled_entry e.claims.inode e.claims.generation name) no_meta d
-        f.generation k v (sym (slots d k f is) ∙ q))
-        ep free
-        (ap (λ (o : Option FileState). entry_in_file o p) (directory W V e sane next ok undropped dir g parent)
-        ∙ inside)
-        (λ j q h link is has at apart. make-was W.files dir g p j name h link has apart kind e.claims q sane.bottom at
-        (sym (ap (λ (F : Files). F j) files) ∙ is))
-
-  pub make-new-name : (p : ℕ) × IsNewName W.files V.files dir p name
-  make-new-name = let at = place in (at.0, make-at at.0 at.1)
+  where
+    undropped : is_drop e.step ≡ true → ⊥
+    undropped q = let z : is_drop e.step ≡ false = ap is_drop es in cc (q, z)

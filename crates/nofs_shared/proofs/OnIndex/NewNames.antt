@@ -69,7 +69,7 @@ least-kept old now at (suc n) p is here back =
 
 -- A directory by the rows of a Look
 
-both : (a b : Bool) → a ≡ true → b ≡ true → (a && b) ≡ true
+pub both : (a b : Bool) → a ≡ true → b ≡ true → (a && b) ≡ true
 both true true p q = refl
 both true false p q = cc q
 both false b p q = cc p

@@ -1,6 +1,7 @@
 -- What a Look finds by the machine's files, and which steps may change it.
 use Rattle.std.specs.Prelude.{◌≡◌, ℕ, Bool, true, false, ◌&&◌, not, List, is_some, ◌==◌}
 use Rattle.nofs_dirent.specs.Names.{is_name}
+use Rattle.nofs_inode.specs.declared.inode.FileKind.TheVariants.{File}
 use Rattle.nofs_model.specs.Files.{Files}
 use Rattle.nofs_history.specs.Machine.{found, generation_of, is_folder_at, is_refused}
 use Rattle.nofs_history.specs.Answers.{found_reply}
@@ -33,9 +34,13 @@ moves_names (step.Flush _ _) r = false
 moves_names (step.SeeInode _) r = false
 moves_names (step.SeeBlock _) r = false
 
--- what a Look was answered stands by these files
+-- by these files the name of the step finds the file that its reply tells
 abbrev pub Answered : Step → Reply → Files → Type 0
 Answered (step.Look d g name) (reply.Found it) F = Finds F d g name it
+Answered (step.Make d g name kind) (reply.Made i of) F =
+    Finds F d g name (record { inode = i; generation = of; kind = kind })
+Answered (step.Link d g name i of) reply.Linked F =
+    Finds F d g name (record { inode = i; generation = of; kind = File })
 Answered _ _ F = Unit {0}
 
 -- from these files to those after a step with this reply: what a name finds it still finds, unless the step may change

@@ -1,4 +1,4 @@
-//! A name that was found is found again without a read.
+//! A name that was found or made is found again without a read, until a rename was done.
 use crate::tests::asks::{Ask, Cases, follow};
 use crate::tests::mounts::examined;
 use nofs_memdisk::MemDisk;
@@ -7,35 +7,56 @@ use nofs_test_disks::formatted;
 use std::alloc::Global;
 use std::test::Fail;
 
-const MAKES: Cases = &[
-    (Ask::SeeInode(3), "free"),
-    (Ask::Make(b"a"), "made 3 1099511627776"),
-];
+/// Steps, and a look behind them.
+type Story = (Cases<'static>, Cases<'static>);
 
-const LOOKS: Cases = &[(Ask::Look(b"a"), "found 3 1099511627776 File")];
+/// A file is made.
+const MADE: Story = (
+    &[
+        (Ask::SeeInode(3), "free"),
+        (Ask::Make(b"a"), "made 3 1099511627776"),
+    ],
+    &[(Ask::Look(b"a"), "found 3 1099511627776 File")],
+);
 
-// Makes a file, and then looks for it so often.
-fn make_and_look(alloc: Global, mount: &mut Mount<MemDisk>, looks: u64) -> Result<(), Fail> {
-    follow(alloc, mount, MAKES)?;
+/// A file is made and gets another name.
+const RENAMED: Story = (
+    &[
+        (Ask::SeeInode(3), "free"),
+        (Ask::Make(b"a"), "made 3 1099511627776"),
+        (Ask::Rename(b"a", b"b"), "renamed"),
+    ],
+    &[(Ask::Look(b"b"), "found 3 1099511627776 File")],
+);
+
+// Makes the steps of a story, and then its look so often.
+fn make_and_look(
+    alloc: Global,
+    mount: &mut Mount<MemDisk>,
+    story: Story,
+    looks: u64,
+) -> Result<(), Fail> {
+    follow(alloc, mount, story.0)?;
     for _ in 0..looks {
-        follow(alloc, mount, LOOKS)?;
+        follow(alloc, mount, story.1)?;
     }
     Ok(())
 }
 
 /// How many blocks are read of a disk for this.
-fn reads_with(alloc: Global, looks: u64) -> Result<u64, Fail> {
+fn reads_with(alloc: Global, story: Story, looks: u64) -> Result<u64, Fail> {
     let mut mount = examined(alloc, formatted(alloc, 16, 4)?, 0, 16)?;
-    make_and_look(alloc, &mut mount, looks)?;
+    make_and_look(alloc, &mut mount, story, looks)?;
     let (disk, _history) = mount.end();
     Ok(disk.calls().reads)
 }
 
 #[test]
-fn a_name_that_was_found_is_found_again_without_a_read(rt: HostRuntime) -> Result<(), Fail> {
+fn a_name_that_is_known_is_found_without_a_read(rt: HostRuntime) -> Result<(), Fail> {
     let alloc = rt.alloc();
-    let once = reads_with(alloc, 1)?;
-    assert!(rt; reads_with(alloc, 0)? < once);
-    assert_eq!(rt; reads_with(alloc, 9)?, once);
+    assert_eq!(rt; reads_with(alloc, MADE, 9)?, reads_with(alloc, MADE, 0)?);
+    let once = reads_with(alloc, RENAMED, 1)?;
+    assert!(rt; reads_with(alloc, RENAMED, 0)? < once);
+    assert_eq!(rt; reads_with(alloc, RENAMED, 9)?, once);
     Ok(())
 }
