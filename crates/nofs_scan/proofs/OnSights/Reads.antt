@@ -1,10 +1,11 @@
 -- One read after another.
-use Rattle.std.proofs.Common.{◌≡◌, ℕ, Bool, List, Option, None, Result, Ok, Err, IsTrue, refl, sym, ap, ◌∙◌, subst}
-use Rattle.std.proofs.Common.{le_refl}
+use Rattle.std.proofs.Common.{◌≡◌, ℕ, Bool, false, List, Option, None, Result, Ok, Err, IsTrue, refl, sym, ap, ◌∙◌}
+use Rattle.std.proofs.Common.{le_refl, subst}
 use Rattle.nofs_disk.specs.Disk.{DiskState, StaysButFaults, Rose}
 use Rattle.nofs_disk.specs.Chains.{Rose-within, StaysButFaults-trans}
 use Rattle.nofs_disk.specs.declared.Failed.{Failed}
 use Rattle.nofs_inode.specs.InodeRecords.{free_record}
+use Rattle.nofs_inode.specs.declared.inode.BackLink.{BackLink}
 use Rattle.nofs_model.specs.Geometry.{Image, inode}
 use Rattle.nofs_model.specs.Files.{agreed, files_in}
 use Rattle.nofs_agree.specs.Chain.{AreTrue, LearnsAgreement}
@@ -12,6 +13,7 @@ use Rattle.nofs_agree.proofs.OnChain.{told-on}
 use Rattle.nofs_agree.proofs.OnKnown.{learns-more, learns-none}
 use Rattle.nofs_state.proofs.OnInodes.Opened.{IsLast-on}
 use Rattle.nofs_scan.specs.Sights.Reads.{AreLast, ReadsAnswer, Sees}
+use Rattle.nofs_scan.specs.Sights.Verdicts.{entry_linked}
 use Rattle.nofs_scan.specs.declared.sights.last_reads.LastReads.{LastReads}
 
 -- what a disk has after it stayed it had before
@@ -34,6 +36,16 @@ AreLast-on old new reads s last = record {
 inode-none : (X : Image) → free_record ≡ inode X 0
 unfolding inode
 inode-none X = refl
+
+-- so it is not agreed
+pub none-agreed : (X : Image) → false ≡ agreed (files_in X) 0
+unfolding agreed inode
+none-agreed X = refl
+
+-- and a back link to it leads to no entry
+pub none-linked : (X : Image) (l : BackLink) → l.directory ≡ 0 → None ≡ entry_linked (files_in X) l
+unfolding inode
+none-linked X l e = rw e refl
 
 -- nothing was read yet
 pub AreLast-none : (d : DiskState) (none : LastReads) → none.own.block ≡ None → none.table.block ≡ None

@@ -146,8 +146,26 @@ fn read_link<D: Disk>(
         (λ X. sights.link_sight X link.now) result }
 {
     let entry = read_link_entry(disk, at, link)?;
-    let agreed = learn_chain(disk, at, known, link.directory)?;
+    let agreed = read_agreed(disk, at, known, link.directory)?;
     Ok(LinkSight { entry, agreed })
+}
+
+// Whether an inode is agreed. No inode has the number 0, which each empty link has, and the tag of each empty block.
+fn read_agreed<D: Disk>(
+    disk: &mut D,
+    at: &SuperBlock,
+    known: &mut Known,
+    inode: u32,
+) -> Result<bool, Failed>
+    requires numbers { IsAt (D.state disk.old) at.now }
+    requires known { length known.old ≡ at.now.inodes }
+    ensures { Sees (D.state disk.old) (D.state disk.new) known.old known.new
+        (λ X. files.agreed (files.files_in X) inode) result }
+{
+    if inode == 0 {
+        return Ok(false);
+    }
+    learn_chain(disk, at, known, inode)
 }
 
 // The entry that a back link names, in a directory of its generation.
@@ -160,6 +178,9 @@ fn read_link_entry<D: Disk>(
     ensures { ReadsAnswer (D.state disk.old) (D.state disk.new)
         (λ X. sights.entry_linked (files.files_in X) link.now) result }
 {
+    if link.directory == 0 {
+        return Ok(None);
+    }
     let mut last = LastRead::NONE;
     let directory = read_inode(disk, at, link.directory, &mut last)?;
     if !is_directory(&directory, link.generation) {
@@ -272,7 +293,7 @@ fn read_slot<D: Disk>(
     ensures kept { OnOk result (AreLast (D.state disk.new) reads.new) }
 {
     let found = read_slot_way(disk, at, tag.inode, place_of(tag.slot), reads)?;
-    let agreed = learn_chain(disk, at, known, tag.inode)?;
+    let agreed = read_agreed(disk, at, known, tag.inode)?;
     Ok(TagSight {
         tag,
         in_table: found.0,

@@ -2,7 +2,7 @@ use Rattle.nofs_model.specs.Files.{agreed, files_in}
 use Rattle.nofs_model.specs.Geometry.{inode}
 use Rattle.nofs_model.specs.Places.{place_path}
 use Rattle.nofs_scan.specs.Sights.Verdicts.{tag_sight, way_in}
-use Rattle.nofs_scan.proofs.OnSights.Reads.{agreed-sees, reads-sees, sees-both}
+use Rattle.nofs_scan.proofs.OnSights.Reads.{reads-sees, sees-both}
 use Rattle.nofs_scan.proofs.sights.reads.read_slot.Goals as goal
 
 pub returns-clause-sees : goal.returns-clause-sees
@@ -11,7 +11,7 @@ returns-clause-sees g c = sees-both _ _ _
     (λ w X. agreed (files_in X) c.args.tag.inode)
     (λ w a. record { tag = c.args.tag; in_table = w.0; way = w.1; agreed = a }) (λ X. tag_sight X c.args.tag)
     c.in_ok-found.found _ _ _ c.in_ok-agreed.agreed (reads-sees _ _ c.args.known.now _ _ c.in_ok-found.ensures.answers)
-    (agreed-sees _ _ _ _ _ _ c.learn_chain.ensures.stays c.learn_chain.ensures.learns c.in_ok-agreed.ensures.agreed)
+    c.in_ok-agreed.ensures
     (λ X j. record {
       tag = c.args.tag;
       in_table = inode X c.args.tag.inode;
