@@ -1,5 +1,5 @@
 -- A whole team: its users beside its sweepers and its flusher, and what it leaves in a history.
-use Rattle.std.proofs.Common.{◌≡◌, inr, ℕ, ◌+◌, ◌-◌, ◌≤◌, Bool, true, false, List, [], ◌∷◌, length, Some}
+use Rattle.std.proofs.Common.{◌≡◌, inr, ℕ, ◌+◌, ◌-◌, ◌≤◌, Bool, true, List, [], ◌∷◌, length, Some}
 use Rattle.std.proofs.Common.{drop, refl, sym, ap, ◌∙◌, subst, arith}
 use mathlib.Core.List.{IsPrefix}
 use Rattle.nofs_turn.specs.declared.rule.view.View.{View}

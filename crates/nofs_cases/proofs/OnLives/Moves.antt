@@ -10,7 +10,6 @@ use Rattle.nofs_model.specs.Geometry.{inode}
 use Rattle.nofs_ptrs.specs.Paths.{path_of}
 use Rattle.nofs_model.specs.Files.{Files, is_pair, is_special}
 use Rattle.nofs_model.specs.Owners.{owner, Home}
-use Rattle.nofs_model.specs.declared.image.path.PathAnswer.TheVariants as answer
 use Rattle.nofs_model.specs.declared.image.value.Value.TheVariants.{Hole, Bytes}
 use Rattle.nofs_history.specs.Search.{first_of, least_from}
 use Rattle.nofs_history.specs.Machine.{gives, link_given, found, first_dead, place_for, link_place, with_entry, link_to}

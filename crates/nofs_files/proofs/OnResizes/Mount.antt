@@ -6,7 +6,6 @@ use Rattle.nofs_disk.specs.Adds.{Adds}
 use Rattle.nofs_disk.specs.declared.tag.Cell.{Cell}
 use Rattle.nofs_model.specs.Geometry.{Image}
 use Rattle.nofs_model.specs.Files.{FileState, Files}
-use Rattle.nofs_model.specs.declared.image.path.PathAnswer.TheVariants as answer
 use Rattle.nofs_crashlaw.specs.Images.Proper.{Proper}
 use Rattle.nofs_crashlaw.specs.Images.Moments.{during}
 use Rattle.nofs_history.specs.Steady.{SteadyRest}

@@ -1,5 +1,5 @@
 -- What is written of a new entry in a hole, and what of the disk stays.
-use Rattle.std.proofs.Common.{◌≡◌, ◌≢◌, ℕ, ◌+◌, ◌/◌, ◌%◌, ◌<◌, ◌≤◌, ◌⊎◌, inl, inr, true, leb, leb-true, [], ◌∷◌, length}
+use Rattle.std.proofs.Common.{◌≡◌, ◌≢◌, ℕ, ◌+◌, ◌/◌, ◌%◌, ◌<◌, ◌≤◌, ◌⊎◌, true, leb, leb-true, length}
 use Rattle.std.proofs.Common.{List, Some, sym, ap, ◌∙◌, arith}
 use Rattle.nofs_dirent.specs.Entries.{entry_limit, spelled_entry}
 use Rattle.nofs_disk.specs.Disk.{cell_at}

@@ -1,5 +1,5 @@
 -- The disk after a new entry was written into a hole of the record: its block, and the records.
-use Rattle.std.proofs.Common.{◌≡◌, ◌≢◌, ℕ, ◌/◌, ◌<◌, ◌≤◌, inl, inr, true, ◌∷◌, length, refl, sym, ap, ◌∙◌, arith}
+use Rattle.std.proofs.Common.{◌≡◌, ◌≢◌, ℕ, ◌/◌, ◌<◌, inl, inr, ◌∷◌, length, refl, sym, ap, ◌∙◌, arith}
 use Rattle.std.specs.Prelude.{slice_set}
 use Rattle.std.proofs.lemmas.List.{get_or-set_same, get_or-set_other, length-set}
 use Rattle.nofs_disk.specs.Disk.{cell_at, no_cell}
@@ -8,7 +8,7 @@ use Rattle.nofs_dirent.specs.declared.entry.Entry.{Entry}
 use Rattle.nofs_disk.specs.declared.tag.Pointer.{Pointer}
 use Rattle.nofs_inode.specs.declared.inode.Record.{Record}
 use Rattle.nofs_dirent.specs.Entries.{spelled_entry}
-use Rattle.nofs_model.specs.Geometry.{Image, super_at, is_data_block}
+use Rattle.nofs_model.specs.Geometry.{Image}
 use Rattle.nofs_ptrs.specs.Paths.{InRecord, path_of}
 use Rattle.nofs_model.specs.Slots.{find, record_pointer}
 use Rattle.nofs_model.specs.declared.image.path.PathAnswer.TheVariants as answer

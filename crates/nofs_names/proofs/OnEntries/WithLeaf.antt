@@ -1,5 +1,5 @@
 -- The disk after a new entry was written into a hole where there is no leaf: its block, the new leaf, and the records.
-use Rattle.std.proofs.Common.{◌≡◌, ◌≢◌, ℕ, ◌-◌, ◌/◌, ◌<◌, ◌≤◌, inl, inr, true, ◌∷◌, length, Some, refl, sym, ap, ◌∙◌}
+use Rattle.std.proofs.Common.{◌≡◌, ◌≢◌, ℕ, ◌-◌, ◌/◌, ◌≤◌, inl, inr, true, ◌∷◌, length, Some, refl, sym, ap, ◌∙◌}
 use Rattle.std.proofs.Common.{arith}
 use Rattle.std.specs.Prelude.{slice_set}
 use Rattle.std.proofs.lemmas.Bool.{cases_lt}
@@ -13,7 +13,7 @@ use Rattle.nofs_disk.specs.Tag.{tag_of}
 use Rattle.nofs_disk.specs.Pointer.{is_null}
 use Rattle.nofs_ptrs.specs.Cells.{pointer_at}
 use Rattle.nofs_dirent.specs.Entries.{spelled_entry}
-use Rattle.nofs_model.specs.Geometry.{Image, super_at, is_data_block}
+use Rattle.nofs_model.specs.Geometry.{Image}
 use Rattle.nofs_ptrs.specs.Paths.{leaf, Under, path_of}
 use Rattle.nofs_model.specs.Slots.{find, record_pointer}
 use Rattle.nofs_model.specs.declared.image.path.PathAnswer.TheVariants as answer

@@ -1,19 +1,17 @@
 -- What a Link comes to, where the mount is open.
-use Rattle.std.proofs.Common.{◌≡◌, ℕ, ◌+◌, ◌/◌, false, List, length, IsTrue, Option, Result, refl, sym, ap, ◌∙◌}
+use Rattle.std.proofs.Common.{◌≡◌, ℕ, ◌/◌, false, List, length, IsTrue, Option, Result, refl, sym, ap, ◌∙◌}
 use Rattle.nofs_disk.specs.Disk.{DiskState, IsDisk, cell_at}
 use Rattle.nofs_disk.specs.declared.tag.Cell.{Cell}
 use Rattle.nofs_dirent.specs.declared.entry.Entry.{Entry}
 use Rattle.nofs_inode.specs.declared.inode.Record.{Record}
 use Rattle.nofs_model.specs.Geometry.{inode}
 use Rattle.nofs_ptrs.specs.Paths.{path_of}
-use Rattle.nofs_model.specs.declared.image.path.PathAnswer.TheVariants as answer
 use Rattle.nofs_history.specs.Machine.{link_to, link_given}
 use Rattle.nofs_history.specs.World.{blocks_needed}
 use Rattle.nofs_history.specs.Claims.{claimed_blocks}
 use Rattle.nofs_history.specs.Writes.{name_cells, name_cells_at}
 use Rattle.nofs_history.specs.declared.machine.history.Claims.{Claims}
 use Rattle.nofs_history.specs.declared.machine.history.Entry1.{Entry1}
-use Rattle.nofs_history.specs.declared.machine.steps.Step.{Step}
 use Rattle.nofs_history.specs.declared.machine.steps.Step.TheVariants as step
 use Rattle.nofs_history.specs.declared.machine.replies.Reply.TheVariants as reply
 use Rattle.nofs_history.specs.declared.machine.replies.Refusal.{Refusal}
@@ -26,7 +24,6 @@ use Rattle.nofs_state.specs.Writes.Cells.{Stores}
 use Rattle.nofs_names.specs.Renames.Parts.{done_answer}
 use Rattle.nofs_state.specs.Writes.Premises.{RowsPass}
 use Rattle.nofs_names.specs.Entries.Tables.{table_block}
-use Rattle.nofs_state.specs.declared.writes.ends.Ended.{Ended}
 use Rattle.nofs_state.proofs.OnBooks.ClaimedBlocks.{Takes}
 use Rattle.nofs_names.proofs.OnSteps.Claims.{taken-by, taken-same}
 use Rattle.nofs_names.proofs.OnSteps.OpenMount.{WritesName, stores-goes}

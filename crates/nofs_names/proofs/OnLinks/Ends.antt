@@ -1,7 +1,7 @@
 -- The contract of the writes of Link.
-use Rattle.std.proofs.Common.{◌≡◌, ◌≢◌, ℕ, ◌/◌, ◌<◌, ◌≤◌, true, false, IsTrue, refl, sym, ap, subst, arith}
+use Rattle.std.proofs.Common.{◌≡◌, ◌≢◌, ℕ, ◌/◌, ◌<◌, ◌≤◌, true, false, refl, sym, ap, subst, arith}
 use Rattle.nofs_bits.specs.Bits.{is_set}
-use Rattle.nofs_disk.specs.Disk.{DiskState, IsDisk, cell_at}
+use Rattle.nofs_disk.specs.Disk.{DiskState, IsDisk}
 use Rattle.nofs_dirent.specs.declared.entry.Entry.{Entry}
 use Rattle.nofs_inode.specs.declared.inode.Record.{Record}
 use Rattle.nofs_disk.specs.Pointer.{null}
@@ -12,19 +12,17 @@ use Rattle.nofs_history.specs.declared.machine.history.Claims.{Claims}
 use Rattle.nofs_history.specs.declared.machine.steps.Step.{Step}
 use Rattle.nofs_history.specs.declared.machine.steps.Step.TheVariants as step
 use Rattle.nofs_history.specs.declared.machine.replies.Reply.TheVariants as reply
-use Rattle.nofs_state.specs.Books.Maps.{IsSafe, claimed_books, claimed_pointer}
+use Rattle.nofs_state.specs.Books.Maps.{claimed_books, claimed_pointer}
 use Rattle.nofs_state.specs.Cores.Steps.{Goes, entry}
 use Rattle.nofs_state.specs.declared.books.maps.Books.{Books}
 use Rattle.nofs_names.specs.Renames.Parts.{done_answer}
 use Rattle.nofs_names.specs.Entries.Places.{FitsSlot, slot_blocks}
-use Rattle.nofs_names.specs.Entries.Tables.{table_block}
 use Rattle.nofs_state.specs.declared.writes.ends.Ended.{Ended}
 use Rattle.nofs_names.specs.declared.entries.places.EntrySlot.{EntrySlot}
 use Rattle.nofs_names.specs.declared.entries.places.EntrySlot.TheVariants.{Direct as DirectHole, UnderLeaf as HoleUnder}
 use Rattle.nofs_names.specs.declared.entries.places.EntrySlot.TheVariants.{WithLeaf as HoleWith, Held as HeldSlot}
 use Rattle.nofs_state.proofs.OnBooks.Claims.{claimed-safe}
-use Rattle.nofs_names.specs.Entries.Writes.{Enters, MayEnter}
-use Rattle.nofs_names.specs.Links.{MayLink}
+use Rattle.nofs_names.specs.Entries.Writes.{Enters}
 use Rattle.nofs_names.specs.declared.entries.writes.EntryPlace.{EntryPlace}
 use Rattle.nofs_names.specs.declared.entries.writes.Tables.{Tables}
 use Rattle.nofs_names.specs.declared.links.new_name.Both.{Both}

@@ -4,7 +4,7 @@ use Rattle.std.proofs.Common.{◌∷◌}
 use Rattle.std.proofs.Common.{length, Some, IsTrue, refl, sym}
 use Rattle.std.proofs.Common.{ap, ◌∙◌, subst, arith}
 use Rattle.nofs_bits.specs.Bits.{is_set}
-use Rattle.nofs_disk.specs.Disk.{DiskState, IsDisk, cell_at}
+use Rattle.nofs_disk.specs.Disk.{DiskState, cell_at}
 use Rattle.nofs_super.specs.Geometry.{IsGeometry}
 use Rattle.nofs_inode.specs.declared.inode.FileKind.TheVariants.{Directory as Folder, File}
 use Rattle.nofs_disk.specs.declared.tag.Cell.{Cell}
@@ -30,7 +30,7 @@ use Rattle.nofs_history.specs.declared.machine.history.Claims.{Claims}
 use Rattle.nofs_history.specs.declared.machine.history.Entry1.{Entry1}
 use Rattle.nofs_history.specs.declared.machine.steps.Step.{Step}
 use Rattle.nofs_history.specs.declared.machine.steps.Step.TheVariants as step
-use Rattle.nofs_state.specs.Books.Maps.{IsSafe, claimed_books, claimed_pointer}
+use Rattle.nofs_state.specs.Books.Maps.{claimed_books, claimed_pointer}
 use Rattle.nofs_state.specs.Cores.Invariant.{IsOpen, Past}
 use Rattle.nofs_state.specs.Cores.Steps.{entry}
 use Rattle.nofs_state.specs.declared.books.maps.Books.{Books}
@@ -50,8 +50,8 @@ use Rattle.nofs_names.proofs.OnSteps.CellAndRecord.{once as write-once, record-n
 use Rattle.nofs_names.proofs.OnSteps.CellAndRecord.{super-stays as write-super-stays, data-stays as write-data-stays}
 use Rattle.nofs_names.proofs.OnSteps.CellAndRecord.{record-old as write-record-old}
 use Rattle.nofs_names.specs.Entries.Writes.{EntersHeld, EntersDirect, EntersUnderLeaf, EntersWithLeaf}
-use Rattle.nofs_names.specs.Entries.Writes.{MayEnter, table_writes}
-use Rattle.nofs_names.specs.Links.{MayLink, with_link}
+use Rattle.nofs_names.specs.Entries.Writes.{table_writes}
+use Rattle.nofs_names.specs.Links.{with_link}
 use Rattle.nofs_names.specs.declared.entries.writes.EntryPlace.{EntryPlace}
 use Rattle.nofs_names.specs.declared.entries.writes.Tables.{Tables}
 use Rattle.nofs_names.specs.declared.links.new_name.Both.{Both}

@@ -43,7 +43,7 @@ use Rattle.nofs_names.proofs.OnEntries.InPlace.{eight-direct}
 use Rattle.nofs_names.proofs.OnEntries.HoleCells.{EntersHole, IsReady, IsNewBlock, IsWritten}
 use Rattle.nofs_names.specs.Makes.{MayMake, made_record}
 use Rattle.nofs_names.proofs.OnMakes.Claims.{IsPicked, block-picked, make_claims, claims-one, claims-two}
-use Rattle.nofs_names.proofs.OnMakes.Premises.{IsHoleWrite, OfEntry, OfLeaf, OfTable, Makes, WritesInHole}
+use Rattle.nofs_names.proofs.OnMakes.Premises.{IsHoleWrite, OfEntry, OfLeaf, OfTable, Makes}
 use Rattle.nofs_names.proofs.OnMakes.Entries.{next_of, agrees, rec, spelled, in-table, geometry, place-here}
 use Rattle.nofs_names.proofs.OnMakes.Entries.{inode-claim, needs-are, makes-from}
 use Rattle.nofs_model.specs.declared.image.path.PathAnswer.TheVariants as answer

@@ -1,5 +1,5 @@
 -- The inode that an entry names.
-use Rattle.std.proofs.Common.{◌≡◌, ℕ, ◌*◌, ◌<◌, ◌≤◌, arith, Bool, true, false, cond, ◌&&◌, List, length, take, drop}
+use Rattle.std.proofs.Common.{◌≡◌, ℕ, ◌*◌, ◌<◌, arith, Bool, true, false, cond, ◌&&◌, List, length, take, drop}
 use Rattle.std.proofs.Common.{Option, Some, None, is_some, refl, sym, subst}
 use Rattle.std.proofs.lemmas.List.{length-drop, length-take-le}
 use Rattle.nofs_disk.specs.Number.{number_at}

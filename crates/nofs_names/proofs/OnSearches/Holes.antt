@@ -2,7 +2,7 @@
 use Rattle.std.proofs.Common.{◌≡◌, ℕ, zero, suc, ◌+◌, ◌*◌, ◌-◌, ◌<◌, ◌≤◌, Bool, true, false, cond, List, Option, Some}
 use Rattle.std.proofs.Common.{None, refl, ap, ◌∙◌, subst, arith}
 use Rattle.nofs_disk.specs.Pointer.{is_null}
-use Rattle.nofs_ptrs.specs.Paths.{path_of, Path, InRecord, Under}
+use Rattle.nofs_ptrs.specs.Paths.{Path, InRecord, Under}
 use Rattle.nofs_ptrs.specs.PathLaws.{path-leaf}
 use Rattle.nofs_dirent.specs.Entries.{entry_limit}
 use Rattle.nofs_inode.specs.declared.inode.FileKind.TheVariants.{Directory as Folder}

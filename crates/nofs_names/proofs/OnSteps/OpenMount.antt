@@ -67,7 +67,7 @@ use Rattle.nofs_state.proofs.OnCores.Faults.{goes-fault, stopped_books, stopped_
 use Rattle.nofs_state.proofs.OnCores.Replies.{open-files}
 use Rattle.nofs_state.proofs.OnCores.SafeSteps.{accepted-fault}
 use Rattle.nofs_state.proofs.OnWrites.Numbered.{AddsNumbered}
-use Rattle.nofs_state.proofs.OnWrites.TwoWrites.{one-each, safe-writes, writes-cells}
+use Rattle.nofs_state.proofs.OnWrites.TwoWrites.{safe-writes, writes-cells}
 use Rattle.nofs_names.specs.Renames.Parts.{done_answer}
 
 -- The mount

@@ -1,8 +1,8 @@
 -- What a search of a directory answers, over any disk.
-use Rattle.std.specs.Prelude.{◌≡◌, ℕ, ◌/◌, ◌<◌, ◌≤◌, Bool, true, false, ◌&&◌, ◌||◌, not, List, Option, Some, None}
+use Rattle.std.specs.Prelude.{◌≡◌, ℕ, ◌/◌, ◌<◌, ◌≤◌, Bool, true, ◌&&◌, ◌||◌, not, List, Option, Some, None}
 use Rattle.std.specs.Prelude.{is_some, IsTrue, Result, IfOk, IfSome, OnOk, OnErr, if◌then◌else◌, nat_lt, ◌==◌}
 use Rattle.std.specs.List.{list_any}
-use Rattle.nofs_dirent.specs.Entries.{entry_limit, entry_in}
+use Rattle.nofs_dirent.specs.Entries.{entry_limit}
 use Rattle.nofs_disk.specs.declared.Failed.{Failed}
 use Rattle.nofs_disk.specs.Disk.{DiskState, StaysButFaults, Rose}
 use Rattle.nofs_inode.specs.declared.inode.FileKind.TheVariants as kind
@@ -18,7 +18,6 @@ use Rattle.nofs_history.specs.Search.{least_from}
 use Rattle.nofs_history.specs.Machine.{same_link}
 use Rattle.nofs_history.specs.Machine as machine
 use Rattle.nofs_history.specs.History.{FilesMatch}
-use Rattle.nofs_dirent.specs.Entries as cells
 use Rattle.nofs_agree.specs.Reads.{IsLast, KnowsInode}
 use Rattle.nofs_agree.specs.declared.reads.LastRead.{LastRead}
 use Rattle.nofs_names.specs.declared.searches.entries.Named.{Named}

@@ -1,7 +1,6 @@
 -- The sweepers and the flusher: their passes in one.
-use Rattle.std.proofs.Common.{◌≡◌, ◌≢◌, ℕ, ◌-◌, ◌≤◌, eqb, eqb-true, eq-eqb, Bool, true, false, ◌||◌, List, [], Some}
+use Rattle.std.proofs.Common.{◌≡◌, ◌≢◌, ℕ, ◌-◌, eqb, eqb-true, eq-eqb, Bool, true, false, ◌||◌, List, []}
 use Rattle.std.proofs.Common.{refl, sym, ap, ◌∙◌, subst, arith}
-use mathlib.Core.List.{IsPrefix}
 use Rattle.nofs_turn.specs.declared.rule.view.View.{View}
 use Rattle.nofs_turn.proofs.OnLists.Words.{prefix_trans}
 use Rattle.nofs_history.specs.declared.machine.callers.TheConstants.{BLOCK_SWEEPER, FLUSHER, INODE_SWEEPER}

@@ -1,5 +1,5 @@
 -- What a drill leaves in the history, whatever comes of it.
-use Rattle.std.proofs.Common.{◌≡◌, inl, ℕ, Bool, true, false, not, List, [], length, drop, Result, Ok, None, refl, sym}
+use Rattle.std.proofs.Common.{◌≡◌, inl, ℕ, Bool, true, false, not, List, [], length, drop, Ok, None, refl, sym}
 use Rattle.std.proofs.Common.{ap, ◌∙◌, subst, arith}
 use Rattle.std.specs.declared.option.Option.{Option}
 use Rattle.nofs_super.specs.declared.superblock.SuperBlock.{SuperBlock}

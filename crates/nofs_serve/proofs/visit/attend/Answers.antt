@@ -1,4 +1,4 @@
-use Rattle.std.proofs.Common.{rules, ◌∙◌, [], refl, sym, ap, arith}
+use Rattle.std.proofs.Common.{rules, ◌∙◌, refl, sym, ap, arith}
 use Rattle.std.specs.Option.{option_map_or}
 use Rattle.nofs_turn.specs.Turn.{view_of}
 use Rattle.nofs_turn.specs.Rule.Views.{fresh}

@@ -1,4 +1,4 @@
-use Rattle.std.proofs.Common.{arith, rules}
+use Rattle.std.proofs.Common.{rules}
 use Rattle.nofs_upgrade.proofs.OnUpgrading.{cells-written, images-written, upgraded}
 use Rattle.nofs_upgrade.proofs.upgrading.upgrade.Goals as goal
 

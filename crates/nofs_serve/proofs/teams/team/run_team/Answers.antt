@@ -1,4 +1,4 @@
-use Rattle.std.proofs.Common.{rules, ◌≡◌, ◌∙◌, ℕ, ◌<◌, ◌≤◌, length, map, ap, subst, arith}
+use Rattle.std.proofs.Common.{rules, ◌∙◌, ◌<◌, ◌≤◌, length, map, ap, subst, arith}
 use Rattle.nofs_turn.specs.Turn.{view_of}
 use Rattle.nofs_history.specs.declared.machine.callers.TheConstants.{MOST_USERS}
 use Rattle.nofs_shared.specs.Passes.Entries.{own_steps}

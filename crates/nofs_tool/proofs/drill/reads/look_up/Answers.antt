@@ -1,4 +1,4 @@
-use Rattle.std.proofs.Common.{refl, sym, ◌∙◌}
+use Rattle.std.proofs.Common.{refl}
 use Rattle.nofs_tool.specs.Drill.{IsNotBegun}
 use Rattle.nofs_tool.proofs.OnDrill.Reads.{begun, failed, look-named, none-begun, reads-as}
 use Rattle.nofs_tool.proofs.drill.reads.look_up.Goals as goal

@@ -1,4 +1,4 @@
-use Rattle.std.proofs.Common.{◌≡◌, ◌∙◌, Bool, false, [], sym, subst}
+use Rattle.std.proofs.Common.{◌∙◌, Bool, false, [], sym, subst}
 use Rattle.nofs_history.specs.HistoryState.{HistoryState}
 use Rattle.nofs_shared.specs.Mount.Invariant.{IsMount}
 use Rattle.nofs_state.specs.declared.books.maps.Counts.{Counts}
