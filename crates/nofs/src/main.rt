@@ -25,7 +25,7 @@ use std::process::ExitCode;
 use std::rt::Env;
 use std::sync::Wait;
 use std::thread::Threads;
-use std::{env, io};
+use std::{env, io, mem};
 
 // The blocks of the disk in memory, whose path is `-`.
 const MEMORY_BLOCKS: u64 = 4096;
@@ -54,6 +54,17 @@ fn command(words: &[String]) -> Option<(ImageChoice<'_>, &[String])> {
     }
 }
 
+// The status of a run. The process ends next: its history goes with it, and no entry is taken apart by itself.
+fn ended<D: Drop>(outcome: Outcome<D>) -> u8 {
+    let Outcome {
+        status,
+        history,
+        ..
+    } = outcome;
+    mem::forget(history);
+    status
+}
+
 // A run on a disk behind a write-back cache.
 fn run_cached<R: Threads + Wait + Sync, S: Source, K: Sink, D: Disk + Drop + Send>(
     rt: &R,
@@ -64,10 +75,7 @@ fn run_cached<R: Threads + Wait + Sync, S: Source, K: Sink, D: Disk + Drop + Sen
     sink: &mut K,
 ) -> u8 {
     match Cached::new(alloc, disk) {
-        Ok(cached) => {
-            let Outcome { status, .. } = tool_cached(rt, alloc, words, source, sink, cached);
-            status
-        }
+        Ok(cached) => ended(tool_cached(rt, alloc, words, source, sink, cached)),
         Err(_) => NO_MEMORY,
     }
 }
@@ -81,10 +89,7 @@ fn run_mirrored<
     B: Disk + Drop + Send,
 >(rt: &R, alloc: Global, words: &[String], source: &mut S, sink: &mut K, disk: Mirror<A, B>) -> u8 {
     match Cached::new(alloc, disk) {
-        Ok(cached) => {
-            let Outcome { status, .. } = tool_mirrored(rt, alloc, words, source, sink, cached);
-            status
-        }
+        Ok(cached) => ended(tool_mirrored(rt, alloc, words, source, sink, cached)),
         Err(_) => NO_MEMORY,
     }
 }
