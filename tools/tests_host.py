@@ -33,6 +33,9 @@ class Files(Folders):
                 self.assertEqual(run([NOFS, path, "run"], b"stat @\n", 3)[0], DEVICE_FAULT)
         self.assertFalse(os.path.exists(self.at("missing")))
 
+    def test_a_file_has_as_many_blocks_as_a_file_system_may_have(self):
+        self.assertEqual(run([NOFS, self.image, "new", "1048577", "4"], b"", 4)[0], b"format: too large, most 1048576\n")
+
     def test_a_file_that_is_for_reading_only_is_a_device_fault(self):
         serve(self.image, b"put @ 0 616263\n", "new", "64", "16")
         os.chmod(self.image, 0o444)

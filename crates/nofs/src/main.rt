@@ -7,8 +7,10 @@
 
 mod cached;
 mod image;
-#[cfg(test)]
-mod tests;
+
+ghost use Rattle.std.specs.Prelude.{◌≡◌, OnErr};
+ghost use Rattle.nofs_tool.specs.Begin.Lines.{fixed_line};
+ghost use Rattle.nofs_tool.specs.Runs.Says.{Prints};
 
 use crate::cached::{tool_cached, tool_mirrored};
 use crate::image::{ImageChoice, image_of};
@@ -108,10 +110,14 @@ fn run_in_memory<R: Threads + Wait + Sync, S: Source, K: Sink>(
     }
 }
 
-// The line and the status of a device that can't be used.
-fn no_device<K: Sink>(sink: &mut K) -> u8 {
-    let _told = write_all(sink, fixed_text(FixedLine::DeviceFault).as_bytes());
-    3
+// The line and the status of a device that can't be used. A sink that fails here changes nothing.
+fn no_device<K: Sink>(sink: &mut K) -> u8
+    ensures status { result ≡ 3 }
+    ensures says { Prints (K.state sink.old) (K.state sink.new) (fixed_line FixedLine.DeviceFault) }
+{
+    match write_all(sink, fixed_text(FixedLine::DeviceFault).as_bytes()) {
+        Ok(()) | Err(_) => 3,
+    }
 }
 
 // A run on a disk in a file, where it could be opened.
@@ -122,7 +128,10 @@ fn run_in_file<R: Threads + Wait + Sync, S: Source, K: Sink>(
     source: &mut S,
     sink: &mut K,
     file: io::Result<HostFile>,
-) -> u8 {
+) -> u8
+    ensures status { OnErr file (result ≡ 3) }
+    ensures says { OnErr file (Prints (K.state sink.old) (K.state sink.new) (fixed_line FixedLine.DeviceFault)) }
+{
     let Ok(file) = file else {
         return no_device(sink);
     };

@@ -8,8 +8,6 @@ mod fresh;
 mod geometry;
 mod raise;
 mod superblock;
-#[cfg(test)]
-mod tests;
 
 pub use fresh::format;
 pub use geometry::{FormatFault, MOST_BLOCKS, MOST_INODES};
