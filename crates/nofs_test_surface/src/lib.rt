@@ -17,5 +17,17 @@
 //! - `tool` and `Outcome` stand in `nofs_tool`, since no crate can cite a program
 #![tactic(auto)]
 
-#[cfg(test)]
-mod tests;
+mod base;
+mod callers;
+mod clients;
+mod cores;
+mod disks;
+mod formats;
+mod history;
+mod laws;
+mod meaning;
+mod mounts;
+mod steps;
+mod texts;
+mod traits;
+mod typed;

@@ -4,7 +4,7 @@ ghost use Rattle.nofs_scan.specs.Steps.Looks.{IsBatch};
 ghost use Rattle.nofs_state.specs.Books.Maps.{IsSafe};
 ghost use Rattle.std.specs.Prelude.{length, ◌<◌};
 
-use crate::tests::typed::typed;
+use crate::typed::typed;
 use nofs_dirent::Name;
 use nofs_disk::Disk;
 use nofs_files::{Got, Stat};

@@ -3,7 +3,7 @@ ghost use Rattle.nofs_dirent.specs.Entries.{HasEntrySpelling};
 ghost use Rattle.nofs_inode.specs.InodeRecords.{HasRecordSpelling};
 ghost use Rattle.std.specs.Prelude.{◌-◌, ◌<◌, ◌^◌, ◌≤◌};
 
-use crate::tests::typed::typed;
+use crate::typed::typed;
 use nofs_dirent::{Entry, Name};
 use nofs_disk::{Disk, Pointer};
 use nofs_inode::{BackLink, FileKind, Record};

@@ -3,7 +3,7 @@ ghost use Rattle.nofs_client.specs.Task.Commands.{AreWellFormed, HasName};
 ghost use Rattle.std.specs.Fn.{FnReturnsAt};
 ghost use Rattle.std.specs.Prelude.{Bool, List, ℕ, ◌<◌, ◌^◌, ◌≡◌};
 
-use crate::tests::typed::typed;
+use crate::typed::typed;
 use nofs_client::{Client, CommandList, Line, LineList, Path};
 use nofs_dirent::Name;
 use nofs_history::{Refusal, Steps};

@@ -1,7 +1,7 @@
 //! Steps, replies and refusals, entries with their claims, and the history.
 ghost use Rattle.std.specs.Prelude.{[], ◌<◌, ◌≡◌};
 
-use crate::tests::typed::typed;
+use crate::typed::typed;
 use nofs_dirent::{Content, Name};
 use nofs_disk::{Cell, Pointer};
 use nofs_history::{

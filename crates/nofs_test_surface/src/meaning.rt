@@ -6,7 +6,7 @@ ghost use Rattle.nofs_model.specs.Geometry.{IsMountable};
 ghost use Rattle.nofs_ptrs.specs.Paths.{slot_limit};
 ghost use Rattle.std.specs.Prelude.{IsTrue, length, ◌<◌, ◌≡◌};
 
-use crate::tests::typed::typed;
+use crate::typed::typed;
 use nofs_agree::{Known, PathAnswer};
 use nofs_bits::Bits;
 use nofs_dirent::Content;

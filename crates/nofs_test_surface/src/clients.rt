@@ -3,7 +3,7 @@ ghost use Rattle.nofs_client.specs.Task.Commands.{IsWellFormed};
 ghost use Rattle.nofs_client.specs.Progress.{AllAnswer, start_of};
 ghost use Rattle.std.specs.Prelude.{◌<◌, ◌≤◌};
 
-use crate::tests::typed::typed;
+use crate::typed::typed;
 use nofs_client::{
     Client, Command, CommandList, GotPart, GotParts, Line, ListPart, ListParts, Next, Path,
 };

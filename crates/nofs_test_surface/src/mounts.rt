@@ -2,7 +2,7 @@
 ghost use Rattle.nofs_turn.specs.Turn.{IsPassOf, view_of};
 ghost use Rattle.std.specs.Prelude.{[], ◌<◌, ◌^◌, ◌≡◌, ◌≤◌};
 
-use crate::tests::typed::typed;
+use crate::typed::typed;
 use nofs_disk::{Disk, OutFault};
 use nofs_history::{History, Reply, Step};
 use nofs_io::{Sink, Source};
