@@ -2,3 +2,4 @@
 pub mod Words
 pub mod Formats
 pub mod Causes
+pub mod Lines

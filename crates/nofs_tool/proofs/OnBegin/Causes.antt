@@ -52,7 +52,7 @@ faulted old new why b device unwritten other = record {
   table = λ e. absurd (other e);
 }
 
-pub unmounted_by : (old new : DiskState) (why : MountFault) → BeginFails old new why
+unmounted_by : (old new : DiskState) (why : MountFault) → BeginFails old new why
     → IsUnmounted old new (mount_cause why)
 unmounted_by old new fault.ReadFault b = faulted old new fault.ReadFault b
     (λ e. (b.refused (λ h. cc h)).1.read refl) (λ e. absurd (e refl)) (λ e. omega (arith, e))
@@ -73,6 +73,12 @@ unmounted_by old new (fault.MountsSpent x) b =
     refused-by old new (fault.MountsSpent x) _ refl b (λ h. cc h) (λ h. cc h) (λ h. cc h) refl
 unmounted_by old new (fault.BadRest x) b =
     refused-by old new (fault.BadRest x) _ refl b (λ h. cc h) (λ h. cc h) (λ h. cc h) refl
+
+-- and the cause that is told of it
+pub unmounted-told : (old new : DiskState) (why : MountFault) (cause : Cause) → cause ≡ mount_cause why
+    → BeginFails old new why → IsUnmounted old new cause
+unmounted-told old new why cause told b =
+    subst (λ (x : Cause). IsUnmounted old new x) (sym told) (unmounted_by old new why b)
 
 module _ (blocks inodes : ℕ) (old new : DiskState) (later : old.faults ≤ new.faults) where
   -- the numbers were refused

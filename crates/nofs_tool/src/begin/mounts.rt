@@ -17,7 +17,7 @@ use nofs_super::{FormatFault, MountFault, format};
 use std::alloc::Global;
 
 /// Why a device was not formatted and mounted.
-#[derive(Clone, Copy, Debug, PartialEq, Eq)]
+#[derive(Clone, Copy)]
 pub enum Cause {
     /// A call of the device failed.
     Device,
@@ -37,7 +37,7 @@ pub struct Refused<D> {
 }
 
 /// The numbers of blocks and inodes of a new file system.
-#[derive(Clone, Copy, Debug, PartialEq, Eq)]
+#[derive(Clone, Copy)]
 pub struct Numbers {
     pub blocks: u64,
     pub inodes: u64,
@@ -85,7 +85,6 @@ fn mount_cause(fault: MountFault) -> Cause
 }
 
 /// Mounts a device: its mount number is then one higher, durably, and its numbers are those that block 0 was read as.
-#[tactic(auto, using(crate::proofs::OnBegin::Causes::unmounted_by))]
 pub(crate) fn mount<D: Disk + Drop>(alloc: Global, disk: D) -> Result<Mount<D>, Refused<D>>
     ensures mount { IfOk result (λ m. (m.found.value ≡ disk) × (m.first ≡ 0) × (m.core.books.history.entries ≡ [])) }
     ensures raised { IfOk result (λ m. IsRaisedFrom (D.state m.found.value) m.core.books.at) }

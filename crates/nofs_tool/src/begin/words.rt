@@ -2,7 +2,7 @@
 //!
 //! Promise: words are a command exactly where they have a shape of one.
 
-ghost use Rattle.std.specs.Prelude.{◌≡◌, map, string_bytes};
+ghost use Rattle.std.specs.Prelude.{◌≡◌, ◌∷◌, [], map, string_bytes};
 ghost use Rattle.nofs_tool.specs.Begin.Words.{drill_in, is_dashed as is_dashed_in, new_in, plain_in, prefixed_in};
 ghost use Rattle.nofs_tool.specs.Begin.Words.{task_in};
 
@@ -94,6 +94,19 @@ fn prefixed_task(word: &str, prefix: &str) -> Option<Request>
     }
 }
 
+// Of three words the last two are numbers.
+fn numbers_task(first: &str, one: &str, two: &str) -> Option<Request>
+    ensures { result ≡ task_in (first.now ∷ one.now ∷ two.now ∷ []) }
+{
+    if first.as_bytes() == b"new".as_slice() {
+        new_task(one, two)
+    } else if first.as_bytes() == b"drill".as_slice() {
+        drill_task(one, two)
+    } else {
+        None
+    }
+}
+
 /// The task that the words behind the image's path ask for.
 pub fn task_of(words: &[String]) -> Option<Request>
     ensures { result ≡ task_in (map string_bytes words.now) }
@@ -101,15 +114,7 @@ pub fn task_of(words: &[String]) -> Option<Request>
     match words {
         [word] => plain_task(word),
         [word, prefix] => prefixed_task(word, prefix),
-        [first, one, two] => {
-            if first.as_bytes() == b"new".as_slice() {
-                new_task(one, two)
-            } else if first.as_bytes() == b"drill".as_slice() {
-                drill_task(one, two)
-            } else {
-                None
-            }
-        }
+        [first, one, two] => numbers_task(first, one, two),
         _ => None,
     }
 }

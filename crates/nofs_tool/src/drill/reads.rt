@@ -68,7 +68,7 @@ fn stat_in(reply: &Reply) -> Option<Stat>
 fn slots_in(size: u64) -> u64
     ensures { result ≡ machine.slots_in size }
 {
-    size / 1024 + u64::from(size % 1024 != 0)
+    size.div_ceil(1024)
 }
 
 // Gets every slot of a file.

@@ -3,7 +3,9 @@
 //! Promise: its numbers are those of the definition, for what was read and a plain replay of the history. A number that
 //! 64 bits can't hold is told as want of memory: no file system is that large.
 
-ghost use Rattle.std.specs.Prelude.{◌≡◌, ◌≤◌, ◌<◌, ◌+◌, ◌*◌, IfOk, take, if◌then◌else◌, sum, sum_by, count_by};
+ghost use Rattle.std.specs.Fmt.{decimal};
+ghost use Rattle.std.specs.Prelude.{◌≡◌, ◌≤◌, ◌<◌, ◌+◌, ◌*◌, ◌++◌, IfOk, OnOk, codes, take, if◌then◌else◌, sum, sum_by};
+ghost use Rattle.std.specs.Prelude.{count_by};
 ghost use Rattle.nofs_history.specs.Machine.{cut_of};
 ghost use Rattle.nofs_gen.specs.Replay.{slot_value};
 ghost use Rattle.nofs_tool.specs.Drill.{drill_line, is_bytes_read as is_bytes_in, is_hole_read as is_hole_in};
@@ -261,6 +263,19 @@ pub(crate) fn numbers_of(
     })
 }
 
+// Adds the numbers of a drill to its line.
+fn push_numbers(alloc: Global, text: &mut Vec<u8>, told: &DrillNumbers) -> Result<(), AllocError>
+    ensures { OnOk result (text.new.items ≡ text.old.items ++ codes ", refused " ++ decimal told.now.refused
+        ++ codes ", bytes " ++ decimal told.now.bytes ++ codes ", sum " ++ decimal told.now.sum
+        ++ codes ", wrong " ++ decimal told.now.wrong) }
+{
+    push_number(alloc, text, ", refused ", told.refused)?;
+    push_number(alloc, text, ", bytes ", told.bytes)?;
+    push_number(alloc, text, ", sum ", told.sum)?;
+    push_number(alloc, text, ", wrong ", told.wrong)?;
+    Ok(())
+}
+
 /// The line of a drill.
 #[tactic(auto, unfolding(crate::specs::Drill::drill_line))]
 pub(crate) fn drill_text(
@@ -277,10 +292,7 @@ pub(crate) fn drill_text(
     push_number(alloc, &mut text, "drill ", start)?;
     push_number(alloc, &mut text, " ", steps)?;
     push_number(alloc, &mut text, ": commands ", 4 * (steps + 3))?;
-    push_number(alloc, &mut text, ", refused ", told.refused)?;
-    push_number(alloc, &mut text, ", bytes ", told.bytes)?;
-    push_number(alloc, &mut text, ", sum ", told.sum)?;
-    push_number(alloc, &mut text, ", wrong ", told.wrong)?;
+    push_numbers(alloc, &mut text, told)?;
     text.push(b'\n')?;
     Ok(Content::from_vec(text))
 }

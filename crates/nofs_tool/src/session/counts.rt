@@ -22,7 +22,8 @@ fn push_counts(
     let (used, free, unchecked) = counts;
     push_number(alloc, text, kind, used)?;
     push_number(alloc, text, " free ", free)?;
-    push_number(alloc, text, " unchecked ", unchecked)
+    push_number(alloc, text, " unchecked ", unchecked)?;
+    Ok(())
 }
 
 /// The line that says how many inodes and blocks are used, free and not examined.
