@@ -191,15 +191,23 @@ impl Window {
         Ok(())
     }
 
+    // Whether it has this number.
+    fn has_number(&self, number: u64) -> bool
+        ensures yes { IsTrue result → self.now.number ≡ Some number }
+        ensures no { IsFalse result → self.now.number ≢ Some number }
+    {
+        match self.number {
+            Some(own) => own == number,
+            None => false,
+        }
+    }
+
     // Whether it shows a block.
     fn has(&self, block: u64) -> bool
         ensures yes { IsTrue result → self.now.number ≡ Some (block / 64) }
         ensures no { IsFalse result → self.now.number ≢ Some (block / 64) }
     {
-        match self.number {
-            Some(number) => number == block / WINDOW_CELLS,
-            None => false,
-        }
+        self.has_number(block / WINDOW_CELLS)
     }
 
     // The cell of a block that it shows.
@@ -328,7 +336,7 @@ impl Windows {
     {
         self.windows
             .iter()
-            .position(|window| window.number == Some(number))
+            .position(|window| window.has_number(number))
     }
 
     // Reads the window with a number in place of another.

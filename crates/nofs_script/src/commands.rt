@@ -10,13 +10,13 @@ ghost use Rattle.nofs_script.specs.Grammar.{spelled_path, path_of_parts};
 
 use crate::digits::spelled_bytes;
 use crate::faults::{LineFault, ScriptKind};
-use crate::words::number_of;
+use crate::words::{is_spelled, number_of};
 use nofs_client::{Command, Path};
 use nofs_dirent::{Content, Name, PathNames};
 use std::alloc::{AllocError, Global};
 
 /// What the first word of a line asks for.
-#[derive(Clone, Copy, Debug, PartialEq, Eq)]
+#[derive(Clone, Copy)]
 pub enum Verb {
     Make,
     MakeDirectory,
@@ -37,29 +37,29 @@ pub enum Verb {
 pub(crate) fn verb_of(word: &[u8]) -> Option<Verb>
     ensures { result ≡ verb_in word.now }
 {
-    if word == b"make".as_slice() {
+    if is_spelled(word, "make") {
         Some(Verb::Make)
-    } else if word == b"mkdir".as_slice() {
+    } else if is_spelled(word, "mkdir") {
         Some(Verb::MakeDirectory)
-    } else if word == b"put".as_slice() {
+    } else if is_spelled(word, "put") {
         Some(Verb::Put)
-    } else if word == b"get".as_slice() {
+    } else if is_spelled(word, "get") {
         Some(Verb::Get)
-    } else if word == b"size".as_slice() {
+    } else if is_spelled(word, "size") {
         Some(Verb::Size)
-    } else if word == b"stat".as_slice() {
+    } else if is_spelled(word, "stat") {
         Some(Verb::Stat)
-    } else if word == b"list".as_slice() {
+    } else if is_spelled(word, "list") {
         Some(Verb::List)
-    } else if word == b"link".as_slice() {
+    } else if is_spelled(word, "link") {
         Some(Verb::Link)
-    } else if word == b"drop".as_slice() {
+    } else if is_spelled(word, "drop") {
         Some(Verb::Drop)
-    } else if word == b"rename".as_slice() {
+    } else if is_spelled(word, "rename") {
         Some(Verb::Rename)
-    } else if word == b"fsync".as_slice() {
+    } else if is_spelled(word, "fsync") {
         Some(Verb::Fsync)
-    } else if word == b"move".as_slice() {
+    } else if is_spelled(word, "move") {
         Some(Verb::Move)
     } else {
         None
@@ -113,9 +113,9 @@ fn names_after(alloc: Global, parts: &[&[u8]]) -> Result<Option<Path>, AllocErro
 fn path_of(alloc: Global, word: &[u8]) -> Result<Option<Path>, AllocError>
     ensures { IfOk result (λ path. path ≡ spelled_path word.now) }
 {
-    if word == b"@".as_slice() {
+    if is_spelled(word, "@") {
         Ok(Some(Path::Label))
-    } else if word == b"/".as_slice() {
+    } else if is_spelled(word, "/") {
         Ok(Some(Path::Names(PathNames::new(alloc))))
     } else {
         names_after(alloc, &parts(alloc, word)?)

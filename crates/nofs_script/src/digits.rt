@@ -4,7 +4,7 @@
 //! text is digits, so each loop here is one that LLVM turns into one over vectors: it has no early exit, and what it
 //! does at a place is arithmetic. That is why all digits are judged before the first one is read.
 
-ghost use Rattle.std.specs.Prelude.{◌≡◌, ◌*◌, ◌<◌, ◌++◌, OnOk, Ok, Some, length, slice_index, true};
+ghost use Rattle.std.specs.Prelude.{◌≡◌, ◌*◌, ◌<◌, ◌&&◌, ◌++◌, OnOk, Ok, Some, length, nat_le, slice_index, true};
 ghost use Rattle.std.specs.List.{list_all};
 ghost use Rattle.hex.specs.Hex.{decode_of, encode_lower, hex_digit_value, lower_digits};
 ghost use Rattle.hex.specs.Hex.{is_hex_digit as is_hex_digit_byte};
@@ -17,10 +17,16 @@ use std::alloc::{AllocError, Global};
 fn is_hex_digit(byte: u8) -> bool
     ensures { result ≡ is_hex_digit_byte byte }
 {
-    let number = (b'0' <= byte) & (byte <= b'9');
-    let small = (b'a' <= byte) & (byte <= b'f');
-    let capital = (b'A' <= byte) & (byte <= b'F');
+    let number = is_between(byte, b'0', b'9');
+    let small = is_between(byte, b'a', b'f');
+    let capital = is_between(byte, b'A', b'F');
     number | small | capital
+}
+
+fn is_between(byte: u8, first: u8, last: u8) -> bool
+    ensures { result ≡ (nat_le first byte && nat_le byte last) }
+{
+    (first <= byte) & (byte <= last)
 }
 
 fn are_hex_digits(word: &[u8]) -> bool

@@ -12,7 +12,7 @@ ghost use Rattle.nofs_script.specs.Session.{session_of};
 
 use crate::commands::{Verb, command, verb_of};
 use crate::faults::{LineFault, ParseFault, ScriptFault, ScriptKind};
-use crate::words::{place_of, text_after, words};
+use crate::words::{is_spelled, place_of, text_after, words};
 use nofs_client::{Command, CommandList};
 use nofs_dirent::ListOf;
 use nofs_history::MOST_USERS;
@@ -139,7 +139,7 @@ fn read_named(
 ) -> Result<Reading, LineFault>
     ensures { MatchesReading (λ r. r) result (words_read reading (word.now ∷ map piece_of args.now)) }
 {
-    if word == b"user".as_slice() {
+    if is_spelled(word, "user") {
         user(alloc, reading, args)
     } else {
         read_verb(alloc, reading, verb_of(word), args)

@@ -4,6 +4,7 @@ ghost use Rattle.std.specs.Prelude.{◌≡◌, ◌≢◌, ◌+◌, ◌<◌, ◌�
 ghost use Rattle.std.specs.Prelude.{MatchOption, OnOk, Some, drop, filter, length, map, slice_get, take, true};
 ghost use Rattle.std.specs.List.{list_all};
 ghost use Rattle.std.specs.Char.{is_ascii_digit};
+ghost use Rattle.std.specs.Str.{bytes_eq};
 ghost use Rattle.std.specs.Option.{SomeIff};
 ghost use Rattle.nofs_script.specs.Words.{words_of, number_of as number_in, piece_of, is_word};
 ghost use Rattle.nofs_script.specs.Words.{is_number as is_number_word, digits_value as value_in};
@@ -64,10 +65,21 @@ pub(crate) fn words<'a>(alloc: Global, line: &'a [u8]) -> Result<Vec<&'a [u8]>, 
     Ok(words)
 }
 
+/// Whether a word is spelled so.
+pub(crate) fn is_spelled(word: &[u8], so: &str) -> bool
+    ensures { result ≡ bytes_eq word.now so.now }
+{
+    word == so.as_bytes()
+}
+
 fn all_digits(word: &[u8]) -> bool
     ensures { result ≡ list_all is_ascii_digit word.now }
 {
-    word.iter().all(|byte| byte.is_ascii_digit())
+    let mut all = true;
+    for byte in word {
+        all &= byte.is_ascii_digit();
+    }
+    all
 }
 
 fn is_number(word: &[u8]) -> bool

@@ -4,7 +4,7 @@
 use nofs_history::NameList;
 
 /// A file or a directory: its inode, with the generation that tells it from an earlier one.
-#[derive(Clone, Copy, Debug, PartialEq, Eq)]
+#[derive(Clone, Copy)]
 pub struct InodeHandle {
     pub inode: u32,
     pub generation: u64,
@@ -19,7 +19,7 @@ pub enum NextSlot {
 }
 
 /// What a slot has, as far as a report wants to know.
-#[derive(Clone, Copy, Debug, PartialEq, Eq)]
+#[derive(Clone, Copy)]
 pub enum SlotState {
     /// Content, or nothing was ever put there.
     Kept,

@@ -16,7 +16,7 @@ pub(crate) const BODY_LIMIT: usize = 1100;
 pub(crate) const FRAME_LIMIT: usize = 1104;
 
 /// What stands in front of some bytes.
-#[derive(Clone, Copy, Debug, PartialEq, Eq)]
+#[derive(Clone, Copy)]
 pub enum Front {
     /// A frame that isn't whole: so many bytes are wanted to know more of it.
     Short { wanted: usize },

@@ -12,7 +12,7 @@ use nofs_history::{Step, Steps};
 use std::alloc::Global;
 
 /// How far the step of a body was answered.
-#[derive(Clone, Copy, Debug, PartialEq, Eq)]
+#[derive(Clone, Copy)]
 pub enum Answered {
     /// The step was made, and its reply is there whole.
     Whole,
