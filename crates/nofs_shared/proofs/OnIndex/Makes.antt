@@ -40,8 +40,8 @@ use Rattle.nofs_shared.proofs.OnIndex.WasLinks.{make-was}
 
 module _ (W V : World) (e : Entry1) (dir g : ℕ) (name : List ℕ) (kind : FileKind) (sane : IsSane W) (next : Next W e V)
     (ok : is_refused e.reply ≡ false) (es : e.step ≡ step.Make dir g name kind) where
-  row : first_of (rows W V (step.Make dir g name kind)) ≡ None
-  row = subst (λ (s : Step). first_of (rows W V s) ≡ None) es (accepted-acts W V e next ok).0
+  passes : first_of (rows W V (step.Make dir g name kind)) ≡ None
+  passes = subst (λ (s : Step). first_of (rows W V s) ≡ None) es (accepted-acts W V e next ok).0
 
   claim : IsClaim W (step.Make dir g name kind) e.claims
   claim = subst (λ (s : Step). IsClaim W s e.claims) es (accepted-acts W V e next ok).1
@@ -50,19 +50,19 @@ module _ (W V : World) (e : Entry1) (dir g : ℕ) (name : List ℕ) (kind : File
   undropped q = let z : is_drop e.step ≡ false = ap is_drop es in cc (q, z)
 
   good : bad_name name ≡ None
-  good = none-at (rows W V (step.Make dir g name kind)) row 0 (bad_name name) refl
+  good = none-at (rows W V (step.Make dir g name kind)) passes 0 (bad_name name) refl
 
   parent : IsDirectory W.files dir g
-  parent = directory-row W dir g (none-at (rows W V (step.Make dir g name kind)) row 1 (stale W dir g) refl)
-      (none-at (rows W V (step.Make dir g name kind)) row 2 (not_directory W dir) refl)
+  parent = directory-row W dir g (none-at (rows W V (step.Make dir g name kind)) passes 1 (stale W dir g) refl)
+      (none-at (rows W V (step.Make dir g name kind)) passes 2 (not_directory W dir) refl)
 
   free : is_some (found W.files dir name) ≡ false
   free = row-none (is_some (found W.files dir name)) refusal.Exists
-      (none-at (rows W V (step.Make dir g name kind)) row 3 (exists W dir name) refl)
+      (none-at (rows W V (step.Make dir g name kind)) passes 3 (exists W dir name) refl)
 
   place : (p : ℕ) × (place_for W.files dir name ≡ Some p)
   place = some-place (place_for W.files dir name) (row-none _ refusal.DirectoryFull
-      (none-at (rows W V (step.Make dir g name kind)) row 4 (directory_full W dir name) refl))
+      (none-at (rows W V (step.Make dir g name kind)) passes 4 (directory_full W dir name) refl))
 
   module _ (p : ℕ) (ep : place_for W.files dir name ≡ Some p) where
     given : gives W.files e.step e.claims ≡ make_given W.files dir g name kind e.claims p
@@ -101,7 +101,7 @@ module _ (W V : World) (e : Entry1) (dir g : ℕ) (name : List ℕ) (kind : File
     inside =
         let lt = lt-ltb p entry_limit (place-range W.files dir name p ep) in
         let k = parent.folder in
-        let numbers = new-spelled W e.claims sane (make-new W V e.claims dir g name kind row claim) in
+        let numbers = new-spelled W e.claims sane (make-new W V e.claims dir g name kind passes claim) in
         let whole : length (bytes_in (value_of W.files dir (p / 16))) ≡ 1024 =
         ap (λ (v : Value). length (bytes_in v)) (value-of W.files dir parent.file parent.is (p / 16))
         ∙ sane.whole dir parent.file parent.is parent.folder (p / 16) in
@@ -147,7 +147,7 @@ module _ (W V : World) (e : Entry1) (dir g : ℕ) (name : List ℕ) (kind : File
         let f = made-file in
         let y = sane.young dir parent.file parent.is in
         let own = parent.generation in
-        let n = make-new W V e.claims dir g name kind row claim in
+        let n = make-new W V e.claims dir g name kind passes claim in
         let stamp = n.generation in
         record {
           file = f.0;
