@@ -11,13 +11,9 @@ pub const FIRST_STAMP: u64 = 1_099_511_627_776;
 
 /// The lines of a text, without those that are comments.
 pub fn lines_of<'a>(alloc: Global, text: &'a str) -> Result<Vec<&'a str>, AllocError> {
-    let mut lines = Vec::new(alloc);
-    for line in text.lines() {
-        if !line.starts_with('#') {
-            lines.push(line)?;
-        }
-    }
-    Ok(lines)
+    text.lines()
+        .filter(|line| !line.starts_with('#'))
+        .collect(alloc)
 }
 
 /// The place of the first line that begins with this word; the number of lines where there is none.
@@ -44,11 +40,7 @@ pub fn words_at<'a>(
 
 /// The words of a line.
 pub fn words_of<'a>(alloc: Global, line: &'a str) -> Result<Vec<&'a str>, AllocError> {
-    let mut words = Vec::new(alloc);
-    for word in line.split_whitespace() {
-        words.push(word)?;
-    }
-    Ok(words)
+    line.split_whitespace().collect(alloc)
 }
 
 /// The number that a word writes.

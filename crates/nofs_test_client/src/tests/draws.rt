@@ -1,9 +1,10 @@
 //! The worked draws, and a replay of a history that was made by hand.
 
+use crate::tests::standin::replies::{number, parted, reply_of, short};
 use nofs_client::{Command, Path};
 use nofs_dirent::Content;
 use nofs_gen::{ValueList, replay, script_of};
-use nofs_history::{Entry1, History, NO_CLAIMS, Refusal, Reply, Step};
+use nofs_history::{Entry1, History, NO_CLAIMS, Step};
 use nofs_model::Value;
 use std::alloc::{AllocError, Global};
 use std::test::Fail;
@@ -91,54 +92,40 @@ fn each_user_draws_its_own_commands(rt: HostRuntime) -> Result<(), Fail> {
     Ok(())
 }
 
-/// A step on inode 3 or 4, of generation 9.
-#[derive(Clone, Copy)]
-enum Did {
-    /// The inode, the slot, the place in it, and the bytes.
-    Put(u32, u64, u32, &'static str),
-    /// A put of bytes to slot 0 that was refused.
-    Refused(&'static str),
-    Size(u64),
-}
-
-fn step_of(alloc: Global, did: Did) -> Result<Step, AllocError> {
-    let (inode, slot, at, bytes) = match did {
-        Did::Put(inode, slot, at, bytes) => (inode, slot, at, bytes),
-        Did::Refused(bytes) => (3, 0, 0, bytes),
-        Did::Size(size) => {
-            return Ok(Step::Resize {
-                inode: 3,
-                generation: 9,
-                size,
-            });
-        }
-    };
+// The step of these words, of generation 9: a put has its inode, slot, place and bytes, and a size is that of inode 3.
+fn step_of(alloc: Global, words: &str) -> Result<Step, AllocError> {
+    let (word, rest) = parted(words, ' ');
+    if word == "size" {
+        return Ok(Step::Resize {
+            inode: 3,
+            generation: 9,
+            size: number(rest),
+        });
+    }
+    let (inode, rest) = parted(rest, ' ');
+    let (slot, rest) = parted(rest, ' ');
+    let (at, bytes) = parted(rest, ' ');
     Ok(Step::Put {
-        inode,
+        inode: short(inode),
         generation: 9,
-        slot,
-        at,
+        slot: number(slot),
+        at: short(at),
         bytes: Content::from_slice(alloc, bytes.as_bytes())?,
     })
 }
 
-fn reply_to(did: Did) -> Reply {
-    match did {
-        Did::Put(..) => Reply::Stored,
-        Did::Refused(_) => Reply::Refused(Refusal::Stopped),
-        Did::Size(_) => Reply::Resized,
-    }
-}
-
-fn push_entry(alloc: Global, history: &mut History, did: Did) -> Result<(), AllocError> {
-    let step = step_of(alloc, did)?;
+// Adds the step before an arrow, with the reply behind it.
+fn push_entry(alloc: Global, history: &mut History, done: &str) -> Result<(), AllocError> {
+    let (step, reply) = done.split_once(" -> ").unwrap_or((done, ""));
+    let step = step_of(alloc, step)?;
+    let reply = reply_of(alloc, reply)?;
     history.reserve(1)?;
     history.push(Entry1 {
         caller: 1,
         from: 0,
         to: 0,
         step,
-        reply: reply_to(did),
+        reply,
         claims: NO_CLAIMS,
     });
     Ok(())
@@ -159,26 +146,26 @@ fn values_text(alloc: Global, values: &ValueList) -> Result<String, AllocError> 
 }
 
 /// What was done one after the other, and the slots of inode 3 then.
-const REPLAYS: [(Did, &str); 8] = [
-    (Did::Put(3, 0, 0, "abcdef"), " 0:abcdef."),
-    (Did::Put(4, 0, 0, "other"), " 0:abcdef."),
-    (Did::Refused("refused"), " 0:abcdef."),
-    (Did::Size(2050), " 0:abcdef."),
-    (Did::Put(3, 2, 1, "z"), " 0:abcdef. 2:.z....."),
-    (Did::Put(3, 72, 0, "z"), " 0:abcdef. 2:.z....."),
-    (Did::Size(3), " 0:abcdef."),
-    (Did::Size(5000), " 0:abc...."),
-];
+const REPLAYS: &str = "\
+put 3 0 0 abcdef -> stored | 0:abcdef.
+put 4 0 0 other -> stored | 0:abcdef.
+put 3 0 0 refused -> refused Stopped | 0:abcdef.
+size 2050 -> resized | 0:abcdef.
+put 3 2 1 z -> stored | 0:abcdef. 2:.z.....
+put 3 72 0 z -> stored | 0:abcdef. 2:.z.....
+size 3 -> resized | 0:abcdef.
+size 5000 -> resized | 0:abc....";
 
 #[test]
 fn a_replay_has_what_was_accepted_and_nothing_else(rt: HostRuntime) -> Result<(), Fail> {
     let alloc = rt.alloc();
     let mut history = History::new(alloc, 0);
-    for (row, (did, want)) in REPLAYS.into_iter().enumerate() {
-        push_entry(alloc, &mut history, did)?;
+    for row in REPLAYS.split('\n') {
+        let (done, want) = row.split_once(" |").unwrap_or((row, ""));
+        push_entry(alloc, &mut history, done)?;
         let values = replay(alloc, &history, 3, 9)?;
-        assert_eq!(rt; values_text(alloc, &values)?.as_str(), want, "{row}");
-        assert_eq!(rt; values.len(), 72, "{row}");
+        assert_eq!(rt; values_text(alloc, &values)?.as_str(), want, "{done}");
+        assert_eq!(rt; values.len(), 72, "{done}");
     }
     let values = replay(alloc, &history, 3, 8)?;
     assert_eq!(rt; values_text(alloc, &values)?.as_str(), "");

@@ -1,8 +1,8 @@
 //! Texts that are read and written: hexadecimal digits, beside what the crate `hex` makes of them, and refusals.
 
+use crate::tests::standin::replies::refusal_of;
 use nofs_client::{Command, GotPart, GotParts, Line};
 use nofs_dirent::Content;
-use nofs_history::Refusal;
 use nofs_script::{Session, line_text, parse};
 use std::alloc::{AllocError, Global};
 use std::process::Abort;
@@ -94,50 +94,38 @@ fn each_byte_is_written_as_by_hex(rt: HostRuntime) -> Result<(), Fail> {
     Ok(())
 }
 
-const REFUSALS: [(Refusal, &str); 20] = [
-    (Refusal::Missing, "1 missing"),
-    (Refusal::LostEntry { entry: 17 }, "2 lost entry 17"),
-    (Refusal::LostSlot { slot: 8 }, "3 lost slot 8"),
-    (Refusal::Exists, "4 exists"),
-    (Refusal::NotDirectory, "5 not a directory"),
-    (Refusal::IsDirectory, "6 is a directory"),
-    (Refusal::NotEmpty, "7 not empty"),
-    (Refusal::BadName, "8 bad name"),
-    (Refusal::BadRange, "9 bad range"),
-    (Refusal::TooManyLinks, "10 too many links"),
-    (Refusal::DirectoryFull, "11 directory full"),
-    (Refusal::TooLarge, "12 too large"),
-    (Refusal::PastEnd, "13 past end"),
-    (Refusal::Stale, "14 stale"),
-    (
-        Refusal::Full {
-            needed: 1,
-            free: 2,
-            unverified: 30,
-            next: 24,
-        },
-        "15 full, needed 1, free 2, unchecked 30",
-    ),
-    (
-        Refusal::InodesFull {
-            unverified: 5,
-            next: 3,
-        },
-        "16 inodes full, unchecked 5",
-    ),
-    (Refusal::SerialsSpent, "17 serials spent"),
-    (Refusal::ReadFault, "18 read fault"),
-    (Refusal::WriteFault, "19 write fault"),
-    (Refusal::Stopped, "20 stopped"),
-];
+/// Refusals, each with its text.
+const REFUSALS: &str = "\
+Missing -> 1 missing
+LostEntry { entry: 17 } -> 2 lost entry 17
+LostSlot { slot: 8 } -> 3 lost slot 8
+Exists -> 4 exists
+NotDirectory -> 5 not a directory
+IsDirectory -> 6 is a directory
+NotEmpty -> 7 not empty
+BadName -> 8 bad name
+BadRange -> 9 bad range
+TooManyLinks -> 10 too many links
+DirectoryFull -> 11 directory full
+TooLarge -> 12 too large
+PastEnd -> 13 past end
+Stale -> 14 stale
+Full { needed: 1, free: 2, unverified: 30, next: 24 } -> 15 full, needed 1, free 2, unchecked 30
+InodesFull { unverified: 5, next: 3 } -> 16 inodes full, unchecked 5
+SerialsSpent -> 17 serials spent
+ReadFault -> 18 read fault
+WriteFault -> 19 write fault
+Stopped -> 20 stopped";
 
 #[test]
 fn each_refusal_has_its_text(rt: HostRuntime) -> Result<(), Fail> {
     let alloc = rt.alloc();
-    for (refusal, words) in REFUSALS {
+    for row in REFUSALS.split('\n') {
+        let (refusal, words) = row.split_once(" -> ").unwrap_or((row, ""));
+        let refusal = refusal_of(refusal);
         let line = Line::RefusedPut { refusal, stored: 6 };
         let want = format!(in alloc; "refused {words}, stored 6\n")?;
-        assert_eq!(rt; plain_text(alloc, &line)?, want);
+        assert_eq!(rt; plain_text(alloc, &line)?, want, "{row}");
     }
     Ok(())
 }

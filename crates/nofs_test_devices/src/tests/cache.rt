@@ -5,6 +5,7 @@ use nofs_disk::Disk;
 use nofs_memdisk::MemDisk;
 use nofs_versions::CallCounts;
 use std::alloc::{AllocError, Global};
+use std::process::Abort;
 use std::test::Fail;
 
 /// A cache over a disk, where there is memory.
@@ -46,36 +47,53 @@ fn a_write_is_kept_back_until_it_is_written_out(rt: HostRuntime) -> Result<(), F
     Ok(())
 }
 
+/// A call that fails below, a script, what the disk below answers then, and its writes and flushes by the script.
+type KeptBack = (&'static str, &'static str, &'static str, u64, u64);
+
+// Scripts of more than one case: two write three or four blocks, and one goes on after a flush that failed.
+const THREE: &str = "0=5 2=6 3=7 flush! flush";
+
+const FOUR: &str = "2=12 0=10 3=9 1=11 3=13 flush!";
+
+const LEFT: &str = "3=7 0=5 2=6 flush! 3=9 0=4 1=8 out1 flush";
+
+const KEPT_BACK: [KeptBack; 8] = [
+    ("", "1=5 flush 1=6 2=8 1?6 2?8", "1?5 2?0", 1, 1),
+    ("flush 1", THREE, "0?5 1?0 2?6 3?7", 3, 2),
+    ("write 1", FOUR, "0?0 1?0 2?0 3?0", 1, 0),
+    ("write 2", FOUR, "0?10 1?0 2?0 3?0", 2, 0),
+    ("write 3", FOUR, "0?10 1?11 2?0 3?0", 3, 0),
+    ("write 4", FOUR, "0?10 1?11 2?12 3?0", 4, 0),
+    ("write 2", LEFT, "0?4 1?8 2?6 3?9", 6, 1),
+    ("write 1", "2=7 out! 2?7 out2 out", "2?7", 2, 0),
+];
+
+// The writes of which each may fail, and is made again.
+const AGAIN: [&str; 6] = [
+    "write 1",
+    "write 1 taken",
+    "write 2",
+    "write 2 taken",
+    "write 3",
+    "write 3 taken",
+];
+
+fn check_kept_back(rt: &impl Abort, alloc: Global, cases: &[KeptBack]) -> Result<(), Fail> {
+    for (call, script, below, writes, flushes) in cases {
+        let calls = calls_below(alloc, call, script, below)?;
+        assert_eq!(rt; calls, counts(0, *writes, *flushes), "{call}: {script}");
+    }
+    Ok(())
+}
+
 // What a crash would leave, and what a call that fails below leaves to do: a flush writes the dirty blocks in rising
 // order, tells of the failure, and is made again with those that are left, whichever write it was.
 #[test]
 fn what_was_kept_back_reaches_the_disk_below_in_order(rt: HostRuntime) -> Result<(), Fail> {
-    let three = "0=5 2=6 3=7 flush! flush";
-    let four = "2=12 0=10 3=9 1=11 3=13 flush!";
-    let left = "3=7 0=5 2=6 flush! 3=9 0=4 1=8 out1 flush";
-    for (call, script, below, writes, flushes) in [
-        ("", "1=5 flush 1=6 2=8 1?6 2?8", "1?5 2?0", 1, 1),
-        ("flush 1", three, "0?5 1?0 2?6 3?7", 3, 2),
-        ("write 1", four, "0?0 1?0 2?0 3?0", 1, 0),
-        ("write 2", four, "0?10 1?0 2?0 3?0", 2, 0),
-        ("write 3", four, "0?10 1?11 2?0 3?0", 3, 0),
-        ("write 4", four, "0?10 1?11 2?12 3?0", 4, 0),
-        ("write 2", left, "0?4 1?8 2?6 3?9", 6, 1),
-        ("write 1", "2=7 out! 2?7 out2 out", "2?7", 2, 0),
-    ] {
-        let calls = calls_below(rt.alloc(), call, script, below)?;
-        assert_eq!(rt; calls, counts(0, writes, flushes), "{call}: {script}");
-    }
-    for call in [
-        "write 1",
-        "write 1 taken",
-        "write 2",
-        "write 2 taken",
-        "write 3",
-        "write 3 taken",
-    ] {
-        let calls = calls_below(rt.alloc(), call, three, "0?5 1?0 2?6 3?7")?;
-        assert_eq!(rt; calls, counts(0, 4, 1), "{call}: {three}");
+    check_kept_back(&rt, rt.alloc(), &KEPT_BACK)?;
+    for call in AGAIN {
+        let case = (call, THREE, "0?5 1?0 2?6 3?7", 4, 1);
+        check_kept_back(&rt, rt.alloc(), &[case])?;
     }
     Ok(())
 }

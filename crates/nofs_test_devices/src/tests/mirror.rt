@@ -5,6 +5,7 @@ use nofs_memdisk::MemDisk;
 use nofs_mirror::{Mirror, MirrorCause, MirrorFault, Sides};
 use nofs_versions::CallCounts;
 use std::alloc::{AllocError, Global};
+use std::process::Abort;
 use std::test::Fail;
 
 /// A mirror of four blocks, where it is opened.
@@ -36,6 +37,22 @@ fn name_of(sides: Sides) -> &'static str {
     }
 }
 
+/// The sides of a mirror that are in, and its disks.
+fn taken_apart(mirror: Mirror<MemDisk, MemDisk>) -> (Sides, MemDisk, MemDisk) {
+    let sides = mirror.sides();
+    let (lead, other) = mirror.apart();
+    (sides, lead, other)
+}
+
+/// Follows a script on a side, where it is in.
+fn follow_if_in(mut side: MemDisk, is_in: bool, script: &str) -> Result<(), Fail> {
+    if is_in {
+        follow(&mut side, script)
+    } else {
+        Ok(())
+    }
+}
+
 /// The sides that are in after a script, each of which is answered then as another one says.
 fn sides_after(
     alloc: Global,
@@ -43,69 +60,83 @@ fn sides_after(
     script: &str,
     then: &str,
 ) -> Result<&'static str, Fail> {
-    let mirror = followed(alloc, calls, script)?;
-    let sides = mirror.sides();
-    let (mut lead, mut other) = mirror.apart();
-    if sides.lead_in {
-        follow(&mut lead, then)?;
-    }
-    if sides.other_in {
-        follow(&mut other, then)?;
-    }
+    let (sides, lead, other) = taken_apart(followed(alloc, calls, script)?);
+    follow_if_in(lead, sides.lead_in, then)?;
+    follow_if_in(other, sides.other_in, then)?;
     Ok(name_of(sides))
+}
+
+/// Calls that fail on the lead and on the other, a script, what each side that is in answers then, and which are in.
+type Failing = (
+    &'static str,
+    &'static str,
+    &'static str,
+    &'static str,
+    &'static str,
+);
+
+const ALONE: &str = "1=5 3=6 flush 1?5 3?6";
+
+const FAILING: [Failing; 22] = [
+    ("write 1", "", ALONE, "3?6", "other"),
+    ("write 2", "", ALONE, "3?6", "other"),
+    ("flush 1", "", ALONE, "3?6", "other"),
+    ("read 5", "", ALONE, "3?6", "both"),
+    ("read 6", "", ALONE, "3?6", "both"),
+    ("", "write 1", ALONE, "3?6", "lead"),
+    ("", "write 2", ALONE, "3?6", "lead"),
+    ("", "write 3", ALONE, "3?6", "lead"),
+    ("", "write 4", ALONE, "3?6", "lead"),
+    ("", "write 5", ALONE, "3?6", "lead"),
+    ("", "write 6", ALONE, "3?6", "lead"),
+    ("", "flush 1", ALONE, "3?6", "lead"),
+    ("", "flush 2", ALONE, "3?6", "lead"),
+    ("", "flush 3", ALONE, "3?6", "both"),
+    ("write 1", "write 5", "1=5!", "1?0", "lead"),
+    (
+        "write 1",
+        "write 5",
+        "1=5! 1?0 3=6 flush 1?0 3?6",
+        "1?0 3?6",
+        "lead",
+    ),
+    ("write 1 taken", "write 5", "1=5!", "1?5", "lead"),
+    (
+        "write 1 taken",
+        "write 5",
+        "1=5! 1?5 3=6 flush 1?5 3?6",
+        "1?5 3?6",
+        "lead",
+    ),
+    ("flush 1", "flush 2", "1=5 flush!", "1?5", "lead"),
+    (
+        "flush 1",
+        "flush 2",
+        "1=5 flush! 1?5 3=6 flush 1?5 3?6",
+        "1?5 3?6",
+        "lead",
+    ),
+    ("write 1", "write 6", "1=5", "1?5", "other"),
+    ("write 1", "write 6", "1=5 3=6!", "1?5 3?0", "other"),
+];
+
+fn check_sides(rt: &impl Abort, alloc: Global, cases: &[Failing]) -> Result<(), Fail> {
+    for case in cases {
+        let (lead, other, script, then, sides) = *case;
+        assert_eq!(rt;
+            sides_after(alloc, (lead, other), script, then)?,
+            sides,
+            "{lead}, {other}, {script}"
+        );
+    }
+    Ok(())
 }
 
 // A side that fails at any call goes out and the other goes on; a call that fails on both sides keeps the lead, and the
 // last side that is in stays in.
 #[test]
 fn a_side_that_fails_goes_out_while_the_other_is_in(rt: HostRuntime) -> Result<(), Fail> {
-    let alone = "1=5 3=6 flush 1?5 3?6";
-    for (lead, other, script, then, sides) in [
-        ("write 1", "", alone, "3?6", "other"),
-        ("write 2", "", alone, "3?6", "other"),
-        ("flush 1", "", alone, "3?6", "other"),
-        ("read 5", "", alone, "3?6", "both"),
-        ("read 6", "", alone, "3?6", "both"),
-        ("", "write 1", alone, "3?6", "lead"),
-        ("", "write 2", alone, "3?6", "lead"),
-        ("", "write 3", alone, "3?6", "lead"),
-        ("", "write 4", alone, "3?6", "lead"),
-        ("", "write 5", alone, "3?6", "lead"),
-        ("", "write 6", alone, "3?6", "lead"),
-        ("", "flush 1", alone, "3?6", "lead"),
-        ("", "flush 2", alone, "3?6", "lead"),
-        ("", "flush 3", alone, "3?6", "both"),
-        ("write 1", "write 5", "1=5!", "1?0", "lead"),
-        (
-            "write 1",
-            "write 5",
-            "1=5! 1?0 3=6 flush 1?0 3?6",
-            "1?0 3?6",
-            "lead",
-        ),
-        ("write 1 taken", "write 5", "1=5!", "1?5", "lead"),
-        (
-            "write 1 taken",
-            "write 5",
-            "1=5! 1?5 3=6 flush 1?5 3?6",
-            "1?5 3?6",
-            "lead",
-        ),
-        ("flush 1", "flush 2", "1=5 flush!", "1?5", "lead"),
-        (
-            "flush 1",
-            "flush 2",
-            "1=5 flush! 1?5 3=6 flush 1?5 3?6",
-            "1?5 3?6",
-            "lead",
-        ),
-        ("write 1", "write 6", "1=5", "1?5", "other"),
-        ("write 1", "write 6", "1=5 3=6!", "1?5 3?0", "other"),
-    ] {
-        let found = sides_after(rt.alloc(), (lead, other), script, then)?;
-        assert_eq!(rt; found, sides, "{lead}, {other}, {script}");
-    }
-    Ok(())
+    check_sides(&rt, rt.alloc(), &FAILING)
 }
 
 #[test]

@@ -3,6 +3,7 @@ ghost use Rattle.std.specs.Prelude.{◌≡◌, ◌<◌, IfOk, length};
 
 use nofs_bits::Bits;
 use std::alloc::{AllocError, Global};
+use std::process::Abort;
 use std::test::Fail;
 
 /// A map whose places 3, 63, 64 and last are set.
@@ -20,6 +21,15 @@ fn four_set(alloc: Global, places: u64) -> Result<Bits, AllocError>
     Ok(bits)
 }
 
+/// A place to begin at, and the first place from there on that is set.
+type Place = (u64, Option<u64>);
+
+fn check_places(rt: &impl Abort, bits: &Bits, places: &[Place]) {
+    for (from, next) in places {
+        assert_eq!(rt; bits.next_set(*from), *next, "from {from}");
+    }
+}
+
 #[test]
 fn places_in_several_words_are_found_and_counted(rt: HostRuntime) -> Result<(), Fail> {
     let mut bits = four_set(rt.alloc(), 1_000_000)?;
@@ -33,9 +43,7 @@ fn places_in_several_words_are_found_and_counted(rt: HostRuntime) -> Result<(), 
         (1_000_000, None),
         (u64::MAX, None),
     ];
-    for (from, next) in places {
-        assert_eq!(rt; bits.next_set(from), next, "from {from}");
-    }
+    check_places(&rt, &bits, &places);
     assert_eq!(rt;
         (bits.count(), bits.get(63), bits.get(62)),
         (4, true, false)

@@ -1,4 +1,6 @@
 //! Worked bytes of records, and which bytes are none.
+ghost use Rattle.std.specs.Prelude.{◌≤◌};
+
 use nofs_disk::{Pointer, write_u32_at, write_u64_at};
 use nofs_inode::*;
 use std::process::Abort;
@@ -37,24 +39,29 @@ const LABEL_FILE: Record = Record {
     top: Pointer::NULL,
 };
 
-#[test]
-fn a_record_is_written_as_its_worked_bytes_and_read_from_them(rt: HostRuntime) {
+/// A cell of bytes 7, but for the label file in its second place.
+fn label_file_cell() -> [u8; 1024] {
     let mut payload = [7; 1024];
     write_record(&mut payload, 1, &LABEL_FILE);
+    payload
+}
+
+#[test]
+fn a_record_is_written_as_its_worked_bytes_and_read_from_them(rt: HostRuntime) {
+    let payload = label_file_cell();
     assert_eq!(rt;
-        &payload[256..288],
-        b"\x02\0\0\0\0\0\0\0\x01\0\0\0\x01\0\0\0\x03\0\0\0\0\0\0\0\0\0\0\0\0\0\0\0".as_slice()
+        &payload[255..288],
+        b"\x07\x02\0\0\0\0\0\0\0\x01\0\0\0\x01\0\0\0\x03\0\0\0\0\0\0\0\0\0\0\0\0\0\0\0".as_slice()
     );
     assert_eq!(rt;
-        &payload[336..352],
-        b"\x01\0\0\0\0\0\0\0\x01\0\0\0\0\0\0\0".as_slice()
+        &payload[336..368],
+        b"\x01\0\0\0\0\0\0\0\x01\0\0\0\0\0\0\0\x05\0\0\0\0\0\0\0\x09\0\0\0\0\x01\0\0".as_slice()
     );
-    let pointer = b"\x05\0\0\0\0\0\0\0\x09\0\0\0\0\x01\0\0".as_slice();
-    assert_eq!(rt; &payload[352..368], pointer);
-    assert_eq!(rt; &payload[480..496], pointer);
+    assert_eq!(rt;
+        &payload[480..513],
+        b"\x05\0\0\0\0\0\0\0\x09\0\0\0\0\x01\0\0\0\0\0\0\0\0\0\0\0\0\0\0\0\0\0\0\x07".as_slice()
+    );
     assert_eq!(rt; read_record(&payload, 1), Some(LABEL_FILE));
-    assert_eq!(rt; payload[255], 7);
-    assert_eq!(rt; payload[512], 7);
 }
 
 /// The numbers of a record that the spelling rules speak of.
@@ -93,6 +100,14 @@ const DIRECTORY: Numbers = Numbers {
     ..FREE
 };
 
+fn write_link(payload: &mut [u8; 1024], at: usize, link: BackLink)
+    requires { at ≤ 1008 }
+{
+    write_u32_at(payload, at, link.directory);
+    write_u32_at(payload, at + 4, link.entry);
+    write_u64_at(payload, at + 8, link.generation);
+}
+
 fn cell_of(numbers: Numbers) -> [u8; 1024] {
     let mut payload = [0; 1024];
     write_u64_at(&mut payload, 0, numbers.generation);
@@ -100,12 +115,8 @@ fn cell_of(numbers: Numbers) -> [u8; 1024] {
     write_u32_at(&mut payload, 12, numbers.count);
     write_u64_at(&mut payload, 16, numbers.size);
     write_u64_at(&mut payload, 24, numbers.zero);
-    write_u32_at(&mut payload, 32, numbers.first.directory);
-    write_u32_at(&mut payload, 36, numbers.first.entry);
-    write_u64_at(&mut payload, 40, numbers.first.generation);
-    write_u32_at(&mut payload, 80, numbers.last.directory);
-    write_u32_at(&mut payload, 84, numbers.last.entry);
-    write_u64_at(&mut payload, 88, numbers.last.generation);
+    write_link(&mut payload, 32, numbers.first);
+    write_link(&mut payload, 80, numbers.last);
     write_u64_at(&mut payload, 240, numbers.top);
     payload
 }

@@ -1,4 +1,6 @@
 //! The lists of two worked histories, over the empty example image.
+ghost use Rattle.std.specs.Prelude.{◌≤◌, IfOk};
+
 use nofs_dirent::{Content, Name};
 use nofs_disk::Pointer;
 use nofs_history::{Claims, Entry1, History, NO_CLAIMS, Reply, Step, accepted_of};
@@ -11,17 +13,15 @@ use std::test::Fail;
 /// The first stamp of the first mount.
 const S: u64 = 1_099_511_627_776;
 
-fn push(history: &mut History, step: Step, reply: Reply, claims: Claims) -> Result<(), AllocError> {
-    history.reserve(1)?;
-    history.push(Entry1 {
+fn entry(step: Step, reply: Reply, claims: Claims) -> Entry1 {
+    Entry1 {
         caller: 0,
         from: 2,
         to: 2,
         step,
         reply,
         claims,
-    });
-    Ok(())
+    }
 }
 
 // The bytes that are not 0, by their places.
@@ -62,15 +62,24 @@ fn accepted_in(
     Ok(text)
 }
 
+// A history with room for so many entries.
+fn begun(alloc: Global, entries: u64) -> Result<History, AllocError>
+    ensures { IfOk result (λ history. entries ≤ history.spare) }
+{
+    let mut history = History::new(alloc, 2);
+    history.reserve(entries)?;
+    Ok(history)
+}
+
 /// Resizes the label file, and puts a byte 255 into its slot 2.
 fn sized_and_put(alloc: Global) -> Result<History, AllocError> {
-    let mut history = History::new(alloc, 2);
+    let mut history = begun(alloc, 2)?;
     let size = Step::Resize {
         inode: 2,
         generation: 2,
         size: 5000,
     };
-    push(&mut history, size, Reply::Resized, NO_CLAIMS)?;
+    history.push(entry(size, Reply::Resized, NO_CLAIMS));
     let put = Step::Put {
         inode: 2,
         generation: 2,
@@ -82,7 +91,7 @@ fn sized_and_put(alloc: Global) -> Result<History, AllocError> {
         cell: Pointer { block: 7, stamp: S },
         ..NO_CLAIMS
     };
-    push(&mut history, put, Reply::Stored, claims)?;
+    history.push(entry(put, Reply::Stored, claims));
     Ok(history)
 }
 
@@ -96,7 +105,7 @@ fn a_put_behind_a_new_size_is_the_third_value(rt: HostRuntime) -> Result<(), Fai
 
 /// Makes the file `a` in the root, inode 3.
 fn made(alloc: Global) -> Result<History, AllocError> {
-    let mut history = History::new(alloc, 2);
+    let mut history = begun(alloc, 1)?;
     let make = Step::Make {
         directory: 1,
         generation: 1,
@@ -112,7 +121,7 @@ fn made(alloc: Global) -> Result<History, AllocError> {
         generation: S,
         ..NO_CLAIMS
     };
-    push(&mut history, make, reply, claims)?;
+    history.push(entry(make, reply, claims));
     Ok(history)
 }
 

@@ -5,7 +5,7 @@ mod checks;
 use crate::tests::agree::checks::{
     agreed_in, chain, chain_reads, is_same, learned_in, path_reads, sound_chain, sound_path,
 };
-use crate::tests::images::{LEAF, image, image_disk};
+use crate::tests::images::{LEAF, image, image_disk, push_slot};
 use nofs_agree::PathAnswer;
 use nofs_disk::Cell;
 use nofs_memdisk::MemDisk;
@@ -65,20 +65,30 @@ fn push_paths(
         if !is_same(alloc, cells, inode, slot, found)? {
             text.push_str("the definitions say something else ")?;
         }
-        let found = path_text(alloc, found)?;
-        if !found.as_str().is_empty() {
-            text.push_str(format!(in alloc; "{inode}:{slot}={} ", found.as_str())?.as_str())?;
-        }
+        push_slot(alloc, text, inode, slot, path_text(alloc, found)?.as_str())?;
     }
     Ok(())
 }
 
-fn paths_in(alloc: Global, cells: &[Cell], disk: &mut MemDisk) -> Result<String, AllocError> {
+// What the checks of all slots of an image find.
+fn paths_in(alloc: Global, name: &str) -> Result<String, AllocError> {
+    let cells = image(alloc, name)?;
+    let mut disk = disk_of(alloc, &cells)?;
     let mut text = String::new(alloc);
     for inode in 0..18 {
-        push_paths(alloc, &mut text, cells, disk, inode)?;
+        push_paths(alloc, &mut text, &cells, &mut disk, inode)?;
     }
     Ok(text)
+}
+
+// The inodes of an image that the check of a chain says are agreed, where those that a text tells are known to be, or
+// that the check says which keeps what it finds.
+fn agreed_of(alloc: Global, name: &str, known: Option<&str>) -> Result<String, AllocError> {
+    let mut disk = image_disk(alloc, name)?;
+    match known {
+        Some(known) => agreed_in(alloc, &mut disk, &numbers_of(alloc, known)?),
+        None => learned_in(alloc, &mut disk),
+    }
 }
 
 fn numbers_of(alloc: Global, text: &str) -> Result<Vec<u32>, AllocError> {
@@ -106,33 +116,54 @@ const ANSWERS: &str = "\
     entry of another generation: 1 2; 1:0=6+0\n\
     loop of directories: 1 2; 1:0=6+0 3:0=7+3 4:0=8+4\n";
 
+// The name of an image, the inodes that are agreed, and what its slots hold.
+fn parts_of(line: &str) -> (&str, &str, &str) {
+    let (name, told) = line.split_once(": ").unwrap_or((line, ""));
+    let (inodes, paths) = told.split_once("; ").unwrap_or((told, ""));
+    (name, inodes, paths)
+}
+
 #[test]
-fn the_checks_say_what_is_told_of_an_image(rt: HostRuntime) -> Result<(), Fail> {
-    let alloc = rt.alloc();
+fn the_checks_of_a_chain_say_what_is_told_of_an_image(rt: HostRuntime) -> Result<(), Fail> {
     for line in ANSWERS.lines() {
-        let (name, told) = line.split_once(": ").unwrap_or((line, ""));
-        let (inodes, paths) = told.split_once("; ").unwrap_or((told, ""));
-        let cells = image(alloc, name)?;
-        let mut disk = disk_of(alloc, &cells)?;
-        let names = numbers_of(alloc, inodes)?;
-        let found = learned_in(alloc, &mut disk)?;
-        assert_eq!(rt; found.as_str().trim_end(), inodes, "{name}, learned");
-        let found = agreed_in(alloc, &mut disk, &[])?;
-        assert_eq!(rt; found.as_str().trim_end(), inodes, "{name}");
-        let found = agreed_in(alloc, &mut disk, &names)?;
-        assert_eq!(rt; found.as_str().trim_end(), inodes, "{name}, known");
-        let found = paths_in(alloc, &cells, &mut disk)?;
-        assert_eq!(rt; found.as_str().trim_end(), paths, "{name}");
+        let (name, inodes, _) = parts_of(line);
+        for known in [None, Some(""), Some(inodes)] {
+            let found = agreed_of(rt.alloc(), name, known)?;
+            assert_eq!(rt;
+                found.as_str().trim_end(),
+                inodes,
+                "{name}, known: {known:?}"
+            );
+        }
     }
     Ok(())
 }
 
 #[test]
+fn the_check_of_a_slot_says_what_is_told_of_an_image(rt: HostRuntime) -> Result<(), Fail> {
+    for line in ANSWERS.lines() {
+        let (name, _, paths) = parts_of(line);
+        assert_eq!(rt;
+            paths_in(rt.alloc(), name)?.as_str().trim_end(),
+            paths,
+            "{name}"
+        );
+    }
+    Ok(())
+}
+
+// Whether the check of a chain tells of an inode of an image, where some are known to be agreed.
+fn is_told(alloc: Global, name: &str, known: &[u32], inode: u32) -> Result<bool, AllocError> {
+    let mut disk = image_disk(alloc, name)?;
+    let answer = chain(alloc, &mut disk, known, inode)?;
+    Ok(matches!(answer, Some(Ok(_))))
+}
+
+#[test]
 fn what_is_wrongly_known_is_believed_or_not(rt: HostRuntime) -> Result<(), Fail> {
-    let mut disk = image_disk(rt.alloc(), "loop of directories")?;
     for inode in 0..6 {
-        let answer = chain(rt.alloc(), &mut disk, &[3], inode)?;
-        assert!(rt; matches!(answer, Some(Ok(_))), "inode {inode}");
+        let told = is_told(rt.alloc(), "loop of directories", &[3], inode)?;
+        assert!(rt; told, "inode {inode}");
     }
     Ok(())
 }
@@ -163,10 +194,15 @@ fn a_chain_of_two_thousand_directories_leads_to_the_root(rt: HostRuntime) -> Res
     Ok(())
 }
 
+// How many blocks the check of a slot of an image reads beside the superblock.
+fn slot_reads(alloc: Global, name: &str, inode: u32, slot: u64) -> Result<u64, AllocError> {
+    let mut disk = image_disk(alloc, name)?;
+    Ok(path_reads(&mut disk, inode, slot))
+}
+
 // The table, the top, a child, the block itself.
 #[test]
 fn the_check_of_a_slot_reads_no_more_than_it_needs(rt: HostRuntime) -> Result<(), Fail> {
-    let mut disk = image_disk(rt.alloc(), "blocks under the top")?;
     for (inode, slot, reads) in [
         (5, 0, 0),
         (2, 0, 1),
@@ -176,13 +212,16 @@ fn the_check_of_a_slot_reads_no_more_than_it_needs(rt: HostRuntime) -> Result<()
         (2, 136, 3),
         (2, 72, 4),
     ] {
-        assert_eq!(rt;
-            path_reads(&mut disk, inode, slot),
-            reads,
-            "slot {slot} of {inode}"
-        );
+        let found = slot_reads(rt.alloc(), "blocks under the top", inode, slot)?;
+        assert_eq!(rt; found, reads, "slot {slot} of {inode}");
     }
     Ok(())
+}
+
+// How many blocks the check of a chain of an image reads beside the superblock.
+fn reads_up(alloc: Global, name: &str, known: &[u32], inode: u32) -> Result<u64, AllocError> {
+    let mut disk = image_disk(alloc, name)?;
+    chain_reads(alloc, &mut disk, known, inode)
 }
 
 // The records of 3, 4 and the root are in one block. A chain that needs it again after the block of a directory reads
@@ -196,8 +235,7 @@ fn the_check_of_a_chain_reads_no_more_than_it_needs(rt: HostRuntime) -> Result<(
         ("loop of directories", &[], 4, 3),
         ("chain of directories", &[2_001], 2_002, 2),
     ] {
-        let mut disk = image_disk(rt.alloc(), name)?;
-        let found = chain_reads(rt.alloc(), &mut disk, known, inode)?;
+        let found = reads_up(rt.alloc(), name, known, inode)?;
         assert_eq!(rt; found, reads, "{inode} in {name}");
     }
     Ok(())

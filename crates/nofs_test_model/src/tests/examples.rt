@@ -2,7 +2,7 @@
 ghost use Rattle.nofs_ptrs.specs.Paths.{slot_limit};
 ghost use Rattle.std.specs.Prelude.{◌<◌};
 
-use crate::tests::images::image;
+use crate::tests::images::{image, push_slot};
 use nofs_disk::Cell;
 use nofs_model::{Value, agreed, is_mountable, owner_of, value_of};
 use nofs_test_disks::used;
@@ -10,7 +10,10 @@ use std::alloc::{AllocError, Global};
 use std::test::Fail;
 
 fn is_agreed(cells: &[Cell], inode: u32) -> bool {
-    is_mountable(cells) && agreed(cells, inode)
+    if !is_mountable(cells) {
+        return false;
+    }
+    agreed(cells, inode)
 }
 
 fn owner_in(cells: &[Cell], block: u64) -> Option<(u32, u64)> {
@@ -57,9 +60,7 @@ fn push_slots(
 ) -> Result<(), AllocError> {
     for slot in 0..130 {
         let says = says(alloc, cells, inode, slot)?;
-        if !says.as_str().is_empty() {
-            text.push_str(format!(in alloc; "{inode}:{slot}={} ", says.as_str())?.as_str())?;
-        }
+        push_slot(alloc, text, inode, slot, says.as_str())?;
     }
     Ok(())
 }

@@ -109,22 +109,17 @@ fn stat_of_c(crash: Left) -> &'static str {
     }
 }
 
-// The names, and what `a` and `b` lead to.
-fn names_of(crash: Left) -> [&'static str; 3] {
-    if crash.root {
-        ["names 0 b c", "Missing", "found 3 1099511627776 File"]
-    } else {
-        ["names 0 a c", "found 3 1099511627776 File", "Missing"]
-    }
-}
-
 /// What a user reads after a crash: the names, then each file's size and its slots.
 fn reads(crash: Left) -> [(Ask<'static>, &'static str); 9] {
-    let [names, old, new] = names_of(crash);
+    let names = if crash.root {
+        "names 0 b c"
+    } else {
+        "names 0 a c"
+    };
     [
         (Ask::List, names),
-        (Ask::Look(b"a"), old),
-        (Ask::Look(b"b"), new),
+        (Ask::Look(b"a"), found_as_a(!crash.root)),
+        (Ask::Look(b"b"), found_as_a(crash.root)),
         (Ask::Look(b"c"), "found 4 1099511627779 File"),
         (Ask::Stat(A), stat_of_a(crash)),
         (Ask::Get(A, 0), bytes_of_a(crash)),
@@ -132,6 +127,15 @@ fn reads(crash: Left) -> [(Ask<'static>, &'static str); 9] {
         (Ask::Get(C, 0), "cccc"),
         (Ask::Get(C, 8), under_the_leaf(crash)),
     ]
+}
+
+// What a name leads to that the file has, or has not.
+fn found_as_a(has: bool) -> &'static str {
+    if has {
+        "found 3 1099511627776 File"
+    } else {
+        "Missing"
+    }
 }
 
 /// A disk after both puts and the rename.

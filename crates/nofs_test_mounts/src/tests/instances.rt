@@ -11,9 +11,7 @@ const BYTES: Cases = &[(Ask::Get(LABEL, 0), "ab\0\0")];
 
 // How many entries a mount has that has the bytes.
 fn entries_of(alloc: Global, made: Result<Mount<MemDisk>, Unmade>) -> Result<u64, Fail> {
-    let Ok(mut mount) = made else {
-        return Err("not made".into());
-    };
+    let mut mount = made.ok().ok_or("not made")?;
     let entries = mount.history().len();
     follow(alloc, &mut mount, BYTES)?;
     Ok(entries)

@@ -20,10 +20,7 @@ use std::test::Fail;
 
 /// A mount of a disk.
 pub fn mounted<D: Disk + Drop>(alloc: Global, disk: D) -> Result<Mount<D>, Fail> {
-    match Mount::begin(alloc, disk, 0) {
-        Ok(mount) => Ok(mount),
-        Err(_) => Err("not mounted".into()),
-    }
+    Ok(Mount::begin(alloc, disk, 0).ok().ok_or("not mounted")?)
 }
 
 fn examine(alloc: Global, mount: &mut Mount<MemDisk>, block: u64) {

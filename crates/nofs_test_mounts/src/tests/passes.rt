@@ -12,8 +12,16 @@ const STAT: Step = Step::Stat {
     generation: 2,
 };
 
-fn is_stat(answer: Result<Reply, BusyStep>) -> bool {
-    matches!(answer, Ok(Reply::Stat(_)))
+fn is_stat(answer: &Result<Reply, BusyStep>) -> bool {
+    match answer {
+        Ok(reply) => matches!(reply, Reply::Stat(_)),
+        Err(_) => false,
+    }
+}
+
+// The same of an answer that is not needed any more.
+fn was_stat(answer: Result<Reply, BusyStep>) -> bool {
+    is_stat(&answer)
 }
 
 fn is_found<E: Drop>(evidence: Result<E, Refusal>) -> bool {
@@ -26,11 +34,9 @@ type Told = (bool, bool, u64, u64);
 
 // A mount that is closed with one pass out, and again with none.
 fn closed_twice<R: Wait, V: Serves>(rt: &R, alloc: Global, mount: V) -> Result<(Told, V), Fail> {
-    let Some((shared, first, second)) = two_passes(alloc, mount) else {
-        return Err("no passes".into());
-    };
+    let (shared, first, second) = two_passes(alloc, mount).ok_or("no passes")?;
     let mut user = shared.pass(rt, alloc, 1, first);
-    let answered = is_stat(user.try_step(STAT));
+    let answered = was_stat(user.try_step(STAT));
     let looked = is_found(user.look_batch(ElementKind::Block, &[1, 15]));
     let progress = user.progress();
     let first = user.back();
@@ -39,10 +45,8 @@ fn closed_twice<R: Wait, V: Serves>(rt: &R, alloc: Global, mount: V) -> Result<(
         Err(SharedOut { mount, pass, out }) => (mount, pass, out),
     };
     shared.join(&mut first, second);
-    match shared.close(first) {
-        Ok(mount) => Ok(((answered, looked, progress, out), mount)),
-        Err(_) => Err("not closed".into()),
-    }
+    let mount = shared.close(first).ok().ok_or("not closed")?;
+    Ok(((answered, looked, progress, out), mount))
 }
 
 // The same of a new disk, and how many entries the mount has then.

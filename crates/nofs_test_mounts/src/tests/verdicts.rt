@@ -44,18 +44,13 @@ fn late<R: Wait, V: Serves>(
     element: Element,
     between: Cases,
 ) -> Result<(Verdict, V), Fail> {
-    let Some((shared, first, second)) = two_passes(alloc, mount) else {
-        return Err("no passes".into());
-    };
+    let (shared, first, second) = two_passes(alloc, mount).ok_or("no passes")?;
     let mut sweeper = shared.pass(rt, alloc, BLOCK_SWEEPER, first);
     let mut user = shared.pass(rt, alloc, 1, second);
     let verdict = verdict_after(alloc, &mut sweeper, element, &mut user, between)?;
     let (mut first, second) = (sweeper.back(), user.back());
     shared.join(&mut first, second);
-    match shared.close(first) {
-        Ok(mount) => Ok((verdict, mount)),
-        Err(_) => Err("not closed".into()),
-    }
+    Ok((verdict, shared.close(first).ok().ok_or("not closed")?))
 }
 
 /// What another pass does before a verdict is committed.

@@ -59,9 +59,7 @@ fn outs_of_a_pass<R: Wait, V: Serves>(
     alloc: Global,
     mount: V,
 ) -> Result<([Out; 3], u64), Fail> {
-    let Some((shared, first, second)) = two_passes(alloc, mount) else {
-        return Err("no passes".into());
-    };
+    let (shared, first, second) = two_passes(alloc, mount).ok_or("no passes")?;
     let mut user = shared.pass(rt, alloc, 1, first);
     follow_as(alloc, &mut user, PUT_IN_15)?;
     let mut flusher = shared.pass(rt, alloc, FLUSHER, second);
@@ -130,9 +128,7 @@ fn outs_of_both<R: Wait, V: Serves>(
     alloc: Global,
     mount: V,
 ) -> Result<([u64; 2], [Out; 3], Verdict), Fail> {
-    let Some((shared, first, second)) = two_passes(alloc, mount) else {
-        return Err("no passes".into());
-    };
+    let (shared, first, second) = two_passes(alloc, mount).ok_or("no passes")?;
     let mut user = shared.pass(rt, alloc, 1, first);
     let mut flusher = shared.pass(rt, alloc, FLUSHER, second);
     let puts = outs_of_puts(alloc, &mut user, &mut flusher)?;

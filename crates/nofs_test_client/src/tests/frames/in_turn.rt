@@ -1,7 +1,8 @@
 //! How many calls a stream costs, and what a client that waits for each reply is given.
 ghost use Rattle.nofs_io.specs.Memory.{sink_of, source_of};
 
-use crate::tests::frames::served::{Flow, GET, STAT, WHOLE, bytes_of, put_of, serve_told};
+use crate::tests::frames::cases::PUT;
+use crate::tests::frames::served::{Flow, GET, STAT, WHOLE, bytes_of, marked_bytes, serve_told};
 use crate::tests::standin::mount::Told;
 use crate::tests::standin::transcript::Transcript;
 use nofs_io::{Failed, MemSink, MemSource, Sink, Source};
@@ -46,7 +47,7 @@ fn three_hundred_frames_cost_a_call_for_each_64_kib(rt: HostRuntime) -> Result<(
     expect_calls(&rt, alloc, &gets, "", [2, 1])?;
     let large = "get 2/2 0 -> bytes 0 07\n".repeat(alloc, 300)?;
     expect_calls(&rt, alloc, &gets, large.as_str(), [2, 5])?;
-    let puts = put_of(alloc, "4c040000", 1075)?.repeat(alloc, 300)?;
+    let puts = marked_bytes(alloc, PUT, "<")?.repeat(alloc, 300)?;
     expect_calls(&rt, alloc, &puts, "", [7, 6])
 }
 

@@ -1,6 +1,7 @@
 //! Streams that are served, in pieces of any size and while calls fail.
 
 use crate::tests::standin::mount::Told;
+use crate::tests::standin::replies::{number, parted};
 use crate::tests::standin::transcript::Transcript;
 use nofs_io::{MemSink, MemSource};
 use nofs_wire::{WireEnd, serve, serve_up_to};
@@ -47,6 +48,20 @@ pub struct ServedStream {
     pub source: MemSource,
 }
 
+// Serves a stream that may have so many bytes.
+fn end_of(
+    alloc: Global,
+    limit: Option<u32>,
+    told: &mut Told<Transcript<'_>>,
+    source: &mut MemSource,
+    sink: &mut MemSink,
+) -> WireEnd {
+    match limit {
+        None => serve(alloc, told, source, sink),
+        Some(limit) => serve_up_to(alloc, u64::from(limit), told, source, sink),
+    }
+}
+
 /// Serves a stream. The stand-in replies what these lines tell.
 pub(crate) fn serve_told(
     alloc: Global,
@@ -57,10 +72,7 @@ pub(crate) fn serve_told(
     let mut told = Told::new(Transcript::new(alloc, told));
     let mut source = MemSource::new(alloc, stream, flow.piece.max(1), &[flow.read])?;
     let mut sink = MemSink::new(alloc, flow.room, &[flow.write])?;
-    let end = match flow.limit {
-        None => serve(alloc, &mut told, &mut source, &mut sink),
-        Some(limit) => serve_up_to(alloc, u64::from(limit), &mut told, &mut source, &mut sink),
-    };
+    let end = end_of(alloc, flow.limit, &mut told, &mut source, &mut sink);
     let given = sink.bytes().to_vec(alloc)?;
     let steps = told.answers.text;
     Ok(ServedStream {
@@ -69,14 +81,6 @@ pub(crate) fn serve_told(
         given,
         source,
     })
-}
-
-/// The frame of a put of so many bytes to the second slot of the label file, which begins with this length.
-pub(crate) fn put_of(alloc: Global, length: &str, count: u64) -> Result<Vec<u8>, AllocError> {
-    let digits = "07".repeat(alloc, count as usize)?;
-    let head = "08 02000000 0200000000000000 0100000000000000 00000000";
-    let frame = format!(in alloc; "{length} {head} {digits}")?;
-    bytes_of(alloc, frame.as_str())
 }
 
 /// The bytes of hexadecimal digits between which there may be spaces.
@@ -88,4 +92,28 @@ pub(crate) fn bytes_of(alloc: Global, digits: &str) -> Result<Vec<u8>, AllocErro
         }
     }
     Ok(bytes)
+}
+
+/// The lines of a case behind a mark, each as often as it says, with this end.
+pub(crate) fn marked(
+    alloc: Global,
+    case: &str,
+    mark: &str,
+    end: &str,
+) -> Result<String, AllocError> {
+    let mut text = String::new(alloc);
+    for line in case.split('\n') {
+        if let Some(line) = line.strip_prefix(mark) {
+            let (count, line) = parted(line, ' ');
+            let line = format!(in alloc; "{line}{end}")?;
+            text.push_str(line.repeat(alloc, number(count) as usize)?.as_str())?;
+        }
+    }
+    Ok(text)
+}
+
+/// The bytes of a case behind a mark.
+pub(crate) fn marked_bytes(alloc: Global, case: &str, mark: &str) -> Result<Vec<u8>, AllocError> {
+    let digits = marked(alloc, case, mark, " ")?;
+    bytes_of(alloc, digits.as_str())
 }

@@ -1,234 +1,151 @@
-//! Streams in pieces of any size, at their limits, with frames that spell no step, and while calls fail.
+//! The cases of streams: in pieces of any size, at their limits, with frames that spell no step, and while calls fail.
 
-use crate::tests::frames::served::{Flow, GET, STAT, WHOLE, bytes_of, put_of, serve_told};
-use nofs_io::read_all;
-use nofs_wire::WireEnd;
+use crate::tests::frames::cases::{
+    BETWEEN, CUTS, LIMITS, NO_STEPS, ON_FILES, ON_NAMES, PIECES, PUT, REFUSALS, THREE_STATS,
+    TWO_STATS,
+};
+use crate::tests::frames::served::{
+    Flow, ServedStream, WHOLE, bytes_of, marked, marked_bytes, serve_told,
+};
+use crate::tests::standin::replies::{parted, short};
+use nofs_io::{MemSource, read_all};
 use std::alloc::{AllocError, Global};
 use std::process::Abort;
 use std::test::Fail;
 
-// The step of a stat to which no reply is told, and the frame of what is replied.
-const STOPPED: &str = "stat 2/2 -> refused Stopped\n";
-
-const STOPPED_FRAME: &str = "01000000 14 ";
-
-/// How a stream comes, and its first bytes.
-fn row_text(alloc: Global, flow: Flow, stream: &[u8]) -> Result<String, AllocError> {
-    let begins = hex::encode(alloc, stream.get(..48).unwrap_or(stream))?;
-    let (piece, read, write) = (flow.piece, flow.read, flow.write);
-    let limit = flow.limit.unwrap_or(0);
-    format!(in alloc; "{begins} in pieces of {piece}, read {read}, write {write}, limit {limit}")
+/// The number behind a word; `None` where the word is not there.
+fn number_behind(words: &str, word: &str) -> Option<u32> {
+    match words.split_once(word) {
+        Some((_, rest)) => Some(short(parted(rest, ' ').0)),
+        None => None,
+    }
 }
 
-/// The steps that are made with the replies that are told, the frames that are given, and the end.
-type Outcome<'a> = (&'a str, &'a str, WireEnd);
+/// How a stream comes by these words.
+fn flow_of(words: &str) -> Flow {
+    Flow {
+        piece: u64::from(number_behind(words, "piece ").unwrap_or(4096)),
+        read: u64::from(number_behind(words, "read ").unwrap_or(0)),
+        write: u64::from(number_behind(words, "write ").unwrap_or(0)),
+        room: u64::from(number_behind(words, "room ").unwrap_or(400_000)),
+        limit: number_behind(words, "limit "),
+    }
+}
 
-/// A stream that comes so has this outcome.
-fn expect(
-    rt: &impl Abort,
-    alloc: Global,
-    flow: Flow,
-    stream: &[u8],
-    outcome: Outcome<'_>,
+/// Serves the stream of a case that comes by these words.
+fn came_by(alloc: Global, case: &str, words: &str) -> Result<ServedStream, AllocError> {
+    let sent = marked_bytes(alloc, case, "<")?;
+    let first = number_behind(words, "first ").unwrap_or(u32::MAX);
+    let sent = sent.get(..first as usize).unwrap_or(&sent);
+    let told = marked(alloc, case, "=", "\n")?;
+    serve_told(alloc, flow_of(words), sent, told.as_str())
+}
+
+/// Its end, the steps that were made, and the bytes that were given.
+fn outcome_of(alloc: Global, came: ServedStream) -> Result<(String, String, Vec<u8>), AllocError> {
+    let ServedStream {
+        end,
+        steps,
+        given,
+        source: _,
+    } = came;
+    let end = format!(in alloc; "{end:?}")?;
+    Ok((end, steps, given))
+}
+
+/// The outcome that a case tells.
+fn told_by(alloc: Global, case: &str, end: &str) -> Result<(String, String, Vec<u8>), AllocError> {
+    let steps = marked(alloc, case, "=", "\n")?;
+    let given = marked_bytes(alloc, case, ">")?;
+    Ok((String::from_str(alloc, end)?, steps, given))
+}
+
+/// The stream of a case that comes by these words makes its steps, gives its bytes and has this end.
+fn expect(rt: &impl Abort, alloc: Global, case: &str, words: &str, end: &str) -> Result<(), Fail> {
+    let told = told_by(alloc, case, end)?;
+    let came = outcome_of(alloc, came_by(alloc, case, words)?)?;
+    assert_eq!(rt; came, told, "{words} of {case}");
+    Ok(())
+}
+
+/// Each stream of a case has its outcome.
+fn expect_case(rt: &impl Abort, alloc: Global, case: &str) -> Result<(), Fail> {
+    let (head, _) = parted(case, '\n');
+    let (end, flows) = head.split_once(" | ").unwrap_or((head, ""));
+    for words in flows.split(", ") {
+        expect(rt, alloc, case, words, end)?;
+    }
+    Ok(())
+}
+
+#[test]
+fn each_stream_has_its_steps_its_replies_and_its_end(rt: HostRuntime) -> Result<(), Fail> {
+    for cases in [PIECES, LIMITS, ON_NAMES, ON_FILES, REFUSALS] {
+        for case in cases.split("\n\n") {
+            expect_case(&rt, rt.alloc(), case)?;
+        }
+    }
+    Ok(())
+}
+
+/// The case of a row: how many stats are made, how many replies given, the end, and how the frames come.
+fn case_of(alloc: Global, frames: &str, row: &str) -> Result<String, AllocError> {
+    let (made, rest) = parted(row, ' ');
+    let (given, head) = parted(rest, ' ');
+    let made = format!(in alloc; "={made} stat 2/2 -> refused Stopped")?;
+    format!(in alloc; "{head}\n{frames}\n{made}\n>{given} 01000000 14")
+}
+
+#[test]
+fn a_stream_ends_where_a_call_fails_a_frame_is_cut_or_there_are_too_many_bytes(
+    rt: HostRuntime,
 ) -> Result<(), Fail> {
-    let (told, given, end) = outcome;
-    let row = row_text(alloc, flow, stream)?;
-    let came = serve_told(alloc, flow, stream, told)?;
-    assert_eq!(rt; came.end, end, "{row}");
-    assert_eq!(rt; came.steps.as_str(), told, "{row}");
-    assert_eq!(rt; came.given, bytes_of(alloc, given)?, "{row}");
-    Ok(())
-}
-
-/// A stream of frames to which no reply is told comes to so many stats, so many replies and this end.
-fn expect_stats(
-    rt: &impl Abort,
-    alloc: Global,
-    flow: Flow,
-    stream: &[u8],
-    counts: (usize, usize),
-    end: WireEnd,
-) -> Result<(), Fail> {
-    let told = STOPPED.repeat(alloc, counts.0)?;
-    let given = STOPPED_FRAME.repeat(alloc, counts.1)?;
-    expect(
-        rt,
-        alloc,
-        flow,
-        stream,
-        (told.as_str(), given.as_str(), end),
-    )
-}
-
-// A stat, and gets of slots 0 and 72.
-const THREE: &str = "\
-0d000000 0a 02000000 0200000000000000 \
-15000000 07 02000000 0200000000000000 0000000000000000 \
-15000000 07 02000000 0200000000000000 4800000000000000";
-
-const THREE_OUTCOME: Outcome<'static> = (
-    "stat 2/2 -> file 0 0\nget 2/2 0 -> hole\nget 2/2 72 -> refused TooLarge\n",
-    "0e000000 00 01 0000000000000000 00000000 02000000 00 02 01000000 0c",
-    WireEnd::End,
-);
-
-#[test]
-fn frames_are_the_same_in_pieces_of_every_size(rt: HostRuntime) -> Result<(), Fail> {
-    let alloc = rt.alloc();
-    let stream = bytes_of(alloc, THREE)?;
-    for piece in [1, 3, 4, 5, 8, 21, 4096] {
-        let flow = Flow { piece, ..WHOLE };
-        expect(&rt, alloc, flow, &stream, THREE_OUTCOME)?;
+    let cut = format!(in rt.alloc();
+        "<1 {TWO}\n<1 15000000 07 02000000 0200000000000000 4800000000000000"
+    )?;
+    for (frames, rows) in [
+        ("<3 0d000000 0a 02000000 0200000000000000", THREE_STATS),
+        ("<2 0d000000 0a 02000000 0200000000000000", TWO_STATS),
+        (cut.as_str(), CUTS),
+    ] {
+        for row in rows.lines() {
+            let case = case_of(rt.alloc(), frames, row)?;
+            expect_case(&rt, rt.alloc(), case.as_str())?;
+        }
     }
     Ok(())
 }
-
-/// Three stats: the bytes of a piece, the read and the write that fail, how many stats are made and how many are
-/// answered, and the end.
-const CALLS: [([u64; 3], (usize, usize), WireEnd); 16] = [
-    ([7, 1, 0], (0, 0), WireEnd::SourceFault),
-    ([7, 2, 0], (0, 0), WireEnd::SourceFault),
-    ([7, 3, 0], (0, 0), WireEnd::SourceFault),
-    ([7, 4, 0], (1, 1), WireEnd::SourceFault),
-    ([7, 5, 0], (1, 1), WireEnd::SourceFault),
-    ([7, 6, 0], (2, 2), WireEnd::SourceFault),
-    ([7, 7, 0], (2, 2), WireEnd::SourceFault),
-    ([7, 8, 0], (2, 2), WireEnd::SourceFault),
-    ([7, 9, 0], (3, 3), WireEnd::SourceFault),
-    ([7, 10, 0], (3, 3), WireEnd::End),
-    ([7, 11, 0], (3, 3), WireEnd::End),
-    ([17, 0, 1], (1, 0), WireEnd::SinkFault),
-    ([17, 0, 2], (2, 1), WireEnd::SinkFault),
-    ([17, 0, 3], (3, 2), WireEnd::SinkFault),
-    ([17, 0, 4], (3, 3), WireEnd::End),
-    ([4096, 0, 1], (3, 0), WireEnd::SinkFault),
-];
-
-#[test]
-fn a_call_that_fails_ends_a_stream(rt: HostRuntime) -> Result<(), Fail> {
-    let alloc = rt.alloc();
-    let stream = bytes_of(alloc, STAT)?.repeat(alloc, 3)?;
-    for ([piece, read, write], counts, end) in CALLS {
-        let flow = Flow {
-            piece,
-            read,
-            write,
-            ..WHOLE
-        };
-        expect_stats(&rt, alloc, flow, &stream, counts, end)?;
-    }
-    Ok(())
-}
-
-/// Two stats: how many bytes a stream may have, how many stats are made and answered, and the end.
-const LIMITS: [(u32, usize, WireEnd); 6] = [
-    (34, 2, WireEnd::End),
-    (33, 1, WireEnd::TooLong),
-    (18, 1, WireEnd::TooLong),
-    (17, 1, WireEnd::TooLong),
-    (16, 0, WireEnd::TooLong),
-    (0, 0, WireEnd::TooLong),
-];
-
-#[test]
-fn a_stream_has_at_most_so_many_bytes(rt: HostRuntime) -> Result<(), Fail> {
-    let alloc = rt.alloc();
-    let stream = bytes_of(alloc, STAT)?.repeat(alloc, 2)?;
-    for (most, whole, end) in LIMITS {
-        let flow = Flow {
-            limit: Some(most),
-            ..WHOLE
-        };
-        expect_stats(&rt, alloc, flow, &stream, (whole, whole), end)?;
-    }
-    Ok(())
-}
-
-#[test]
-fn a_stream_that_ends_inside_a_frame_is_cut(rt: HostRuntime) -> Result<(), Fail> {
-    let alloc = rt.alloc();
-    let stream = bytes_of(alloc, THREE)?;
-    let flow = Flow { piece: 5, ..WHOLE };
-    for length in 0..42usize {
-        let (whole, end) = match length {
-            0 => (0, WireEnd::End),
-            1..=16 => (0, WireEnd::Cut { at: 0 }),
-            17 => (1, WireEnd::End),
-            _ => (1, WireEnd::Cut { at: 17 }),
-        };
-        let part = stream.get(..length).unwrap_or(&stream);
-        expect_stats(&rt, alloc, flow, part, (whole, whole), end)?;
-    }
-    Ok(())
-}
-
-/// Frames that spell no step.
-const NO_STEPS: [&str; 12] = [
-    "01000000 0e",
-    "00000000",
-    "4d040000",
-    "ffffffff",
-    "01000000 00",
-    "0c000000 0a 02000000 02000000000000",
-    "0e000000 0a 02000000 0200000000000000 00",
-    "0f000000 01 01000000 0300000000000000 02 61",
-    "10000000 02 01000000 0300000000000000 01 61 03",
-    "11000000 05 01000000 0300000000000000 02 6566 01",
-    "18000000 08 02000000 0200000000000000 0100000000000000 0a0000",
-    "06000000 0c 03000000 00",
-];
 
 #[test]
 fn a_frame_that_spells_no_step_is_bad(rt: HostRuntime) -> Result<(), Fail> {
     let alloc = rt.alloc();
-    let flow = Flow { piece: 7, ..WHOLE };
-    for frame in NO_STEPS {
-        let stream = format!(in alloc; "{STAT} {frame} {STAT}")?;
-        let stream = bytes_of(alloc, stream.as_str())?;
-        expect_stats(&rt, alloc, flow, &stream, (1, 1), WireEnd::Bad { at: 17 })?;
+    for frame in NO_STEPS.lines() {
+        let sent = format!(in alloc; "<1 0d000000 0a 02000000 0200000000000000\n<1 {frame}")?;
+        let case = format!(in alloc; "Bad {{ at: 17 }} | piece 7\n{sent}\n{BETWEEN}")?;
+        expect_case(&rt, alloc, case.as_str())?;
     }
     Ok(())
 }
 
 #[test]
-fn a_body_has_at_most_1100_bytes(rt: HostRuntime) -> Result<(), Fail> {
+fn a_body_has_1100_bytes(rt: HostRuntime) -> Result<(), Fail> {
     let alloc = rt.alloc();
-    let most = put_of(alloc, "4c040000", 1075)?;
     let digits = "07".repeat(alloc, 1075)?;
-    let told = format!(in alloc; "put 2/2 1 0 {digits} -> stored\n")?;
-    let stored = (told.as_str(), "01000000 00", WireEnd::End);
-    expect(&rt, alloc, WHOLE, &most, stored)?;
-    let more = put_of(alloc, "4d040000", 1076)?;
-    expect(&rt, alloc, WHOLE, &more, ("", "", WireEnd::Bad { at: 0 }))
+    let case = format!(in alloc; "{PUT}=1 put 2/2 1 0 {digits} -> stored")?;
+    expect_case(&rt, alloc, case.as_str())
 }
 
-#[test]
-fn ten_thousand_frames_in_one_stream(rt: HostRuntime) -> Result<(), Fail> {
-    let alloc = rt.alloc();
-    let stream = bytes_of(alloc, GET)?.repeat(alloc, 10_000)?;
-    let told = "get 2/2 0 -> hole\n".repeat(alloc, 10_000)?;
-    let given = "02000000 00 02 ".repeat(alloc, 10_000)?;
-    let outcome = (told.as_str(), given.as_str(), WireEnd::End);
-    for piece in [4096, 3] {
-        let flow = Flow { piece, ..WHOLE };
-        expect(&rt, alloc, flow, &stream, outcome)?;
+/// A stat, and a get of the first slot.
+const TWO: &str = "\
+0d000000 0a 02000000 0200000000000000 \
+15000000 07 02000000 0200000000000000 0000000000000000";
+
+/// The bytes that a source has left.
+fn left_in(alloc: Global, source: &mut MemSource) -> Result<Vec<u8>, AllocError> {
+    match read_all(alloc, source, 100) {
+        Ok(left) => left.as_slice().to_vec(alloc),
+        Err(_) => Ok(Vec::new(alloc)),
     }
-    Ok(())
-}
-
-#[test]
-fn a_stream_ends_where_the_sink_has_no_room_or_a_step_no_memory(
-    rt: HostRuntime,
-) -> Result<(), Fail> {
-    let alloc = rt.alloc();
-    let small = Flow { room: 10, ..WHOLE };
-    let begun = "0e000000 00 01 00000000";
-    let outcome = ("stat 2/2 -> file 0 0\n", begun, WireEnd::SinkFault);
-    expect(&rt, alloc, small, &bytes_of(alloc, STAT)?, outcome)?;
-    let gets = bytes_of(alloc, GET)?.repeat(alloc, 3)?;
-    let told = "get 2/2 0 -> hole\nget 2/2 0 -> refused OutOfMemory\n";
-    let outcome = (told, "02000000 00 02", WireEnd::OutOfMemory);
-    expect(&rt, alloc, WHOLE, &gets, outcome)
 }
 
 #[test]
@@ -239,17 +156,12 @@ fn a_reply_is_given_before_more_is_taken(rt: HostRuntime) -> Result<(), Fail> {
         read: 2,
         ..WHOLE
     };
-    let stream = bytes_of(alloc, THREE)?;
-    let stream = stream.get(..42).unwrap_or(&stream);
-    let mut came = serve_told(alloc, flow, stream, "")?;
-    assert_eq!(rt;
-        (came.end, came.steps.as_str()),
-        (WireEnd::SourceFault, STOPPED)
-    );
-    assert_eq!(rt; came.given, bytes_of(alloc, STOPPED_FRAME)?);
-    match read_all(alloc, &mut came.source, 100) {
-        Ok(left) => assert_eq!(rt; left.as_slice(), stream.get(21..).unwrap_or(&[])),
-        Err(_) => assert!(rt; false),
-    }
+    let stream = bytes_of(alloc, TWO)?;
+    let mut came = serve_told(alloc, flow, &stream, "")?;
+    let left = left_in(alloc, &mut came.source)?;
+    let outcome = outcome_of(alloc, came)?;
+    let case = "=1 stat 2/2 -> refused Stopped\n>1 01000000 14";
+    assert_eq!(rt; outcome, told_by(alloc, case, "SourceFault")?);
+    assert_eq!(rt; left.as_slice(), stream.get(21..).unwrap_or(&[]));
     Ok(())
 }

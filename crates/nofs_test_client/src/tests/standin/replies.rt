@@ -5,86 +5,71 @@ use nofs_history::{Found, NameLine, NameList, Refusal, Reply, Stat};
 use nofs_inode::inode::FileKind;
 use std::alloc::{AllocError, Global};
 
-// The refusals that cases tell.
-const REFUSALS: [Refusal; 20] = [
-    Refusal::Missing,
-    Refusal::LostEntry { entry: 258 },
-    Refusal::LostSlot { slot: 8 },
-    Refusal::Exists,
-    Refusal::IsDirectory,
-    Refusal::BadRange,
-    Refusal::TooLarge,
-    Refusal::Stale,
-    Refusal::ReadFault,
-    Refusal::WriteFault,
-    Refusal::OutOfMemory,
-    Refusal::Full {
-        needed: 1,
-        free: 0,
-        unverified: 40,
-        next: 24,
-    },
-    Refusal::Full {
-        needed: 1,
-        free: 0,
-        unverified: 39,
-        next: 24,
-    },
-    Refusal::Full {
-        needed: 1,
-        free: 0,
-        unverified: 9,
-        next: 24,
-    },
-    Refusal::Full {
-        needed: 1,
-        free: 0,
-        unverified: 2,
-        next: 24,
-    },
-    Refusal::Full {
-        needed: 1,
-        free: 2,
-        unverified: 3,
-        next: 4,
-    },
-    Refusal::InodesFull {
-        unverified: 2,
-        next: 3,
-    },
-    Refusal::InodesFull {
-        unverified: 1,
-        next: 3,
-    },
-    Refusal::InodesFull {
-        unverified: 0,
-        next: 3,
-    },
-    Refusal::InodesFull {
-        unverified: 5,
-        next: 6,
-    },
-];
-
-fn refusal_of(alloc: Global, text: &str) -> Result<Refusal, AllocError> {
-    for refusal in REFUSALS {
-        if format!(in alloc; "{refusal:?}")?.as_str() == text {
-            return Ok(refusal);
-        }
+// The digits behind the name of a field.
+fn field<'a>(fields: &'a str, name: &str) -> &'a str {
+    match fields.split_once(name) {
+        Some((_, rest)) => parted(parted(rest, ',').0, ' ').0,
+        None => "",
     }
-    Ok(Refusal::Stopped)
 }
 
-fn number(word: &str) -> u64 {
+// A refusal that keeps nothing.
+fn plain_refusal(word: &str) -> Refusal {
+    match word {
+        "Missing" => Refusal::Missing,
+        "Exists" => Refusal::Exists,
+        "NotDirectory" => Refusal::NotDirectory,
+        "IsDirectory" => Refusal::IsDirectory,
+        "NotEmpty" => Refusal::NotEmpty,
+        "BadName" => Refusal::BadName,
+        "BadRange" => Refusal::BadRange,
+        "TooManyLinks" => Refusal::TooManyLinks,
+        "DirectoryFull" => Refusal::DirectoryFull,
+        "TooLarge" => Refusal::TooLarge,
+        "PastEnd" => Refusal::PastEnd,
+        "Stale" => Refusal::Stale,
+        "SerialsSpent" => Refusal::SerialsSpent,
+        "ReadFault" => Refusal::ReadFault,
+        "WriteFault" => Refusal::WriteFault,
+        "OutOfMemory" => Refusal::OutOfMemory,
+        _ => Refusal::Stopped,
+    }
+}
+
+/// The refusal that these words tell, with what it keeps; `Stopped` where they tell none.
+pub(crate) fn refusal_of(text: &str) -> Refusal {
+    let (word, fields) = parted(text, ' ');
+    match word {
+        "LostEntry" => Refusal::LostEntry {
+            entry: short(field(fields, "entry: ")),
+        },
+        "LostSlot" => Refusal::LostSlot {
+            slot: number(field(fields, "slot: ")),
+        },
+        "Full" => Refusal::Full {
+            needed: number(field(fields, "needed: ")),
+            free: number(field(fields, "free: ")),
+            unverified: number(field(fields, "unverified: ")),
+            next: number(field(fields, "next: ")),
+        },
+        "InodesFull" => Refusal::InodesFull {
+            unverified: number(field(fields, "unverified: ")),
+            next: number(field(fields, "next: ")),
+        },
+        _ => plain_refusal(word),
+    }
+}
+
+pub(crate) fn number(word: &str) -> u64 {
     word.parse::<u64>().unwrap_or(0)
 }
 
-fn short(word: &str) -> u32 {
+pub(crate) fn short(word: &str) -> u32 {
     word.parse::<u32>().unwrap_or(0)
 }
 
 // A word, and what stands behind it.
-fn parted(text: &str, by: char) -> (&str, &str) {
+pub(crate) fn parted(text: &str, by: char) -> (&str, &str) {
     text.split_once(by).unwrap_or((text, ""))
 }
 
@@ -186,6 +171,6 @@ pub fn reply_of(alloc: Global, text: &str) -> Result<Reply, AllocError> {
         "flushed" => Reply::Flushed,
         "used" => Reply::Seen { used: true },
         "free" => Reply::Seen { used: false },
-        _ => Reply::Refused(refusal_of(alloc, rest)?),
+        _ => Reply::Refused(refusal_of(rest)),
     })
 }

@@ -49,21 +49,32 @@ impl Answers for Transcript<'_> {
     }
 }
 
+/// What is replied to a step, in a word.
+fn reply_word(told: &mut Told<Transcript<'_>>, step: Step) -> &'static str {
+    let reply = told.step(step);
+    match &reply {
+        Reply::Seen { used: true } => "used",
+        Reply::Flushed => "flushed",
+        Reply::Refused(Refusal::Stopped) => "stopped",
+        _ => "another",
+    }
+}
+
 #[test]
 fn replies_come_in_turn_and_one_that_does_not_fit_is_stopped(rt: HostRuntime) -> Result<(), Fail> {
     let told = "block 24 -> used\ninode 3 -> hole\nflush 4/9 -> flushed\n";
     let mut told = Told::new(Transcript::new(rt.alloc(), told));
-    let seen = told.step(Step::SeeBlock { block: 24 });
-    assert!(rt; matches!(seen, Reply::Seen { used: true }));
-    let unfit = told.step(Step::SeeInode { inode: 3 });
-    assert!(rt; matches!(unfit, Reply::Refused(Refusal::Stopped)));
-    let flushed = told.step(Step::Flush {
+    let block = Step::SeeBlock { block: 24 };
+    assert_eq!(rt; reply_word(&mut told, block), "used");
+    let inode = Step::SeeInode { inode: 3 };
+    assert_eq!(rt; reply_word(&mut told, inode), "stopped");
+    let flush = Step::Flush {
         inode: 4,
         generation: 9,
-    });
-    assert!(rt; matches!(flushed, Reply::Flushed));
-    let none = told.step(Step::SeeInode { inode: 5 });
-    assert!(rt; matches!(none, Reply::Refused(Refusal::Stopped)));
+    };
+    assert_eq!(rt; reply_word(&mut told, flush), "flushed");
+    let untold = Step::SeeInode { inode: 5 };
+    assert_eq!(rt; reply_word(&mut told, untold), "stopped");
     assert_eq!(rt;
         told.answers.text.as_str(),
         "block 24 -> used\ninode 3 -> hole\nflush 4/9 -> flushed\ninode 5 -> refused Stopped\n"

@@ -6,10 +6,10 @@ use Rattle.nofs_inode.specs.RecordLaws.{HasRecordSpelling-from}
 use Rattle.nofs_inode.specs.declared.inode.FileKind.TheVariants.{File}
 use Rattle.nofs_inode.specs.declared.inode.BackLink.{BackLink}
 use Rattle.nofs_inode.specs.declared.inode.Record.{Record}
-use Rattle.nofs_test_formats.proofs.tests.inode.a_record_is_written_as_its_worked_bytes_and_read_from_them.Goals as goal
+use Rattle.nofs_test_formats.proofs.tests.inode.label_file_cell.Goals as goal
 
 pub write_record-requires-clause-spelling : goal.write_record-requires-clause-spelling
-write_record-requires-clause-spelling g c =
+write_record-requires-clause-spelling g =
     let pointer : Pointer = record { block = 5; stamp = 1099511627785 } in
     let link : BackLink = record { directory = 1; entry = 0; generation = 1 } in
     let file : Record = record {
