@@ -1,7 +1,18 @@
 //! The first word of a command line: which image is served.
 //!
 //! Promise: a word names the disk in memory, a mirror of two files, or a file; one that begins as a mirror's and has
-//! another shape names nothing.
+//! another shape names nothing. `Image.antt` in the specs says which word names what, and `Examples.antt` in the proofs
+//! has words with what they name.
+ghost use Rattle.std.specs.Prelude.{◌≡◌, option_map};
+ghost use Rattle.nofs.specs.Image.{
+  halves,
+  image_in,
+  is_side as is_side_in,
+  meant,
+  mirror_in,
+  mirror_of as mirror_with,
+};
+ghost use Rattle.nofs_script.specs.Words.{number_of as number_in};
 
 use nofs_script::number_of;
 
@@ -20,20 +31,31 @@ pub enum ImageChoice<'a> {
     },
 }
 
+// The two halves of a text around its first colon.
+fn halves_of(text: &str) -> Option<(&str, &str)>
+    ensures { option_map (λ p. (p.0.now, p.1.now)) result ≡ halves text.now }
+{
+    text.split_once(':')
+}
+
 // The least and the most blocks of a mirror: as many as an image can have.
 const LEAST_BLOCKS: u64 = 16;
 
 const MOST_BLOCKS: u64 = 1_048_576;
 
 // Whether a word can be the path of a side.
-fn is_path(word: &str) -> bool {
+fn is_side(word: &str) -> bool
+    ensures { result ≡ is_side_in word.now }
+{
     !word.is_empty() && word != "-"
 }
 
 // A mirror, by its words.
-fn mirror_of<'a>(blocks: &str, lead: &'a str, other: &'a str) -> Option<ImageChoice<'a>> {
+fn mirror_of<'a>(blocks: &str, lead: &'a str, other: &'a str) -> Option<ImageChoice<'a>>
+    ensures { option_map meant result ≡ mirror_with (number_in blocks.now) lead.now other.now }
+{
     let blocks = number_of(blocks.as_bytes())?;
-    if blocks < LEAST_BLOCKS || blocks > MOST_BLOCKS || !is_path(lead) || !is_path(other) {
+    if blocks < LEAST_BLOCKS || blocks > MOST_BLOCKS || !is_side(lead) || !is_side(other) {
         return None;
     }
     Some(ImageChoice::Mirror {
@@ -43,50 +65,27 @@ fn mirror_of<'a>(blocks: &str, lead: &'a str, other: &'a str) -> Option<ImageCho
     })
 }
 
-/// The image that a word names; none where it begins with `mirror:` and has not the shape `mirror:BLOCKS:LEAD:OTHER`.
-pub fn image_of(word: &str) -> Option<ImageChoice<'_>> {
-    if word == "-" {
-        return Some(ImageChoice::Memory);
-    }
-    let Some(rest) = word.strip_prefix("mirror:") else {
-        return Some(ImageChoice::File(word));
-    };
-    let (blocks, files) = rest.split_once(':')?;
-    let (lead, other) = files.split_once(':')?;
-    if other.contains(':') {
+// The mirror of the shape `BLOCKS:LEAD:OTHER`.
+fn sides_of(text: &str) -> Option<ImageChoice<'_>>
+    ensures { option_map meant result ≡ mirror_in (halves text.now) }
+{
+    let (blocks, files) = halves_of(text)?;
+    let (lead, other) = halves_of(files)?;
+    if halves_of(other).is_some() {
         return None;
     }
     mirror_of(blocks, lead, other)
 }
 
-#[cfg(test)]
-mod tests {
-    use super::{ImageChoice, image_of};
-    use std::test::Fail;
-
-    #[test]
-    fn each_first_word_names_its_image(rt: HostRuntime) -> Result<(), Fail> {
-        let mirror = ImageChoice::Mirror {
-            blocks: 64,
-            lead: "a.img",
-            other: "b.img",
-        };
-        for (word, image) in [
-            ("-", Some(ImageChoice::Memory)),
-            ("disk.img", Some(ImageChoice::File("disk.img"))),
-            ("mirror", Some(ImageChoice::File("mirror"))),
-            ("mirror:64:a.img:b.img", Some(mirror)),
-            ("mirror:15:a.img:b.img", None),
-            ("mirror:1048577:a.img:b.img", None),
-            ("mirror:064:a.img:b.img", None),
-            ("mirror:64:a.img", None),
-            ("mirror:64:a.img:b.img:c.img", None),
-            ("mirror:64::b.img", None),
-            ("mirror:64:a.img:-", None),
-            ("mirror:", None),
-        ] {
-            assert_eq!(rt; image_of(word), image, "{word}");
-        }
-        Ok(())
+/// The image that a word names; none where it begins with `mirror:` and has not the shape `mirror:BLOCKS:LEAD:OTHER`.
+pub fn image_of(word: &str) -> Option<ImageChoice<'_>>
+    ensures { option_map meant result ≡ image_in word.now }
+{
+    if word == "-" {
+        return Some(ImageChoice::Memory);
+    }
+    match halves_of(word) {
+        Some(("mirror", rest)) => sides_of(rest),
+        _ => Some(ImageChoice::File(word)),
     }
 }
