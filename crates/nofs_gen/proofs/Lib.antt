@@ -1,3 +1,4 @@
 pub mod OnScript
 pub mod OnFile
 pub mod OnReplays
+pub mod OnTally

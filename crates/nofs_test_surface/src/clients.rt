@@ -5,11 +5,12 @@ ghost use Rattle.std.specs.Prelude.{◌<◌, ◌≤◌};
 
 use crate::typed::typed;
 use nofs_client::{
-    Client, Command, CommandList, GotPart, GotParts, Line, ListPart, ListParts, Next, Path,
+    Client, Command, CommandList, GotPart, GotParts, Line, LineList, ListPart, ListParts, Next,
+    Path,
 };
 use nofs_dirent::{Content, Name, PathNames};
-use nofs_gen::ValueList;
-use nofs_history::{History, NameLine, Refusal, Reply, Stat, Step, Steps};
+use nofs_gen::{DrillNumbers, FileRead, ValueList};
+use nofs_history::{Found, History, NameLine, Refusal, Reply, Stat, Step, Steps};
 use nofs_script::{ParseFault, ScriptFault, ScriptKind, Session};
 use std::alloc::{AllocError, Global};
 
@@ -190,4 +191,35 @@ pub fn gen_replay(
     generation: u64,
 ) -> Result<ValueList, AllocError> {
     nofs_gen::replay(alloc, history, inode, generation)
+}
+
+/// `nofs_gen::FileRead`
+pub fn file_read_fields(it: FileRead) -> (Found, u64, Vec<Reply>) {
+    let FileRead { found, size, slots } = it;
+    (found, size, slots)
+}
+
+/// `nofs_gen::DrillNumbers`
+pub fn drill_numbers_fields(it: DrillNumbers) -> [u64; 4] {
+    [it.refused, it.bytes, it.sum, it.wrong]
+}
+
+/// `nofs_gen::numbers_of`
+pub fn gen_numbers_of(
+    alloc: Global,
+    users: &[LineList],
+    reads: &[Option<FileRead>],
+    history: &History,
+) -> Result<DrillNumbers, AllocError> {
+    nofs_gen::numbers_of(alloc, users, reads, history)
+}
+
+/// The line of a drill, or want of memory.
+type DrillText = Result<Content, AllocError>;
+
+/// `nofs_gen::drill_text`
+pub fn gen_drill_text(alloc: Global, from: u64, steps: u64, it: &DrillNumbers) -> DrillText
+    requires { steps ≤ 4000 }
+{
+    nofs_gen::drill_text(alloc, from, steps, it)
 }

@@ -21,9 +21,11 @@ use Rattle.nofs_io.specs.Calls.{SinkState}
 use Rattle.nofs_io.specs.Texts.{AppendsAll}
 use Rattle.nofs_script.specs.Session.{IsSession}
 use Rattle.nofs_gen.proofs.OnScript.{script-formed}
-use Rattle.nofs_tool.specs.declared.drill.reads.FileRead.{FileRead}
-use Rattle.nofs_tool.specs.Drill.{AddsOwn, AreFourRead, IsDrillDone, IsDrilled, IsReadOut, drill_line, drill_session}
-use Rattle.nofs_tool.specs.Drill.{is_refused_line, size_told, sum_told, wrong_told, IsDrillRun}
+use Rattle.nofs_gen.specs.declared.tally.FileRead.{FileRead}
+use Rattle.nofs_tool.specs.Drill.{AddsOwn, AreFourRead, IsDrillDone, IsDrilled, IsReadOut, drill_session}
+use Rattle.nofs_gen.specs.Tally.{drill_line}
+use Rattle.nofs_tool.specs.Drill.{IsDrillRun}
+use Rattle.nofs_gen.specs.Tally.{is_refused_line, size_told, sum_told, wrong_told}
 use Rattle.nofs_tool.proofs.OnSession.Serve.{adds-others}
 use Rattle.nofs_tool.proofs.OnSession.Whole.{whole-by}
 use Rattle.nofs_tool.proofs.OnDrill.Tally.{refusals-from}

@@ -15,7 +15,7 @@ use Rattle.nofs_client.specs.declared.task.lines.Line.{Line}
 use Rattle.nofs_shared.specs.Mount.Entries.{AddsStep}
 use Rattle.nofs_serve.specs.Session.{TeamMade, TeamServed}
 use Rattle.nofs_serve.proofs.OnSession.{team-unserved}
-use Rattle.nofs_tool.specs.declared.drill.reads.FileRead.{FileRead}
+use Rattle.nofs_gen.specs.declared.tally.FileRead.{FileRead}
 use Rattle.nofs_tool.specs.Drill.{AreFourBegun, AreFourRead, IsDrillFollowed, IsReadFollowed, ReadsBy, drill_session}
 use Rattle.nofs_tool.specs.Session.Serve.{AreSwept}
 use Rattle.nofs_tool.proofs.OnSession.Serve.{sweeps-shorter}

@@ -15,7 +15,7 @@ use Rattle.nofs_history.specs.declared.machine.replies.Stat.{Stat}
 use Rattle.nofs_history.specs.Callers.{done_of, is_by, steps_by}
 use Rattle.nofs_gen.specs.Script.{digit}
 use Rattle.nofs_shared.specs.Mount.Entries.{AddsStep}
-use Rattle.nofs_tool.specs.declared.drill.reads.FileRead.{FileRead}
+use Rattle.nofs_gen.specs.declared.tally.FileRead.{FileRead}
 use Rattle.nofs_tool.specs.Drill.{AddsOwn, AreFourBegun, AreRead, AreReadings, AreSlotsBegun, AreStepsOf, FollowsAnswer}
 use Rattle.nofs_tool.specs.Drill.{IsAnswerBegun, IsFileBegun, IsFileRead, IsLookedUp, IsNotBegun, IsOneStep, IsReadAt}
 use Rattle.nofs_tool.specs.Drill.{IsReadAtBegun, IsReadIn, IsReadInBegun, IsStepBegun, IsWholeRead, ReadsBy, found_in}

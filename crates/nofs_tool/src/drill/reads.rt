@@ -8,7 +8,7 @@ ghost use Rattle.std.specs.declared.option.Option.{Option};
 ghost use Rattle.nofs_history.specs.Machine as machine;
 ghost use Rattle.nofs_history.specs.declared.machine.replies.Reply.{Reply as Answer};
 ghost use Rattle.nofs_history.specs.declared.machine.steps.Step.TheVariants as step;
-ghost use Rattle.nofs_tool.specs.declared.drill.reads.FileRead.{FileRead as ReadOf};
+ghost use Rattle.nofs_gen.specs.declared.tally.FileRead.{FileRead as ReadOf};
 ghost use Rattle.nofs_tool.specs.Drill.{AreFourBegun, AreFourRead, AreSlotsBegun, IsFileBegun, IsFileRead, IsLookedUp};
 ghost use Rattle.nofs_tool.specs.Drill.{IsNotBegun, IsOneStep, IsReadAt, IsReadAtBegun, IsReadIn, IsReadInBegun};
 ghost use Rattle.nofs_tool.specs.Drill.{IsWholeRead, ReadsBy, found_in as found_by, gets_from, is_reading};
@@ -16,17 +16,10 @@ ghost use Rattle.nofs_tool.specs.Drill.{stat_in as stat_by};
 
 use nofs_dirent::Name;
 use nofs_disk::Disk;
+use nofs_gen::FileRead;
 use nofs_history::{Found, PROGRAM, Reply, Stat, Step};
 use nofs_shared::Mount;
 use std::alloc::{AllocError, Global};
-
-/// A file of a drill as it was read: what led to it, its size in bytes, and what was got of each slot below its size.
-#[derive(Drop)]
-pub struct FileRead {
-    pub found: Found,
-    pub size: u64,
-    pub slots: Vec<Reply>,
-}
 
 // One step of the program itself. Where memory was wanting for it, none was made.
 fn ask<D: Disk + Drop>(

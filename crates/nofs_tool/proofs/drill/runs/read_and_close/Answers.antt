@@ -2,7 +2,7 @@ use Rattle.std.proofs.Common.{rules, ◌≡◌, ◌∙◌, ap, true, false, List
 use Rattle.std.specs.Prelude.{count_by, sum_by}
 use Rattle.nofs_history.specs.HistoryState.{HistoryState}
 use Rattle.nofs_client.specs.declared.task.lines.Line.{Line}
-use Rattle.nofs_tool.specs.Drill.{is_refused_line}
+use Rattle.nofs_gen.specs.Tally.{is_refused_line}
 use Rattle.nofs_tool.proofs.OnDrill.Ends.{read-out}
 use Rattle.nofs_tool.proofs.OnDrill.Follows.{read-cut, read-whole}
 use Rattle.nofs_tool.proofs.OnDrill.Reads.{begun}

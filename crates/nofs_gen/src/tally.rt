@@ -8,20 +8,27 @@ ghost use Rattle.std.specs.Prelude.{◌≡◌, ◌≤◌, ◌<◌, ◌+◌, ◌*
 ghost use Rattle.std.specs.Prelude.{count_by};
 ghost use Rattle.nofs_history.specs.Machine.{cut_of};
 ghost use Rattle.nofs_gen.specs.Replay.{slot_value};
-ghost use Rattle.nofs_tool.specs.Drill.{drill_line, is_bytes_read as is_bytes_in, is_hole_read as is_hole_in};
-ghost use Rattle.nofs_tool.specs.Drill.{is_refused_line};
-ghost use Rattle.nofs_tool.specs.Drill.{is_value_read as is_value_in, size_told as size_of, slot_sum as slot_sum_of};
-ghost use Rattle.nofs_tool.specs.Drill.{slots_sum as slots_sum_of};
-ghost use Rattle.nofs_tool.specs.Drill.{slots_wrong as slots_wrong_of, sum_told as sum_of, wrong_told as wrong_of};
+ghost use Rattle.nofs_gen.specs.Tally.{drill_line, is_bytes_read as is_bytes_in, is_hole_read as is_hole_in};
+ghost use Rattle.nofs_gen.specs.Tally.{is_refused_line};
+ghost use Rattle.nofs_gen.specs.Tally.{is_value_read as is_value_in, size_told as size_of, slot_sum as slot_sum_of};
+ghost use Rattle.nofs_gen.specs.Tally.{slots_sum as slots_sum_of};
+ghost use Rattle.nofs_gen.specs.Tally.{slots_wrong as slots_wrong_of, sum_told as sum_of, wrong_told as wrong_of};
 
-use crate::drill::reads::FileRead;
+use crate::replays::{ValueList, replay};
 use nofs_client::{Line, LineList};
 use nofs_dirent::Content;
-use nofs_gen::{ValueList, replay};
-use nofs_history::{History, Reply};
+use nofs_history::{Found, History, Reply};
 use nofs_model::Value;
 use nofs_script::push_number;
 use std::alloc::{AllocError, Global};
+
+/// A file of a drill as it was read: what led to it, its size in bytes, and what was got of each slot below its size.
+#[derive(Drop)]
+pub struct FileRead {
+    pub found: Found,
+    pub size: u64,
+    pub slots: Vec<Reply>,
+}
 
 /// The numbers of a drill's line.
 #[derive(Clone, Copy)]
@@ -244,7 +251,7 @@ fn refused(users: &[LineList]) -> Result<u64, AllocError>
 }
 
 /// The numbers of a drill, by the lines of its users, what was read of their files, and the history.
-pub(crate) fn numbers_of(
+pub fn numbers_of(
     alloc: Global,
     users: &[LineList],
     reads: &[Option<FileRead>],
@@ -277,8 +284,8 @@ fn push_numbers(alloc: Global, text: &mut Vec<u8>, told: &DrillNumbers) -> Resul
 }
 
 /// The line of a drill.
-#[tactic(auto, unfolding(crate::specs::Drill::drill_line))]
-pub(crate) fn drill_text(
+#[tactic(auto, unfolding(crate::specs::Tally::drill_line))]
+pub fn drill_text(
     alloc: Global,
     start: u64,
     steps: u64,

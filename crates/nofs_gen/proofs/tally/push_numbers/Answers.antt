@@ -1,6 +1,6 @@
 use Rattle.std.proofs.Common.{◌≡◌, ◌∙◌, ◌++◌, ℕ, List, codes, refl, sym, ap, append_assoc}
 use Rattle.std.specs.Fmt.{decimal}
-use Rattle.nofs_tool.proofs.drill.tally.push_numbers.Goals as goal
+use Rattle.nofs_gen.proofs.tally.push_numbers.Goals as goal
 
 -- words and a number behind a text
 more : (new old text words digits : List ℕ) → new ≡ old ++ (words ++ digits) → old ≡ text

@@ -1,8 +1,8 @@
 use Rattle.std.proofs.Common.{◌≡◌, ℕ, List, refl}
 use Rattle.nofs_history.specs.declared.machine.replies.Reply.{Reply}
 use Rattle.nofs_history.specs.declared.machine.replies.Reply.TheVariants as reply
-use Rattle.nofs_tool.specs.Drill.{slot_sum}
-use Rattle.nofs_tool.proofs.drill.tally.slot_sum.Goals as goal
+use Rattle.nofs_gen.specs.Tally.{slot_sum}
+use Rattle.nofs_gen.proofs.tally.slot_sum.Goals as goal
 
 -- each other reply has no bytes
 none-summed : (cut : ℕ) (r : Reply) → ((bytes : List ℕ) → r ≡ reply.Bytes bytes → ⊥) → 0 ≡ slot_sum cut r

@@ -1,8 +1,8 @@
 use Rattle.std.proofs.Common.{◌≡◌, ℕ, List, false, refl}
 use Rattle.nofs_history.specs.declared.machine.replies.Reply.{Reply}
 use Rattle.nofs_history.specs.declared.machine.replies.Reply.TheVariants as reply
-use Rattle.nofs_tool.specs.Drill.{is_bytes_read}
-use Rattle.nofs_tool.proofs.drill.tally.is_bytes_read.Goals as goal
+use Rattle.nofs_gen.specs.Tally.{is_bytes_read}
+use Rattle.nofs_gen.proofs.tally.is_bytes_read.Goals as goal
 
 -- each other reply has no bytes
 none-read : (bytes : List ℕ) (r : Reply) → ((found : List ℕ) → r ≡ reply.Bytes found → ⊥)

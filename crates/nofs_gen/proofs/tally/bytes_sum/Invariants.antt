@@ -1,6 +1,6 @@
 use Rattle.std.proofs.Common.{◌≡◌, take}
 use Rattle.std.specs.Prelude.{sum}
-use Rattle.nofs_tool.proofs.drill.tally.bytes_sum.Given as goal
+use Rattle.nofs_gen.proofs.tally.bytes_sum.Given as goal
 
 abbrev pub invariant-loop-byte : goal.invariant-loop-byte
 invariant-loop-byte l = l.total ≡ sum (take l.byte-index l.bytes)

@@ -1,7 +1,7 @@
 use Rattle.std.proofs.Common.{rules, ◌<◌, ◌+◌, ◌∙◌, ap, length, ℕ}
-use Rattle.nofs_tool.specs.Drill.{slot_sum}
-use Rattle.nofs_tool.proofs.OnDrill.Tally.{sum-next}
-use Rattle.nofs_tool.proofs.drill.tally.slots_sum.Goals as goal
+use Rattle.nofs_gen.specs.Tally.{slot_sum}
+use Rattle.nofs_gen.proofs.OnTally.{sum-next}
+use Rattle.nofs_gen.proofs.tally.slots_sum.Goals as goal
 
 pub loop-slot-preserved : goal.loop-slot-preserved
 loop-slot-preserved c =

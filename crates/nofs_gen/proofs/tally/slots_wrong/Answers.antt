@@ -1,6 +1,6 @@
 use Rattle.std.proofs.Common.{rules, ◌<◌, length}
-use Rattle.nofs_tool.proofs.OnDrill.Tally.{wrong-next}
-use Rattle.nofs_tool.proofs.drill.tally.slots_wrong.Goals as goal
+use Rattle.nofs_gen.proofs.OnTally.{wrong-next}
+use Rattle.nofs_gen.proofs.tally.slots_wrong.Goals as goal
 
 pub loop-slot-preserved : goal.loop-slot-preserved
 loop-slot-preserved c =
