@@ -1,9 +1,8 @@
 //! The cases of a file: their lines, and how many of them hold.
 
-use crate::failure::Failure;
-use crate::lines::place_of;
 use crate::stage::Stage;
 use crate::turns::run_case;
+use nofs_test_lines::{Failure, place_of};
 use std::alloc::{AllocError, Global};
 use std::sync::Wait;
 use std::thread::Threads;

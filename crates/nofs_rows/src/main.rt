@@ -9,27 +9,21 @@
 //! - `cases`: the cases of a file, and how many hold; `turns`: how often a case is run, and over which images of a
 //!   crash
 //! - `stage`: what stands while a case is run; its lines by what they say: `settings`, `runs`, `mounts`, `judging`
-//! - `lines`: words and numbers; `laying`: images; `outputs`: what is printed; `steps`, `replies`: steps and answers
-//! - `failure`: why a case fails
+//!
+//! `nofs_test_lines` has what the lines say by themselves: images, steps, answers, and what is printed.
 #![tactic(auto)]
 
 mod cases;
-mod failure;
 mod judging;
-mod laying;
-mod lines;
 mod mounts;
-mod outputs;
-mod replies;
 mod runs;
 mod settings;
 mod stage;
-mod steps;
 mod turns;
 
 use crate::cases::{Tally, run_file};
-use crate::lines::lines_of;
 use crate::stage::Stage;
+use nofs_test_lines::lines_of;
 use std::process::ExitCode;
 use std::rt::Files;
 use std::sync::Wait;

@@ -1,14 +1,12 @@
 //! Lines that mount a disk, ask the mount step by step, and end it.
 
-use crate::failure::Failure;
-use crate::lines::{number_of, range_of};
 use crate::stage::Stage;
-use crate::steps::{answer_of, step_of};
-use nofs_history::Step;
+use nofs_history::{NO_CLAIMS, Step};
 use nofs_memdisk::MemDisk;
 use nofs_shared::Mount;
 use nofs_state::Counts;
 use nofs_super::format;
+use nofs_test_lines::{Failure, halves, is_answer, number_of, range_of, reply_text, step_of};
 use std::alloc::{AllocError, Global};
 
 // How many stamps a mount has: the first of them may be given at most with this number.
@@ -96,6 +94,22 @@ impl Stage {
     }
 }
 
+// Makes a step at a mount: what it is answered, and what it claims.
+fn answer_of(
+    alloc: Global,
+    mount: &mut Mount<MemDisk>,
+    caller: u32,
+    step: Step,
+) -> Result<String, AllocError> {
+    let before = mount.history().len();
+    let reply = mount.step(alloc, caller, step);
+    let claims = match mount.history().entry(before) {
+        Some(entry) => entry.claims,
+        None => NO_CLAIMS,
+    };
+    reply_text(alloc, &reply, &claims)
+}
+
 // What was answered, where that is not as wanted; else an empty text.
 fn ask_step(
     alloc: Global,
@@ -163,33 +177,4 @@ fn are_counts(counts: Counts, entries: u64, words: &[&str]) -> bool {
 pub fn counts_text(alloc: Global, mount: &Mount<MemDisk>) -> Result<String, AllocError> {
     let (counts, entries) = (mount.counts(), mount.history().len());
     format!(in alloc; "with {counts:?} and {entries} entries ")
-}
-
-// Whether an answer is as wanted: any, bytes from a place on, or just these words.
-fn is_answer(alloc: Global, wanted: &[&str], came: &str) -> Result<bool, AllocError> {
-    match wanted {
-        ["*"] => Ok(true),
-        ["at", at, digits] => Ok(has_digits(came, number_of(at), digits)),
-        _ => Ok(wanted.join(alloc, " ")?.as_str() == came),
-    }
-}
-
-// Whether the bytes that are told have these from a place on. Zeros at their end are not told.
-fn has_digits(came: &str, at: Option<u64>, digits: &str) -> bool {
-    let (Some(bytes), Some(at)) = (came.strip_prefix("bytes "), at) else {
-        return false;
-    };
-    let first = (at as usize).saturating_mul(2);
-    let mut are = true;
-    for (place, digit) in digits.as_bytes().iter().enumerate() {
-        let came = bytes.as_bytes().get(first.saturating_add(place));
-        are = are && came.unwrap_or(&b'0') == digit;
-    }
-    are
-}
-
-// The words before an arrow, and those behind it.
-fn halves<'a, 'b>(words: &'a [&'b str]) -> Option<(&'a [&'b str], &'a [&'b str])> {
-    let at = words.iter().position(|word| *word == "->")?;
-    Some((words.get(..at)?, words.get(at.checked_add(1)?..)?))
 }

@@ -1,13 +1,11 @@
 //! Runs of the program's call over a disk in memory, with a source and a sink that may fail, and how they end.
 
-use crate::failure::Failure;
-use crate::lines::{marked_bytes, number_of, words_at};
-use crate::outputs::{RunEnd, is_right};
 use crate::stage::Stage;
 use nofs_disk::Disk;
 use nofs_io::{MemSink, MemSource};
 use nofs_memdisk::Unready;
 use nofs_test_disks::cached;
+use nofs_test_lines::{Failure, RunEnd, command_of, end_text, is_right, marked_bytes, number_of};
 use nofs_tool::{Outcome, tool};
 use std::alloc::{AllocError, Global};
 use std::sync::Wait;
@@ -157,15 +155,6 @@ fn run_over<R: Threads + Wait + Sync, D: Disk + Drop + Send>(
     (status, disk)
 }
 
-// The words of a command, behind that which begins their line.
-fn command_of(alloc: Global, lines: &[&str]) -> Result<Vec<String>, AllocError> {
-    let mut command = Vec::new(alloc);
-    for word in words_at(alloc, lines, "words ")?.iter().skip(1) {
-        command.push(String::from_str(alloc, word)?)?;
-    }
-    Ok(command)
-}
-
 // A source of a session, with how many bytes it gives a call at most, and the call that fails.
 fn source_of(alloc: Global, lines: &[&str], calls: (u64, u64)) -> Result<MemSource, Failure> {
     let mut session = Vec::new(alloc);
@@ -175,14 +164,4 @@ fn source_of(alloc: Global, lines: &[&str], calls: (u64, u64)) -> Result<MemSour
         }
     }
     Ok(MemSource::new(alloc, &session, calls.0.max(1), &[calls.1])?)
-}
-
-// The lines of a run, and what came.
-fn end_text(alloc: Global, lines: &[&str], end: RunEnd) -> Result<String, AllocError> {
-    let (lines, status) = (lines.join(alloc, "\n")?, end.status);
-    let printed = match std::str::from_utf8(end.printed) {
-        Ok(text) => String::from_str(alloc, text)?,
-        Err(_) => hex::encode(alloc, end.printed)?,
-    };
-    format!(in alloc; "{lines}\ncame status {status}\n{printed}\n")
 }

@@ -1,11 +1,10 @@
 //! Lines that set which calls fail, and the disk that is made of the cells that were laid down.
 
-use crate::failure::Failure;
-use crate::lines::range_of;
 use crate::runs::{RunOptions, failing, option_of};
 use crate::stage::Stage;
 use nofs_memdisk::MemDisk;
 use nofs_test_disks::disk_with;
+use nofs_test_lines::{Failure, range_of};
 use nofs_versions::{CallKind, FaultAt};
 use std::alloc::AllocError;
 

@@ -3,14 +3,11 @@
 //! Promise: a line that says nothing that is known fails its case, and so do lines that judge nothing, and lines of a
 //! run that is not made.
 
-use crate::failure::Failure;
-use crate::laying::{lay, lay_images};
-use crate::lines::words_of;
-use crate::outputs::is_of_run;
 use crate::runs::{RunOptions, USUAL};
 use nofs_disk::Cell;
 use nofs_memdisk::MemDisk;
 use nofs_shared::Mount;
+use nofs_test_lines::{Failure, is_of_run, lay, lay_images, words_of};
 use nofs_versions::FaultAt;
 use std::alloc::{AllocError, Global};
 use std::sync::Wait;

@@ -2,9 +2,6 @@
 
 mod commands;
 mod draws;
-mod frames;
-mod pieces;
 mod salvage;
 mod standin;
 mod texts;
-mod workers;

@@ -3,9 +3,6 @@
 mod cases;
 
 use crate::tests::commands::cases::{ACCEPTED, BYTES, MOVES, REFUSED, REPEATED};
-use crate::tests::standin::mount::Told;
-use crate::tests::standin::spelling::step_text;
-use crate::tests::standin::transcript::Transcript;
 use crate::tests::texts::{first_command, plain_text};
 use nofs_client::{Client, Command, CommandList, Line, LineList, Next, Path, drive};
 use nofs_dirent::PathNames;
@@ -13,6 +10,7 @@ use nofs_history::{Reply, Stat};
 use nofs_inode::inode::FileKind;
 use nofs_move::move_file;
 use nofs_script::parse;
+use nofs_test_standin::{Told, Transcript, step_text};
 use std::alloc::{AllocError, Global};
 use std::process::Abort;
 use std::slice;

@@ -1,11 +1,11 @@
 //! The worked draws, and a replay of a history that was made by hand.
 
-use crate::tests::standin::replies::{number, parted, reply_of, short};
 use nofs_client::{Command, Path};
 use nofs_dirent::Content;
 use nofs_gen::{ValueList, replay, script_of};
 use nofs_history::{Entry1, History, NO_CLAIMS, Step};
 use nofs_model::Value;
+use nofs_test_standin::{number, parted, reply_of, short};
 use std::alloc::{AllocError, Global};
 use std::test::Fail;
 

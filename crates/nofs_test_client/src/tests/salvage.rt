@@ -2,9 +2,8 @@
 
 ghost use Rattle.std.specs.Prelude.{◌≡◌, true};
 
-use crate::tests::standin::mount::Told;
-use crate::tests::standin::transcript::Transcript;
 use nofs_salvage::{All, NameFilter, salvage};
+use nofs_test_standin::{Told, Transcript};
 use std::alloc::{AllocError, Global};
 use std::test::Fail;
 

@@ -1,9 +1,9 @@
 //! Texts that are read and written: hexadecimal digits, beside what the crate `hex` makes of them, and refusals.
 
-use crate::tests::standin::replies::refusal_of;
 use nofs_client::{Command, GotPart, GotParts, Line};
 use nofs_dirent::Content;
 use nofs_script::{Session, line_text, parse};
+use nofs_test_standin::refusal_of;
 use std::alloc::{AllocError, Global};
 use std::process::Abort;
 use std::test::Fail;

@@ -1,5 +1,4 @@
-//! What the tests of a mount share: mounts of disks, a disk that is full, two passes, and verdicts that are
-//! committed. No program uses it.
+//! What the tests share: a disk that is full, two passes, and verdicts that are committed.
 //!
 //! Promise: each ends with a value or an error, so it is the test that judges.
 
@@ -7,34 +6,15 @@ ghost use Rattle.std.specs.Prelude.{◌≡◌, ◌<◌, [], IfSome, length};
 ghost use Rattle.nofs_turn.specs.Passes.{MayRun};
 ghost use Rattle.nofs_turn.specs.Turn.{view_of, IsPassOf};
 
-use crate::tests::asks::{Ask, LABEL, follow};
-use nofs_disk::Disk;
-use nofs_history::{BLOCK_SWEEPER, Reply, Step};
+use nofs_history::Reply;
 use nofs_memdisk::MemDisk;
 use nofs_shared::{Mount, Serves, SharedMount, SharedPass};
+use nofs_test_asks::{Ask, LABEL, examined, follow};
 use nofs_test_disks::formatted;
 use nofs_turn::Pass;
 use std::alloc::Global;
 use std::sync::Wait;
 use std::test::Fail;
-
-/// A mount of a disk.
-pub fn mounted<D: Disk + Drop>(alloc: Global, disk: D) -> Result<Mount<D>, Fail> {
-    Ok(Mount::begin(alloc, disk, 0).ok().ok_or("not mounted")?)
-}
-
-fn examine(alloc: Global, mount: &mut Mount<MemDisk>, block: u64) {
-    mount.step(alloc, BLOCK_SWEEPER, Step::SeeBlock { block });
-}
-
-/// A mount of a disk, of which these blocks were examined.
-pub fn examined(alloc: Global, disk: MemDisk, from: u64, to: u64) -> Result<Mount<MemDisk>, Fail> {
-    let mut mount = mounted(alloc, disk)?;
-    for block in from..to {
-        examine(alloc, &mut mount, block);
-    }
-    Ok(mount)
-}
 
 /// A mount of a new disk of 64 blocks, whose blocks 5 to 23 were examined and hold the first 18 slots of
 /// the label file and a leaf. A put into the next slot finds the disk full.

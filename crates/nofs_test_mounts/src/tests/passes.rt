@@ -1,7 +1,8 @@
 //! Two passes of one mount, taken by turns on one thread.
-use crate::tests::mounts::{mounted, two_passes};
+use crate::tests::mounts::two_passes;
 use nofs_history::{ElementKind, Refusal, Reply, Step};
 use nofs_shared::{BusyStep, Serves, SharedOut};
+use nofs_test_asks::mounted;
 use nofs_test_disks::formatted;
 use std::alloc::Global;
 use std::sync::Wait;

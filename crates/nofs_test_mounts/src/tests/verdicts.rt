@@ -1,13 +1,11 @@
 //! Verdicts of a pass that are committed after steps of another pass.
 ghost use Rattle.std.specs.Prelude.{◌≡◌};
 
-use crate::tests::asks::{Ask, Cases, LABEL, S, follow, follow_as};
-use crate::tests::mounts::{
-    Verdict, committed, examined, full_below_24, mounted, two_passes, whole,
-};
+use crate::tests::mounts::{Verdict, committed, full_below_24, two_passes, whole};
 use nofs_history::{BLOCK_SWEEPER, Claims, ElementKind, History, Steps};
 use nofs_memdisk::MemDisk;
 use nofs_shared::{Mount, Serves, SharedPass};
+use nofs_test_asks::{Ask, Cases, LABEL, S, examined, follow, follow_as, mounted};
 use nofs_test_disks::formatted;
 use std::alloc::{AllocError, Global};
 use std::sync::Wait;

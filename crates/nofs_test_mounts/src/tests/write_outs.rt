@@ -1,11 +1,11 @@
 //! Write-outs of a mount over a cache: as many as its step left dirty.
-use crate::tests::asks::{Ask, Cases, LABEL, follow, follow_as};
-use crate::tests::mounts::{Verdict, committed, mounted, two_passes};
+use crate::tests::mounts::{Verdict, committed, two_passes};
 use nofs_cache::Cached;
 use nofs_disk::OutFault;
 use nofs_history::{ElementKind, FLUSHER, Steps};
 use nofs_memdisk::{MemDisk, Unready};
 use nofs_shared::{Serves, SharedPass};
+use nofs_test_asks::{Ask, Cases, LABEL, follow, follow_as, mounted};
 use nofs_test_disks::{cached, formatted};
 use nofs_workers::WritesOut;
 use std::alloc::Global;

@@ -1,9 +1,9 @@
 //! An image in a file of the system: one run makes it, the next serves it, and a third counts it.
 
-use crate::tests::runs::run_on;
 use nofs_filedisk::{FileDisk, HostFile};
 use nofs_memdisk::MemDisk;
 use nofs_test_disks::{bytes_of, cells_of, used};
+use nofs_test_sessions::run_on;
 use std::alloc::{AllocError, Global};
 use std::test::Fail;
 use std::{fs, process};

@@ -1,7 +1,7 @@
 //! A run over an image that was laid down cell by cell.
 
-use crate::tests::runs::prints;
 use nofs_test_disks::{chain_of_directories, disk_of};
+use nofs_test_sessions::prints;
 use std::test::Fail;
 
 #[test]

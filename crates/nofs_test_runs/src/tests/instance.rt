@@ -3,12 +3,12 @@
 ghost use Rattle.std.specs.Prelude.{IfOk, IsTrue};
 ghost use Rattle.nofs_tool.specs.Session.Whole.{IsMet};
 
-use crate::tests::runs::{LINES, SESSION, prints};
 use nofs_cache::Cached;
 use nofs_disk::Disk;
 use nofs_filedisk::{FileDisk, MemFile};
 use nofs_memdisk::MemDisk;
 use nofs_super::format;
+use nofs_test_sessions::{LINES, SESSION, prints};
 use std::alloc::{AllocError, Global};
 use std::sync::Wait;
 use std::test::Fail;

@@ -1,9 +1,9 @@
 //! Runs on a mirror of two disks in memory, of which one fails, or both do.
 
-use crate::tests::runs::{LINES, SESSION, prints};
 use nofs_memdisk::MemDisk;
 use nofs_mirror::{Mirror, Sides};
 use nofs_test_disks::{bytes_of, cached, cells_of, failing, fault};
+use nofs_test_sessions::{LINES, SESSION, prints};
 use nofs_versions::CallKind;
 use std::alloc::{AllocError, Global};
 use std::test::Fail;

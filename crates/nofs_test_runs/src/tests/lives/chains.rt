@@ -3,11 +3,10 @@
 use crate::tests::lives::BLOCKS;
 use crate::tests::lives::numbers::{SERIALS, has_mount, is_table, mount_on, push_numbers};
 use crate::tests::lives::scripts::{FILES, SLOTS};
-use crate::tests::readings::{ReadTally, count, see_line};
-use crate::tests::walks::number_in;
 use nofs_disk::Cell;
 use nofs_memdisk::MemDisk;
 use nofs_test_disks::{cell_of, choices_of, left};
+use nofs_test_sessions::{ReadTally, count, number_in, see_line};
 use nofs_versions::Pick;
 use std::alloc::{AllocError, Global};
 use std::test::Fail;

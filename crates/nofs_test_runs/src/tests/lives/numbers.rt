@@ -1,10 +1,10 @@
 //! The numbers that stand on a disk: stamps, and generations, which are stamps too.
 
 use crate::tests::lives::BLOCKS;
-use crate::tests::walks::number_in;
 use nofs_disk::Cell;
 use nofs_memdisk::MemDisk;
 use nofs_test_disks::cell_of;
+use nofs_test_sessions::number_in;
 use std::alloc::{AllocError, Global};
 
 /// The superblock, and the table of 16 inodes.

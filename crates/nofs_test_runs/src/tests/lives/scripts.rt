@@ -1,7 +1,7 @@
 //! The sessions of lives: files that are made, sized, filled and dropped, as they are drawn.
 
-use crate::tests::readings::push_bytes;
 use nofs_test_disks::draw;
+use nofs_test_sessions::push_bytes;
 use std::alloc::{AllocError, Global};
 use std::test::Fail;
 

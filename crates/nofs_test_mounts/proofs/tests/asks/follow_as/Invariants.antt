@@ -1,4 +1,0 @@
-use Rattle.nofs_test_mounts.proofs.tests.asks.follow_as.Given as goal
-
-abbrev pub invariant-loop-case : goal.invariant-loop-case
-invariant-loop-case g l = g.S.Steps.goes l.fn.user l.user
