@@ -2,3 +2,4 @@
 pub mod Bytes
 pub mod Reads
 pub mod Writes
+pub mod Units

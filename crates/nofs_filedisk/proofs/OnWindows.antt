@@ -40,24 +40,24 @@ range-shown bytes w base at n fits shown =
     let size : at + n - at ≡ n = omega arith in
     ap (λ k. take k (drop at w)) size ∙ part-shown bytes w base at n fits shown
 
-block-place : (block : ℕ) → 67584 * (block / 64) + 1056 * (block % 64) ≡ 1056 * block
+block-place : (block : ℕ) → 69696 * (block / 66) + 1056 * (block % 66) ≡ 1056 * block
 block-place block = omega arith
 
 -- the cell of a block in the window that shows it
-pub cell-shown : (bytes w : List ℕ) (block at : ℕ) (cell : Cell) → at ≡ 1056 * (block % 64) → at + 1056 ≤ length w
-    → IsPart bytes (67584 * (block / 64)) w
+pub cell-shown : (bytes w : List ℕ) (block at : ℕ) (cell : Cell) → at ≡ 1056 * (block % 66) → at + 1056 ≤ length w
+    → IsPart bytes (69696 * (block / 66)) w
     → cell.payload ≡ slice_range w at (at + 1024) → cell.tag ≡ slice_range w (at + 1024) (at + 1056)
     → cell ≡ cell_in bytes block
 unfolding cell_in
 cell-shown bytes w block at cell is fits shown payload tag =
     let whole = block-place block in
-    let first : 67584 * (block / 64) + at ≡ 1056 * block = omega arith in
-    let second : 67584 * (block / 64) + (at + 1024) ≡ 1056 * block + 1024 = omega arith in
+    let first : 69696 * (block / 66) + at ≡ 1056 * block = omega arith in
+    let second : 69696 * (block / 66) + (at + 1024) ≡ 1056 * block + 1024 = omega arith in
     let end : at + 1056 ≡ at + 1024 + 32 = omega arith in
-    let one = payload ∙ range-shown bytes w (67584 * (block / 64)) at 1024 (omega arith) shown
+    let one = payload ∙ range-shown bytes w (69696 * (block / 66)) at 1024 (omega arith) shown
     ∙ ap (λ k. part_of bytes k 1024) first in
     let two = tag ∙ ap (λ k. slice_range w (at + 1024) k) end
-    ∙ range-shown bytes w (67584 * (block / 64)) (at + 1024) 32 (omega arith) shown
+    ∙ range-shown bytes w (69696 * (block / 66)) (at + 1024) 32 (omega arith) shown
     ∙ ap (λ k. part_of bytes k 32) second in
     λ i. record { payload = one i; tag = two i }
 
@@ -75,64 +75,64 @@ cell-alone bytes w block cell size shown payload tag =
     λ i. record { payload = one i; tag = two i }
 
 -- a window of other cells
-apart : (block n : ℕ) (part a b w : List ℕ) → 1056 * (block % 64) + length part ≤ 67584 → IsPut (1056 * block) part a b
-    → n ≢ block / 64 → length w ≤ 67584 → IsPart a (67584 * n) w
-    → IsPart b (67584 * n) w
+apart : (block n : ℕ) (part a b w : List ℕ) → 1056 * (block % 66) + length part ≤ 69696 → IsPut (1056 * block) part a b
+    → n ≢ block / 66 → length w ≤ 69696 → IsPart a (69696 * n) w
+    → IsPart b (69696 * n) w
 apart block n part a b w short put other size shown k low =
     let whole = block-place block in
-    let small : block % 64 < 64 = omega arith in
+    let small : block % 66 < 66 = omega arith in
     shown k low
-    ∙ sym (elim (cases_lt n (block / 64)) [
-      | inl under ↦ put.before (67584 * n + k) (omega arith)
+    ∙ sym (elim (cases_lt n (block / 66)) [
+      | inl under ↦ put.before (69696 * n + k) (omega arith)
       | inr over ↦
-          let above : block / 64 < n =
-          elim (cases_lt (block / 64) n) [ inl strictly ↦ strictly | inr same ↦ absurd (other (omega arith)) ] in
-          put.behind (67584 * n + k) (omega arith)
+          let above : block / 66 < n =
+          elim (cases_lt (block / 66) n) [ inl strictly ↦ strictly | inr same ↦ absurd (other (omega arith)) ] in
+          put.behind (69696 * n + k) (omega arith)
     ])
 
 pub kept-apart : (number : Option ℕ) (block : ℕ) (part a b w : List ℕ)
-    → 1056 * (block % 64) + length part ≤ 67584 → IsPut (1056 * block) part a b → number ≢ Some (block / 64)
-    → length w ≤ 67584
-    → ((n : ℕ) → number ≡ Some n → IsPart a (67584 * n) w) → (n : ℕ) → number ≡ Some n → IsPart b (67584 * n) w
+    → 1056 * (block % 66) + length part ≤ 69696 → IsPut (1056 * block) part a b → number ≢ Some (block / 66)
+    → length w ≤ 69696
+    → ((n : ℕ) → number ≡ Some n → IsPart a (69696 * n) w) → (n : ℕ) → number ≡ Some n → IsPart b (69696 * n) w
 kept-apart number block part a b w short put other size shown n is =
     apart block n part a b w short put (λ same. other (is ∙ ap Some same)) size (shown n is)
 
 -- the window of the block
-pub put-shown : (block at : ℕ) (part a b w : List ℕ) → at ≡ 1056 * (block % 64)
-    → at + length part ≤ 67584 → IsPut (1056 * block) part a b → length w ≡ 67584
-    → IsPart a (67584 * (block / 64)) w
-    → IsPart b (67584 * (block / 64)) (put_bytes at part w)
+pub put-shown : (block at : ℕ) (part a b w : List ℕ) → at ≡ 1056 * (block % 66)
+    → at + length part ≤ 69696 → IsPut (1056 * block) part a b → length w ≡ 69696
+    → IsPart a (69696 * (block / 66)) w
+    → IsPart b (69696 * (block / 66)) (put_bytes at part w)
 put-shown block at part a b w is fits_window put size shown k low =
     let whole = block-place block in
-    let small : block % 64 < 64 = omega arith in
+    let small : block % 66 < 66 = omega arith in
     let fits : at ≤ length w = omega arith in
     let same_size = length-put_bytes at part w (omega arith) in
     elim (cases_lt k at) [
       | inl front ↦ put-before at k part w fits front ∙ shown k (omega arith)
-          ∙ sym (put.before (67584 * (block / 64) + k) (omega arith))
+          ∙ sym (put.before (69696 * (block / 66) + k) (omega arith))
       | inr rest ↦ elim (cases_lt k (at + length part)) [
         | inl inside ↦
             let index : at + (k - at) ≡ k = omega arith in
-            let place : 1056 * block + (k - at) ≡ 67584 * (block / 64) + k = omega arith in
+            let place : 1056 * block + (k - at) ≡ 69696 * (block / 66) + k = omega arith in
             ap (slice_index (put_bytes at part w)) (sym index) ∙ put-inside at (k - at) part w fits (omega arith)
             ∙ sym (put.inside (k - at) (omega arith))
             ∙ ap (slice_index b) place
         | inr behind ↦ put-behind at k part w fits (omega arith) ∙ shown k (omega arith)
-            ∙ sym (put.behind (67584 * (block / 64) + k) (omega arith))
+            ∙ sym (put.behind (69696 * (block / 66) + k) (omega arith))
       ]
     ]
 
-pub put-known : (number : Option ℕ) (block at : ℕ) (part a b w new : List ℕ) → number ≡ Some (block / 64)
-    → at ≡ 1056 * (block % 64) → 1056 * (block % 64) + length part ≤ 67584
-    → IsPut (1056 * block) part a b → length w ≡ 67584
-    → new ≡ put_bytes at part w → ((n : ℕ) → number ≡ Some n → IsPart a (67584 * n) w) → (n : ℕ) → number ≡ Some n
-    → IsPart b (67584 * n) new
+pub put-known : (number : Option ℕ) (block at : ℕ) (part a b w new : List ℕ) → number ≡ Some (block / 66)
+    → at ≡ 1056 * (block % 66) → 1056 * (block % 66) + length part ≤ 69696
+    → IsPut (1056 * block) part a b → length w ≡ 69696
+    → new ≡ put_bytes at part w → ((n : ℕ) → number ≡ Some n → IsPart a (69696 * n) w) → (n : ℕ) → number ≡ Some n
+    → IsPart b (69696 * n) new
 put-known number block at part a b w new has is fits put size same shown n named =
-    let number_is : block / 64 ≡ n = same_Some (block / 64) n (sym has ∙ named) in
-    let F : ℕ → Type 0 = λ m. IsPart b (67584 * m) new in
-    let G : List ℕ → Type 0 = λ l. IsPart b (67584 * (block / 64)) l in
+    let number_is : block / 66 ≡ n = same_Some (block / 66) n (sym has ∙ named) in
+    let F : ℕ → Type 0 = λ m. IsPart b (69696 * m) new in
+    let G : List ℕ → Type 0 = λ l. IsPart b (69696 * (block / 66)) l in
     subst F number_is
-    (subst G (sym same) (put-shown block at part a b w is (omega arith) put size (shown (block / 64) has)))
+    (subst G (sym same) (put-shown block at part a b w is (omega arith) put size (shown (block / 66) has)))
 
 -- Window after window
 

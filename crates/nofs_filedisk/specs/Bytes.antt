@@ -1,7 +1,7 @@
 -- What contracts see of a file of bytes, and what each of its calls does.
 use Rattle.std.specs.Prelude.{◌≡◌, ℕ, ◌+◌, ◌^◌, ◌<◌, ◌≤◌, ◌⊎◌, nat_lt, if◌then◌else◌, max, Bool, IsTrue, List, length}
 use Rattle.std.specs.Prelude.{take, drop, slice_index}
-use Rattle.std.specs.Prelude.{Result, IfOk, OnOk, OnErr}
+use Rattle.std.specs.Prelude.{Option, Result, IfOk, IfSome, OnOk, OnErr}
 use Rattle.nofs_disk.specs.Disk.{Rose}
 use Rattle.nofs_disk.specs.declared.Failed.{Failed}
 use Rattle.nofs_disk.specs.CellsOfBytes.{cell_in}
@@ -64,6 +64,16 @@ pub record ReadsSome (old new : HostFileState) (at : ℕ) (from into : List ℕ)
   pub fits : IfOk result (λ n. n ≤ length from)
   pub part : IfOk result (λ n. IsTrue old.tells → IsPart old.bytes at (take n into))
   pub end : IfOk result (λ n. n ≡ 0 → 0 < length from → IsTrue old.tells → length old.bytes ≤ at)
+  pub cause : OnErr result (Rose old.faults new.faults)
+  pub no_fault : OnOk result (new.faults ≡ old.faults)
+
+-- `read_ahead(at, into)`: some bytes, or none of them and no fault
+pub record ReadsAhead (old new : HostFileState) (at : ℕ) (from into : List ℕ)
+    (result : Result (Option ℕ) Failed) : Type 0 where
+  pub keeps : KeepsBytes old new
+  pub len : length into ≡ length from
+  pub fits : IfOk result (λ told. IfSome told (λ n. n ≤ length from))
+  pub part : IfOk result (λ told. IfSome told (λ n. IsTrue old.tells → IsPart old.bytes at (take n into)))
   pub cause : OnErr result (Rose old.faults new.faults)
   pub no_fault : OnOk result (new.faults ≡ old.faults)
 

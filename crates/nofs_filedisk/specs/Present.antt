@@ -8,17 +8,17 @@ use Rattle.nofs_filedisk.specs.declared.run.Run.{Run}
 
 -- a block has a place in a run: in the same window one of its cells, the one before them or the one behind them
 pub record HasPlace (run : Run) (block : ℕ) : Type 0 where
-  pub window : block / 64 ≡ run.first / 64
+  pub window : block / 66 ≡ run.first / 66
   pub low : run.first ≤ block + 1
   pub high : block ≤ run.first + run.count
 
 -- the bytes of the cells of a run, which lie from the place of its first one in its window on
 abbrev pub run_bytes : Run → List ℕ
-run_bytes run = slice_range run.bytes.items (1056 * (run.first % 64)) (1056 * (run.first % 64) + 1056 * run.count)
+run_bytes run = slice_range run.bytes.items (1056 * (run.first % 66)) (1056 * (run.first % 66) + 1056 * run.count)
 
 -- these are the cells that reads give
 pub record IsPresent (bytes : List ℕ) (run : Run) (now : List Cell) : Type 0 where
-  pub inside : (b : ℕ) → run.first ≤ b → b < run.first + run.count → cell_at now b ≡ cell_in run.bytes.items (b % 64)
+  pub inside : (b : ℕ) → run.first ≤ b → b < run.first + run.count → cell_at now b ≡ cell_in run.bytes.items (b % 66)
   pub before : (b : ℕ) → b < 1048576 → b < run.first → cell_at now b ≡ cell_in bytes b
   pub behind : (b : ℕ) → b < 1048576 → run.first + run.count ≤ b → cell_at now b ≡ cell_in bytes b
 

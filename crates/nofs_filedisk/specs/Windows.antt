@@ -6,7 +6,7 @@ use Rattle.nofs_filedisk.specs.declared.windows.Windows.{Windows}
 
 -- a window that has a number shows the bytes from there on
 abbrev pub IsShown : List ℕ → Window → Type 0
-IsShown bytes window = (n : ℕ) → window.number ≡ Some n → IsPart bytes (67584 * n) window.bytes.items
+IsShown bytes window = (n : ℕ) → window.number ≡ Some n → IsPart bytes (69696 * n) window.bytes.items
 
 -- each window does, where the file tells its bytes
 abbrev pub ShowsFile : HostFileState → Windows → Type 0

@@ -4,7 +4,8 @@
 //!
 //! An image has one program at a time: the file is locked as a whole from its opening until it is dropped. Its length
 //! is kept, as it was then and as writes made it: where the file is found shorter, someone has cut it, and what was cut
-//! off is a fault and not zeros.
+//! off is a fault and not zeros. Where its last name was taken from it, or given to another file, nobody finds what it
+//! holds: so that it is synced is a fault too.
 ghost use Rattle.std.specs.Prelude.{◌^◌, ◌<◌, ◌≤◌, IfSome, length};
 ghost use Rattle.nofs_disk.specs.Disk.{Rose};
 
@@ -12,7 +13,7 @@ use crate::positioned::Positioned;
 use nofs_disk::Failed;
 use std::fs::{File, FileType, OpenOptions};
 use std::io::{self, ErrorKind, Seek, SeekFrom};
-use std::os::unix::fs::{FileExt, FileTypeExt};
+use std::os::unix::fs::{FileExt, FileTypeExt, MetadataExt};
 
 /// A file of the system, with its count of faults.
 #[derive(Drop)]
@@ -41,19 +42,37 @@ impl HostFile {
     ///
     /// # Errors
     ///
-    /// The system's, where the file can't be opened or made; that it can't be positioned; that another program, or
-    /// another `HostFile`, has it open. Then no byte of it was read or written.
+    /// The system's, where the file can't be opened or made, or what it holds can't be made durable; that it can't be
+    /// positioned; that another program, or another `HostFile`, has it open. Then no byte of it was read or written.
     pub fn open(rt: &HostRuntime, path: &str) -> io::Result<HostFile> {
-        let file = OpenOptions::new()
-            .read(true)
-            .write(true)
-            .create(true)
-            .open(rt, path)?;
+        HostFile::with(
+            OpenOptions::new()
+                .read(true)
+                .write(true)
+                .create(true)
+                .open(rt, path)?,
+        )
+    }
+
+    /// The same of a file that is there; none is made.
+    ///
+    /// # Errors
+    ///
+    /// Those of `open`, and the system's where there is no such file.
+    pub fn open_existing(rt: &HostRuntime, path: &str) -> io::Result<HostFile> {
+        HostFile::with(OpenOptions::new().read(true).write(true).open(rt, path)?)
+    }
+
+    // A file that was opened, with its lock.
+    fn with(file: File) -> io::Result<HostFile> {
         if !has_places(file.metadata()?.file_type()) {
             return Err(ErrorKind::InvalidInput.into());
         }
         file.try_lock()?;
         let end = end_of(&file)?;
+        // Whoever wrote it before, and was killed or has copied it here, may have left some of it in the system's
+        // memory alone. Only what is durable is what a crash leaves from now on.
+        file.sync_data()?;
         Ok(HostFile {
             file,
             end,
@@ -65,6 +84,14 @@ impl HostFile {
     fn is_whole(&self) -> bool {
         match end_of(&self.file) {
             Ok(end) => self.end <= end,
+            Err(_) => false,
+        }
+    }
+
+    // Whether it still has a name.
+    fn has_name(&self) -> bool {
+        match self.file.metadata() {
+            Ok(found) => found.nlink() > 0,
             Err(_) => false,
         }
     }
@@ -113,6 +140,13 @@ impl Positioned for HostFile {
         Err(self.failed())
     }
 
+    fn read_ahead(&mut self, at: u64, into: &mut [u8]) -> Result<Option<usize>, Failed> {
+        match self.read_at(at, into) {
+            Ok(count) => Ok(Some(count)),
+            Err(failed) => Err(failed),
+        }
+    }
+
     fn write_at(&mut self, at: u64, from: &[u8]) -> Result<usize, Failed> {
         match self.write_some(at, from) {
             Some(count) => {
@@ -125,7 +159,7 @@ impl Positioned for HostFile {
 
     // `fdatasync` leaves out of `fsync` only what no read needs, such as times.
     fn sync(&mut self) -> Result<(), Failed> {
-        if !self.is_whole() {
+        if !self.is_whole() || !self.has_name() {
             return Err(self.failed());
         }
         match self.file.sync_data() {

@@ -24,4 +24,5 @@ mod windows;
 pub use adapter::HostFile;
 pub use filedisk::FileDisk;
 pub use memory::MemFile;
+pub use moving::{read_part, write_part};
 pub use positioned::Positioned;

@@ -138,6 +138,13 @@ impl Positioned for MemFile {
         Ok(count)
     }
 
+    fn read_ahead(&mut self, at: u64, into: &mut [u8]) -> Result<Option<usize>, Failed> {
+        match self.read_at(at, into) {
+            Ok(count) => Ok(Some(count)),
+            Err(failed) => Err(failed),
+        }
+    }
+
     fn write_at(&mut self, at: u64, from: &[u8]) -> Result<usize, Failed> {
         self.begin()?;
         let count = self.piece.min(from.len());

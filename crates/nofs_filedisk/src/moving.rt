@@ -29,6 +29,26 @@ pub fn read_part<B: Positioned>(file: &mut B, at: u64, into: &mut [u8]) -> Resul
     Ok(())
 }
 
+/// Reads all bytes behind the first ones, which are read.
+pub fn read_behind<B: Positioned>(
+    file: &mut B,
+    at: u64,
+    into: &mut [u8],
+    done: usize,
+) -> Result<(), Failed>
+    requires place { at + length into.old < 2 ^ 63 }
+    requires done { done ≤ length into.old }
+    ensures keeps { KeepsBytes (B.state file.old) (B.state file.new) }
+    ensures len { length into.new ≡ length into.old }
+    ensures part { OnOk result (IsTrue (B.state file.old).tells
+        → IsPart (B.state file.old).bytes at (take done into.old) → IsPart (B.state file.old).bytes at into.new) }
+    ensures cause { OnErr result (Rose (B.state file.old).faults (B.state file.new).faults) }
+    ensures no_fault { OnOk result ((B.state file.new).faults ≡ (B.state file.old).faults) }
+{
+    let end = into.len();
+    read_part(file, at + done as u64, &mut into[done..end])
+}
+
 // Reads some bytes behind those that are done.
 fn read_on<B: Positioned>(
     file: &mut B,

@@ -1,6 +1,6 @@
 //! A file of bytes that are read and written at places.
 ghost use Rattle.std.specs.Prelude.{◌+◌, ◌^◌, ◌<◌, length};
-ghost use Rattle.nofs_filedisk.specs.Bytes.{HostFileState, IsHostFile, ReadsSome, Syncs, WritesSome};
+ghost use Rattle.nofs_filedisk.specs.Bytes.{HostFileState, IsHostFile, ReadsAhead, ReadsSome, Syncs, WritesSome};
 
 use nofs_disk::Failed;
 
@@ -14,6 +14,12 @@ pub trait Positioned {
     fn read_at(&mut self, at: u64, into: &mut [u8]) -> Result<usize, Failed>
         requires { at + length into.old < 2 ^ 63 }
         ensures { ReadsSome (state self.old) (state self.new) at into.old into.new result };
+
+    /// Reads bytes that nobody asked for, as `read_at` does. It answers `None`, and counts no fault, where some of
+    /// those that fit can't be told.
+    fn read_ahead(&mut self, at: u64, into: &mut [u8]) -> Result<Option<usize>, Failed>
+        requires { at + length into.old < 2 ^ 63 }
+        ensures { ReadsAhead (state self.old) (state self.new) at into.old into.new result };
 
     /// Writes some of the bytes to a place, at least one, and answers how many.
     fn write_at(&mut self, at: u64, from: &[u8]) -> Result<usize, Failed>

@@ -20,9 +20,9 @@ pub struct Run {
     /// How many cells there are.
     pub count: u64,
     bytes: Vec<u8>,
-    ghost size: { length bytes.items ≡ 67584 },
+    ghost size: { length bytes.items ≡ 69696 },
     ghost inside: { first < 1048576 },
-    ghost within: { first % 64 + count ≤ 64 },
+    ghost within: { first % 66 + count ≤ 66 },
 }
 
 // Puts a cell at a place of some bytes.
@@ -62,7 +62,7 @@ impl Run {
     pub fn cell(&self, block: u64, into: &mut Cell)
         requires low { self.now.first ≤ block }
         requires high { block < self.now.first + self.now.count }
-        ensures { into.new ≡ cell_in self.now.bytes.items (block % 64) }
+        ensures { into.new ≡ cell_in self.now.bytes.items (block % 66) }
     {
         copy_cell(self.bytes.as_slice(), place_of(block), into);
     }
@@ -94,9 +94,9 @@ impl Run {
         requires place { HasPlace self.old block }
         ensures first { self.new.first ≡ min self.old.first block }
         ensures end { self.new.first + self.new.count ≡ max (self.old.first + self.old.count) (block + 1) }
-        ensures here { cell_in self.new.bytes.items (block % 64) ≡ cell.now }
+        ensures here { cell_in self.new.bytes.items (block % 66) ≡ cell.now }
         ensures others { (k : ℕ)
-            → k ≢ block % 64 → cell_in self.new.bytes.items k ≡ cell_in self.old.bytes.items k }
+            → k ≢ block % 66 → cell_in self.new.bytes.items k ≡ cell_in self.old.bytes.items k }
     {
         cell.note_sizes();
         put_parts(&mut self.bytes, place_of(block), cell);

@@ -1,4 +1,4 @@
-//! Windows of 64 cells of a file, kept in memory, so that a scan makes a call in 64 cells.
+//! Windows of 66 cells of a file, kept in memory, so that a scan makes a call in 66 cells.
 //!
 //! Promise: each window that has a number shows the bytes of the file, also after a write.
 //!
@@ -14,7 +14,7 @@ ghost use Rattle.nofs_disk.specs.Number.{put_bytes};
 ghost use Rattle.nofs_disk.specs.CellsOfBytes.{cell_in};
 ghost use Rattle.nofs_filedisk.specs.Bytes.{HostFileState, IsPart, IsPut, KeepsBytes};
 
-use crate::moving::read_part;
+use crate::moving::{read_behind, read_part};
 use crate::positioned::Positioned;
 use nofs_disk::{Cell, Failed, write_bytes_at};
 use std::alloc::{AllocError, Global};
@@ -23,10 +23,10 @@ use std::alloc::{AllocError, Global};
 pub const CELL_BYTES: usize = 1_056;
 
 /// How many cells a window shows.
-pub const WINDOW_CELLS: u64 = 64;
+pub const WINDOW_CELLS: u64 = 66;
 
 /// How many bytes a window shows.
-pub const WINDOW_BYTES: usize = 67_584;
+pub const WINDOW_BYTES: usize = 69_696;
 
 /// How many windows are kept.
 const WINDOWS: usize = 8;
@@ -40,15 +40,15 @@ const FEW: u64 = 8;
 /// How many of the cells that were read alone are remembered.
 const REMEMBERED: usize = 16;
 
-/// The bytes of 64 cells of a file.
+/// The bytes of 66 cells of a file.
 #[derive(Drop)]
 pub struct Window {
-    // Which 64 cells it shows, from 0; none where it shows nothing.
+    // Which 66 cells it shows, from 0; none where it shows nothing.
     number: Option<u64>,
     // How many cells were read from it.
     reads: u64,
     bytes: Vec<u8>,
-    ghost size: { length bytes.items ≡ 67584 },
+    ghost size: { length bytes.items ≡ 69696 },
 }
 
 /// The windows of a file. The next that is read takes the place of the one that was read first.
@@ -103,8 +103,8 @@ impl Lone {
 
 /// A block's place in its window.
 pub fn place_of(block: u64) -> usize
-    ensures value { result ≡ 1056 * (block % 64) }
-    ensures fits { result + 1056 ≤ 67584 }
+    ensures value { result ≡ 1056 * (block % 66) }
+    ensures fits { result + 1056 ≤ 69696 }
 {
     CELL_BYTES * (block % WINDOW_CELLS) as usize
 }
@@ -116,18 +116,25 @@ pub fn zeros(alloc: Global, count: usize) -> Result<Vec<u8>, AllocError>
     vec![in alloc; 0u8; count]
 }
 
-// Reads a window of the file.
-fn read_window<B: Positioned>(file: &mut B, number: u64, into: &mut Vec<u8>) -> Result<(), Failed>
-    requires number { number < 16384 }
-    requires size { length into.old.items ≡ 67584 }
+// Reads a window of the file, where all of it can be told.
+fn read_window<B: Positioned>(file: &mut B, number: u64, into: &mut Vec<u8>) -> Result<bool, Failed>
+    requires number { number < 15888 }
+    requires size { length into.old.items ≡ 69696 }
     ensures keeps { KeepsBytes (B.state file.old) (B.state file.new) }
-    ensures size { length into.new.items ≡ 67584 }
-    ensures part { OnOk result
-        (IsTrue (B.state file.old).tells → IsPart (B.state file.old).bytes (67584 * number) into.new.items) }
+    ensures size { length into.new.items ≡ 69696 }
+    ensures part { IfOk result (λ all. IsTrue all
+        → IsTrue (B.state file.old).tells → IsPart (B.state file.old).bytes (69696 * number) into.new.items) }
     ensures cause { OnErr result (Rose (B.state file.old).faults (B.state file.new).faults) }
     ensures no_fault { OnOk result ((B.state file.new).faults ≡ (B.state file.old).faults) }
 {
-    read_part(file, WINDOW_BYTES as u64 * number, into.as_mut_slice())
+    let at = WINDOW_BYTES as u64 * number;
+    match file.read_ahead(at, into.as_mut_slice())? {
+        Some(count) => {
+            read_behind(file, at, into.as_mut_slice(), count)?;
+            Ok(true)
+        }
+        None => Ok(false),
+    }
 }
 
 // Reads the cell of a block, and nothing beside it.
@@ -175,20 +182,22 @@ impl Window {
         })
     }
 
-    // Shows other cells. Where the file fails, it shows nothing.
-    fn load<B: Positioned>(&mut self, file: &mut B, number: u64) -> Result<(), Failed>
-        requires { number < 16384 }
+    // Shows other cells. Where the file fails, or not all of them can be told, it shows nothing.
+    fn load<B: Positioned>(&mut self, file: &mut B, number: u64) -> Result<bool, Failed>
+        requires { number < 15888 }
         ensures keeps { KeepsBytes (B.state file.old) (B.state file.new) }
-        ensures number { OnOk result (self.new.number ≡ Some number) }
+        ensures number { IfOk result (λ all. IsTrue all → self.new.number ≡ Some number) }
         ensures shown { IsTrue (B.state file.old).tells → IsShown (B.state file.old).bytes self.new }
         ensures cause { OnErr result (Rose (B.state file.old).faults (B.state file.new).faults) }
         ensures no_fault { OnOk result ((B.state file.new).faults ≡ (B.state file.old).faults) }
     {
         self.number = None;
         self.reads = 0;
-        read_window(file, number, &mut self.bytes)?;
-        self.number = Some(number);
-        Ok(())
+        let all = read_window(file, number, &mut self.bytes)?;
+        if all {
+            self.number = Some(number);
+        }
+        Ok(all)
     }
 
     // Whether it has this number.
@@ -204,15 +213,15 @@ impl Window {
 
     // Whether it shows a block.
     fn has(&self, block: u64) -> bool
-        ensures yes { IsTrue result → self.now.number ≡ Some (block / 64) }
-        ensures no { IsFalse result → self.now.number ≢ Some (block / 64) }
+        ensures yes { IsTrue result → self.now.number ≡ Some (block / 66) }
+        ensures no { IsFalse result → self.now.number ≢ Some (block / 66) }
     {
         self.has_number(block / WINDOW_CELLS)
     }
 
     // The cell of a block that it shows.
     fn cell(&self, block: u64, into: &mut Cell)
-        requires { self.now.number ≡ Some (block / 64) }
+        requires { self.now.number ≡ Some (block / 66) }
         ensures { (bytes : List ℕ) → IsShown bytes self.now → into.new ≡ cell_in bytes block }
     {
         copy_cell(self.bytes.as_slice(), place_of(block), into);
@@ -242,7 +251,7 @@ impl Window {
 
     // Bytes of the file were written, those of a block first.
     fn put(&mut self, block: u64, part: &[u8])
-        requires { 1056 * (block % 64) + length part.now ≤ 67584 }
+        requires { 1056 * (block % 66) + length part.now ≤ 69696 }
         ensures { (old new : List ℕ) → IsPut (1056 * block) part.now old new → IsShown old self.old
             → IsShown new self.new }
     {
@@ -303,7 +312,7 @@ impl Windows {
     // The place of the window with a number. Where there is none, it is read, or it is not, where no other of its cells
     // is likely to be asked for.
     fn showing<B: Positioned>(&mut self, file: &mut B, number: u64) -> Result<Option<usize>, Failed>
-        requires number { number < 16384 }
+        requires number { number < 15888 }
         requires shows { ShowsFile (B.state file.old) self.old }
         ensures keeps { KeepsBytes (B.state file.old) (B.state file.new) }
         ensures shows { ShowsFile (B.state file.new) self.new }
@@ -317,8 +326,7 @@ impl Windows {
                 if !self.is_likely(number) {
                     return Ok(None);
                 }
-                let at = self.load(file, number)?;
-                Ok(Some(at))
+                self.load(file, number)
             }
         }
     }
@@ -339,13 +347,13 @@ impl Windows {
             .position(|window| window.has_number(number))
     }
 
-    // Reads the window with a number in place of another.
-    fn load<B: Positioned>(&mut self, file: &mut B, number: u64) -> Result<usize, Failed>
-        requires number { number < 16384 }
+    // Reads the window with a number in place of another. Where not all of it can be told there is none.
+    fn load<B: Positioned>(&mut self, file: &mut B, number: u64) -> Result<Option<usize>, Failed>
+        requires number { number < 15888 }
         requires shows { ShowsFile (B.state file.old) self.old }
         ensures keeps { KeepsBytes (B.state file.old) (B.state file.new) }
         ensures shows { ShowsFile (B.state file.new) self.new }
-        ensures at { IfOk result (λ at. HasNumber self.new.windows.items at number) }
+        ensures at { IfOk result (λ found. IfSome found (λ at. HasNumber self.new.windows.items at number)) }
         ensures cause { OnErr result (Rose (B.state file.old).faults (B.state file.new).faults) }
         ensures no_fault { OnOk result ((B.state file.new).faults ≡ (B.state file.old).faults) }
     {
@@ -354,13 +362,16 @@ impl Windows {
         if self.windows[at].number.is_some() {
             self.lone.weigh(self.windows[at].reads);
         }
-        self.windows[at].load(file, number)?;
-        Ok(at)
+        if self.windows[at].load(file, number)? {
+            Ok(Some(at))
+        } else {
+            Ok(None)
+        }
     }
 
     /// Bytes of the file were written, those of a block first, and all within a window.
     pub fn put(&mut self, block: u64, part: &[u8])
-        requires { 1056 * (block % 64) + length part.now ≤ 67584 }
+        requires { 1056 * (block % 66) + length part.now ≤ 69696 }
         ensures { (old new : List ℕ) → IsPut (1056 * block) part.now old new
             → All (IsShown old) self.old.windows.items → All (IsShown new) self.new.windows.items }
     {

@@ -83,7 +83,7 @@ cell-beside bytes new j at k cell is fits payload tag put other =
 -- reads of a block that the run has, and of another
 pub read-inside : (bytes : List ℕ) (run : Run) (now : List Cell) (block : ℕ) (into : Cell)
     → run.first ≤ block → block < run.first + run.count
-    → into ≡ cell_in run.bytes.items (block % 64) → IsPresent bytes run now → into ≡ cell_at now block
+    → into ≡ cell_in run.bytes.items (block % 66) → IsPresent bytes run now → into ≡ cell_at now block
 read-inside bytes run now block into low high is p = is ∙ sym (p.inside block low high)
 
 pub read-outside : (bytes : List ℕ) (run : Run) (now : List Cell) (block : ℕ) (into : Cell) → block < 1048576
@@ -117,24 +117,24 @@ present-none bytes next now none all = record {
 }
 
 -- the place of a cell of a run, and the bytes of all
-place-in : (first count block : ℕ) → first % 64 + count ≤ 64 → first ≤ block → block < first + count
-    → block % 64 ≡ first % 64 + (block - first)
+place-in : (first count block : ℕ) → first % 66 + count ≤ 66 → first ≤ block → block < first + count
+    → block % 66 ≡ first % 66 + (block - first)
 place-in first count block within low high = omega arith
 
 pub length-run_bytes : (run : Run) → length (run_bytes run) ≡ 1056 * run.count
 length-run_bytes run =
     let size = run.size in
     let within = run.within in
-    let at : ℕ = 1056 * (run.first % 64) in
+    let at : ℕ = 1056 * (run.first % 66) in
     let cut : at + 1056 * run.count - at ≡ 1056 * run.count = omega arith in
     let rest = length-drop at run.bytes.items in
     ap (λ n. length (take n (drop at run.bytes.items))) cut
     ∙ length-take-le (1056 * run.count) (drop at run.bytes.items) (omega arith)
 
 at-run_bytes : (run : Run) (k : ℕ) → k < 1056 * run.count
-    → slice_index (run_bytes run) k ≡ slice_index run.bytes.items (1056 * (run.first % 64) + k)
+    → slice_index (run_bytes run) k ≡ slice_index run.bytes.items (1056 * (run.first % 66) + k)
 at-run_bytes run k low =
-    let at : ℕ = 1056 * (run.first % 64) in
+    let at : ℕ = 1056 * (run.first % 66) in
     let cut : at + 1056 * run.count - at ≡ 1056 * run.count = omega arith in
     ap (λ n. slice_index (take n (drop at run.bytes.items)) k) cut
     ∙ get_or-take (1056 * run.count) (drop at run.bytes.items) k 0 low
@@ -151,11 +151,11 @@ present-out a b part run now is put p block there =
           ∙ cell-same a b block block (λ x small. sym (put.before (1056 * block + x) (omega arith)))
       | inr low ↦ elim (cases_lt block (run.first + run.count)) [
         | inl high ↦ p.inside block low high
-            ∙ cell-same run.bytes.items b (block % 64) block (λ x small.
+            ∙ cell-same run.bytes.items b (block % 66) block (λ x small.
             let k : ℕ = 1056 * (block - run.first) + x in
             let in_run = place-in run.first run.count block run.within low high in
             let place : 1056 * run.first + k ≡ 1056 * block + x = omega arith in
-            let within : 1056 * (block % 64) + x ≡ 1056 * (run.first % 64) + k = omega arith in
+            let within : 1056 * (block % 66) + x ≡ 1056 * (run.first % 66) + k = omega arith in
             ap (slice_index run.bytes.items) within ∙ sym (at-run_bytes run k (omega arith))
             ∙ ap (λ l. slice_index l k) (sym is) ∙ sym (put.inside k (omega arith)) ∙ ap (slice_index b) place)
         | inr behind ↦ p.behind block there behind
@@ -193,8 +193,8 @@ grown-inside first count first' count' block b begin end low high from to other 
           (omega arith, omega arith)
     ]
 
-other-place : (first count block b : ℕ) → first % 64 + count ≤ 64 → first ≤ block → block < first + count
-    → first ≤ b → b < first + count → b ≢ block → b % 64 ≢ block % 64
+other-place : (first count block b : ℕ) → first % 66 + count ≤ 66 → first ≤ block → block < first + count
+    → first ≤ b → b < first + count → b ≢ block → b % 66 ≢ block % 66
 other-place first count block b within low high from to other same =
     let one = place-in first count block within low high in
     let two = place-in first count b within from to in
@@ -203,8 +203,8 @@ other-place first count block b within low high from to other same =
 pub present-put : (bytes : List ℕ) (run next : Run) (now : List Cell) (block : ℕ) (cell : Cell) → HasPlace run block
     → block < 1048576
     → next.first ≡ min run.first block → next.first + next.count ≡ max (run.first + run.count) (block + 1)
-    → cell_in next.bytes.items (block % 64) ≡ cell
-    → ((k : ℕ) → k ≢ block % 64 → cell_in next.bytes.items k ≡ cell_in run.bytes.items k)
+    → cell_in next.bytes.items (block % 66) ≡ cell
+    → ((k : ℕ) → k ≢ block % 66 → cell_in next.bytes.items k ≡ cell_in run.bytes.items k)
     → length now ≡ 1048576 → IsPresent bytes run now
     → IsPresent bytes next (set now block cell)
 present-put bytes run next now block cell has there first end here others size p =
@@ -214,12 +214,12 @@ present-put bytes run next now block cell has there first end here others size p
       inside = λ b from to. elim (cases_eq b block) [
         | inl same ↦
             ap (cell_at (set now block cell)) same ∙ get_or-set_same now block cell no_cell (omega arith) ∙ sym here
-            ∙ ap (λ k. cell_in next.bytes.items (k % 64)) (sym same)
+            ∙ ap (λ k. cell_in next.bytes.items (k % 66)) (sym same)
         | inr other ↦
             let old = grown-inside run.first run.count next.first next.count block b first end low high from to other in
             let place = other-place next.first next.count block b next.within (omega arith)
             (omega arith) from to other in
-            get_or-set_other now block b cell no_cell other ∙ p.inside b old.0 old.1 ∙ sym (others (b % 64) place)
+            get_or-set_other now block b cell no_cell other ∙ p.inside b old.0 old.1 ∙ sym (others (b % 66) place)
       ];
       before = λ b there_b under.
           let apart : b ≢ block = λ e. omega arith in

@@ -10,6 +10,6 @@ returns c =
     let fits = c.place_of.ensures.fits in
     let same = c.as_slice.ensures.value in
     let at : ℕ = c.place_of.result in
-    cell-taken run.bytes.items (c.args.block % 64) at c.copy_cell.new.into c.place_of.ensures.value (omega arith)
+    cell-taken run.bytes.items (c.args.block % 66) at c.copy_cell.new.into c.place_of.ensures.value (omega arith)
     (c.copy_cell.ensures.payload ∙ ap (λ (b : List ℕ). slice_range b at (at + 1024)) same)
     (c.copy_cell.ensures.tag ∙ ap (λ (b : List ℕ). slice_range b (at + 1024) (at + 1056)) same)

@@ -11,7 +11,7 @@ returns c bytes shown =
     let same = c.as_slice.ensures.value in
     cell-shown bytes window.bytes.items c.args.block c.place_of.result c.copy_cell.new.into
     c.place_of.ensures.value (omega arith)
-    (shown (c.args.block / 64) c.requires)
+    (shown (c.args.block / 66) c.requires)
     (c.copy_cell.ensures.payload ∙ ap (λ (b : List ℕ). slice_range b c.place_of.result (c.place_of.result + 1024)) same)
     (c.copy_cell.ensures.tag
     ∙ ap (λ (b : List ℕ). slice_range b (c.place_of.result + 1024) (c.place_of.result + 1056)) same)
