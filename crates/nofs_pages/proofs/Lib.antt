@@ -1,0 +1,13 @@
+mod OnSums
+mod OnPages
+mod OnRows
+mod OnViews
+mod OnSingles
+mod OnComposing
+mod OnCalls
+mod OnPlaces
+mod OnTwins
+mod OnPairs
+mod OnTwinStores
+mod OnCrashes
+mod OnTwinCrashes
