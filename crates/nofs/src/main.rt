@@ -8,7 +8,8 @@
 mod cached;
 mod image;
 
-ghost use Rattle.std.specs.Prelude.{◌≡◌, OnErr};
+ghost use Rattle.std.specs.Prelude.{◌≡◌, IfOk, OnErr};
+ghost use Rattle.nofs_filedisk.specs.Bytes.{IsSynced};
 ghost use Rattle.nofs_tool.specs.Begin.Lines.{fixed_line};
 ghost use Rattle.nofs_tool.specs.Runs.Says.{Prints};
 
@@ -16,10 +17,12 @@ use crate::cached::{tool_cached, tool_mirrored};
 use crate::image::{ImageChoice, image_of};
 use nofs_cache::Cached;
 use nofs_disk::Disk;
-use nofs_filedisk::{FileDisk, HostFile};
+use nofs_filedisk::{FileDisk, HostFile, Positioned};
 use nofs_io::{ReadSource, Sink, Source, WriteSink, write_all};
 use nofs_memdisk::MemDisk;
 use nofs_mirror::{Mirror, MirrorCause, MirrorFault};
+use nofs_pages::{ImageFile, Layout, Paged, Single, Twin, layout_of, single_pages, twin_pages};
+use nofs_super::read_super;
 use nofs_tool::{FixedLine, Outcome, fixed_text, task_of};
 use std::alloc::Global;
 use std::fs::File;
@@ -120,6 +123,81 @@ fn no_device<K: Sink>(sink: &mut K) -> u8
     }
 }
 
+// Whether a command makes its image anew, whatever was in it.
+fn makes_anew(words: &[String]) -> bool {
+    match words {
+        [first, ..] => {
+            first.as_bytes() == b"new".as_slice() || first.as_bytes() == b"drill".as_slice()
+        }
+        [] => false,
+    }
+}
+
+// The file of an image of this system, in one layout or another.
+type HostImage = ImageFile<HostFile, Paged<Single<HostFile>>, Paged<Twin<HostFile>>>;
+
+// Why a file isn't opened as an image.
+enum ImageFault {
+    Failed,
+    OutOfMemory,
+}
+
+// The layout of a file: that which is asked for where it is made anew, else that which its first bytes show.
+fn layout_in(file: &mut HostFile, asked: Layout, anew: bool) -> Result<Layout, ImageFault> {
+    if anew {
+        return Ok(asked);
+    }
+    match layout_of(file) {
+        Ok(layout) => Ok(layout),
+        Err(_) => Err(ImageFault::Failed),
+    }
+}
+
+// The file of an image, made anew in the layout that is asked for, or as it is found.
+fn image_file(
+    alloc: Global,
+    file: HostFile,
+    asked: Layout,
+    anew: bool,
+) -> Result<HostImage, ImageFault>
+    ensures { IfOk result (λ image. IsSynced (⟦<HostImage as Positioned>⟧.state image)) }
+{
+    let mut file = file;
+    match layout_in(&mut file, asked, anew)? {
+        Layout::Packed => Ok(ImageFile::Packed(file)),
+        Layout::Paged => match single_pages(alloc, file, anew) {
+            Ok(pages) => Ok(ImageFile::Paged(pages)),
+            Err(_) => Err(ImageFault::OutOfMemory),
+        },
+        Layout::Twin => match twin_pages(alloc, file, anew) {
+            Ok(pages) => Ok(ImageFile::Twin(pages)),
+            Err(_) => Err(ImageFault::OutOfMemory),
+        },
+    }
+}
+
+// The disk in the file of an image.
+fn image_disk(
+    alloc: Global,
+    file: HostFile,
+    asked: Layout,
+    anew: bool,
+) -> Result<FileDisk<HostImage>, ImageFault> {
+    let image = image_file(alloc, file, asked, anew)?;
+    match FileDisk::over(alloc, image) {
+        Ok(disk) => Ok(disk),
+        Err(_) => Err(ImageFault::OutOfMemory),
+    }
+}
+
+// The line and the status of a file that isn't opened as an image.
+fn no_image<K: Sink>(sink: &mut K, why: ImageFault) -> u8 {
+    match why {
+        ImageFault::OutOfMemory => NO_MEMORY,
+        ImageFault::Failed => no_device(sink),
+    }
+}
+
 // A run on a disk in a file, where it could be opened.
 fn run_in_file<R: Threads + Wait + Sync, S: Source, K: Sink>(
     rt: &R,
@@ -128,6 +206,7 @@ fn run_in_file<R: Threads + Wait + Sync, S: Source, K: Sink>(
     source: &mut S,
     sink: &mut K,
     file: io::Result<HostFile>,
+    layout: Layout,
 ) -> u8
     ensures status { OnErr file (result ≡ 3) }
     ensures says { OnErr file (Prints (K.state sink.old) (K.state sink.new) (fixed_line FixedLine.DeviceFault)) }
@@ -135,9 +214,9 @@ fn run_in_file<R: Threads + Wait + Sync, S: Source, K: Sink>(
     let Ok(file) = file else {
         return no_device(sink);
     };
-    match FileDisk::over(alloc, file) {
+    match image_disk(alloc, file, layout, makes_anew(words)) {
         Ok(disk) => run_cached(rt, alloc, disk, words, source, sink),
-        Err(_) => NO_MEMORY,
+        Err(why) => no_image(sink, why),
     }
 }
 
@@ -157,20 +236,37 @@ fn run_in_mirror<R: Threads + Wait + Sync, S: Source, K: Sink>(
     source: &mut S,
     sink: &mut K,
     blocks: u64,
+    layout: Layout,
     files: (io::Result<HostFile>, io::Result<HostFile>),
 ) -> u8 {
     let (Ok(lead), Ok(other)) = files else {
         return no_device(sink);
     };
-    let Ok(lead) = FileDisk::over(alloc, lead) else {
-        return NO_MEMORY;
+    let anew = makes_anew(words);
+    let mut lead = match image_disk(alloc, lead, layout, anew) {
+        Ok(disk) => disk,
+        Err(why) => return no_image(sink, why),
     };
-    let Ok(other) = FileDisk::over(alloc, other) else {
-        return NO_MEMORY;
+    // A lead that can't be mounted is not copied: it is refused, by its own line, before the other is written.
+    if !anew && read_super(&mut lead).is_err() {
+        return run_cached(rt, alloc, lead, words, source, sink);
+    }
+    let other = match image_disk(alloc, other, layout, anew) {
+        Ok(disk) => disk,
+        Err(why) => return no_image(sink, why),
     };
     match Mirror::open(lead, other, blocks) {
         Ok(mirror) => run_mirrored(rt, alloc, words, source, sink, mirror),
         Err(MirrorFault { cause, .. }) => unopened(sink, cause),
+    }
+}
+
+// The file of an image. It is made where there is none, but only by a command that makes its image anew.
+fn open_file(rt: &HostRuntime, path: &str, words: &[String]) -> io::Result<HostFile> {
+    if makes_anew(words) {
+        HostFile::open(rt, path)
+    } else {
+        HostFile::open_existing(rt, path)
     }
 }
 
@@ -201,17 +297,27 @@ fn main(rt: HostRuntime) -> ExitCode {
     let alloc = rt.alloc();
     let status = match image {
         ImageChoice::Memory => run_in_memory(&rt, alloc, rest, &mut source, &mut sink),
-        ImageChoice::File(path) => {
-            let file = HostFile::open(&rt, path);
-            run_in_file(&rt, alloc, rest, &mut source, &mut sink, file)
+        ImageChoice::File { layout, path } => {
+            let file = open_file(&rt, path, rest);
+            run_in_file(&rt, alloc, rest, &mut source, &mut sink, file, layout)
         }
         ImageChoice::Mirror {
+            layout,
             blocks,
             lead,
             other,
         } => {
-            let files = (HostFile::open(&rt, lead), HostFile::open(&rt, other));
-            run_in_mirror(&rt, alloc, rest, &mut source, &mut sink, blocks, files)
+            let files = (open_file(&rt, lead, rest), open_file(&rt, other, rest));
+            run_in_mirror(
+                &rt,
+                alloc,
+                rest,
+                &mut source,
+                &mut sink,
+                blocks,
+                layout,
+                files,
+            )
         }
     };
     ExitCode::from(status)
