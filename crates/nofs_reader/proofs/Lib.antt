@@ -1,6 +1,8 @@
 mod OnDisk
+mod OnLayouts
 mod OnReads
 mod OnCounts
+mod OnMarks
 mod OnDirectories
 mod OnEntries
 mod OnGets

@@ -11,9 +11,11 @@ use Rattle.nofs_model.specs.Files.{agreed, files_in}
 use Rattle.nofs_agree.specs.Chain.{is_agreed_link}
 use Rattle.nofs_agree.specs.Reads.{KnowsDirectory, KnowsInode}
 use Rattle.nofs_reader.specs.Image.{disk_of, image_of}
+use Rattle.nofs_reader.specs.Layouts.{IsBadPage}
 use Rattle.nofs_reader.specs.declared.opened.Opened.{Opened}
 use Rattle.nofs_reader.specs.declared.opened.Unread.{Unread}
-use Rattle.nofs_reader.specs.declared.opened.Unread.TheVariants.{NoImage, NoInode, NotDirectory, IsDirectory}
+use Rattle.nofs_reader.specs.declared.opened.Unread.TheVariants.{BadPage as OfBadPage, NoImage, NoInode, NotDirectory}
+use Rattle.nofs_reader.specs.declared.opened.Unread.TheVariants.{IsDirectory, NoRoom, TooLarge}
 use Rattle.nofs_reader.specs.declared.opened.Wanted.{Wanted}
 use Rattle.nofs_reader.specs.declared.opened.Wanted.TheVariants as wanted
 use Rattle.nofs_reader.specs.declared.stats.InodeStat.{InodeStat}
@@ -22,10 +24,24 @@ use Rattle.nofs_reader.specs.declared.stats.InodeStat.{InodeStat}
 abbrev pub superblock_of : Image → Result SuperBlock MountFault
 superblock_of X = check_super 1048576 (cell_at X 0).payload
 
--- why there is no answer, where there is none
-abbrev pub unread : {A : Type 0} → Result A Unread → Option Unread
-unread (Ok answer) = None
-unread (Err why) = Some why
+-- a call may be refused so where the definitions refuse it so, and with a page where that can't be told
+abbrev pub IsRefused : List ℕ → Option Unread → Unread → Type 0
+IsRefused bytes why (OfBadPage bad) = IsBadPage bytes bad
+IsRefused bytes why (NoImage fault) = why ≡ Some (NoImage fault)
+IsRefused bytes why NoInode = why ≡ Some NoInode
+IsRefused bytes why NotDirectory = why ≡ Some NotDirectory
+IsRefused bytes why IsDirectory = why ≡ Some IsDirectory
+IsRefused bytes why TooLarge = why ≡ Some TooLarge
+IsRefused bytes why NoRoom = why ≡ Some NoRoom
+
+-- a call answers where the definitions do, and else is refused as they refuse it, or with a page that can't be told
+abbrev pub IsAnswered : {A : Type 0} → List ℕ → Option Unread → Result A Unread → Type 0
+IsAnswered bytes why (Ok answer) = why ≡ None
+IsAnswered bytes why (Err refused) = IsRefused bytes why refused
+
+-- so for any bytes
+abbrev pub IsUnwanted : {A : Type 0} → Option Unread → Result A Unread → Type 0
+IsUnwanted why result = (bytes : List ℕ) → IsAnswered bytes why result
 
 -- what is asked of no image
 abbrev pub image_unread : Result SuperBlock MountFault → Option Unread → Option Unread

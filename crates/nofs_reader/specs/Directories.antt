@@ -1,5 +1,6 @@
 -- What a list of a directory and the search of a name answer.
-use Rattle.std.specs.Prelude.{◌≡◌, ℕ, ◌<◌, ◌≤◌, Bool, true, false, ◌&&◌, List, Option, Some, None, bytes_eq}
+use Rattle.std.specs.Prelude.{◌≡◌, ℕ, ◌<◌, ◌≤◌, Bool, true, false, ◌&&◌, List, Option, Some, None, IfSome, bytes_eq}
+use Rattle.std.specs.Prelude.{is_some}
 use Rattle.nofs_dirent.specs.Entries.{entry_limit}
 use Rattle.nofs_dirent.specs.declared.entry.Entry.{Entry}
 use Rattle.nofs_model.specs.Files.{entry_at, files_in}
@@ -8,6 +9,7 @@ use Rattle.nofs_model.specs.Slots.{value}
 use Rattle.nofs_model.specs.declared.image.value.Value.{Value}
 use Rattle.nofs_model.specs.declared.image.value.Value.TheVariants as value
 use Rattle.nofs_reader.specs.Entries.{IsEmptyPlace, IsLine, IsLostPlace, is_alive}
+use Rattle.nofs_reader.specs.declared.lists.Line.{Line}
 use Rattle.nofs_reader.specs.declared.lists.NextLine.{NextLine}
 use Rattle.nofs_reader.specs.declared.lists.NextLine.TheVariants as next
 use Rattle.nofs_reader.specs.declared.looks.Looked.{Looked}
@@ -66,6 +68,22 @@ pub record IsLeast (test : ℕ → Bool) (bound n : ℕ) : Type 0 where
   pub range : n < bound
   pub passes : test n ≡ true
   pub least : NonePasses test n
+
+-- it is the least number that passes, or none passes
+abbrev pub FindsLeast : (ℕ → Bool) → ℕ → Option ℕ → Type 0
+FindsLeast test bound (Some n) = IsLeast test bound n
+FindsLeast test bound None = NonePasses test bound
+
+-- so of the entries that a name finds
+abbrev pub FindsLine : Image → ℕ → List ℕ → Option Line → Type 0
+FindsLine X d name (Some line) = IsLeast (is_found_at X d name) entry_limit line.place × IsLine X d line
+FindsLine X d name None = NonePasses (is_found_at X d name) entry_limit
+
+-- the entry at one place, where the name finds it
+pub record IsFoundAt (X : Image) (d : ℕ) (name : List ℕ) (e : ℕ) (it : Option Line) : Type 0 where
+  pub found : is_some it ≡ is_found_at X d name e
+  pub line : IfSome it (IsLine X d)
+  pub place : IfSome it (λ line. line.place ≡ e)
 
 -- what a name finds: the least entry that has it and is no dead one; else the least dead one that has it; else the
 -- least lost slot; else nothing

@@ -1,6 +1,6 @@
 -- What a read of slots answers.
 use Rattle.std.specs.Prelude.{◌≡◌, ℕ, ◌+◌, ◌*◌, ◌<◌, ◌≤◌, List, length, Option, Some, if◌then◌else◌, nat_lt, nat_le}
-use Rattle.std.specs.Prelude.{slice_range}
+use Rattle.std.specs.Prelude.{Bool, true, false, drop, slice_range}
 use Rattle.nofs_ptrs.specs.Paths.{slot_limit}
 use Rattle.nofs_model.specs.Geometry.{Image}
 use Rattle.nofs_model.specs.Slots.{value}
@@ -20,6 +20,11 @@ value_as run.Bytes part = value.Bytes part
 value_as run.Holes part = value.Hole
 value_as run.Lost part = value.Lost
 
+abbrev pub is_bytes : RunKind → Bool
+is_bytes run.Bytes = true
+is_bytes run.Holes = false
+is_bytes run.Lost = false
+
 -- why a slot of a file is not read into so much room
 abbrev pub get_unread : Image → ℕ → ℕ → ℕ → Option Unread
 get_unread X i k room =
@@ -34,3 +39,8 @@ pub record IsRun (X : Image) (i from : ℕ) (into : List ℕ) (it : Run) : Type 
   pub fits : 1024 * it.slots ≤ length into
   pub each : (k : ℕ) → k < it.slots
       → value X i (from + k) ≡ value_as it.kind (slice_range into (1024 * k) (1024 * k + 1024))
+
+-- only the bytes of its slots are put there: what stands behind them stays, and for a run without bytes all does
+pub record RestKept (old new : List ℕ) (it : Run) : Type 0 where
+  pub behind : drop (1024 * it.slots) new ≡ drop (1024 * it.slots) old
+  pub bare : is_bytes it.kind ≡ false → new ≡ old

@@ -1,7 +1,10 @@
+pub mod Layouts
+pub mod Bytes
 pub mod Image
 pub mod Answers
 pub mod Gets
 pub mod Entries
 pub mod Directories
-pub mod Laws
+pub mod Marks
 pub mod Counts
+pub mod Laws

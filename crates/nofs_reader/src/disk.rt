@@ -1,14 +1,18 @@
 //! The bytes of an image as a disk.
 //!
-//! Promise: block `b` is the 1,056 bytes from `1056 * b` on, the payload first, with zeros past the end, as of a disk
-//! in a file (docs/FORMAT.md, "Cells"). A read never fails. A write and a flush always do, and each counts
-//! as one fault, so that a call that makes no moment counts none.
-ghost use Rattle.std.specs.Prelude.{◌≡◌, ◌+◌, ◌*◌, ◌^◌, ◌<◌, ℕ, IsTrue, length, slice_index};
-ghost use Rattle.nofs_disk.specs.CellsOfBytes.{cell_in, part_of};
-ghost use Rattle.nofs_disk.specs.Number.{zeros};
-ghost use Rattle.nofs_reader.specs.Image.{image_of};
+//! Promise: block `b` has the cell that the layout of the bytes has for it (docs/FORMAT.md, "Cells" and "Pages"), the
+//! payload first, with zeros past the end, as of a disk in a file. A read fails exactly where the page of its block
+//! can't be told, and counts as one fault. A write and a flush always fail, and each counts as one fault, so that a
+//! call that makes no moment counts none.
+ghost use Rattle.std.specs.Prelude.{◌≡◌, ◌↔◌, ◌+◌, ◌*◌, ◌/◌, ◌^◌, ◌<◌, ◌≤◌, ℕ, IsTrue, IsOk, OnOk, false, slice_index};
+ghost use Rattle.std.specs.Prelude.{true};
+ghost use Rattle.nofs_disk.specs.Disk.{Reads, Rose, StaysButFaults};
+ghost use Rattle.nofs_reader.specs.Image.{disk_of, image_disk, image_of};
+ghost use Rattle.nofs_reader.specs.Layouts.{IsBadPage, is_told};
 
-use nofs_disk::{Cell, Disk, Failed, clear, write_bytes_at};
+use crate::bytes::{clear_cell, read_cell};
+use crate::layout::{BadPage, CellPlace, find_cell};
+use nofs_disk::{Cell, Disk, Failed};
 use std::alloc::AllocError;
 
 /// How many blocks a disk in a file has.
@@ -22,8 +26,16 @@ pub struct ImageDisk<'a> {
     pub(crate) refused: u64,
     /// For how many writes, flushes and write-outs there is room.
     pub(crate) spare: u64,
+    /// How often a call failed.
+    pub(crate) faults: u64,
+    /// The page of which a read failed last.
+    pub(crate) bad: BadPage,
     ghost room: { 2 * spare + 2 * refused < 2 ^ 64 },
+    ghost counted: { faults < 2 ^ 64 },
+    ghost least: { refused ≤ faults },
     ghost small: { (k : ℕ) → slice_index bytes.now k < 256 },
+    // more failed than were refused: a read did
+    ghost noted: { refused < faults → IsBadPage bytes.now bad },
 }
 
 impl<'a> ImageDisk<'a> {
@@ -32,6 +44,7 @@ impl<'a> ImageDisk<'a> {
         ensures bytes { result.bytes.now ≡ bytes.now }
         ensures refused { result.refused ≡ 0 }
         ensures spare { result.spare ≡ 0 }
+        ensures faults { result.faults ≡ 0 }
         ensures now { (⟦<ImageDisk<'a> as Disk>⟧.state result).now ≡ image_of bytes.now }
         ensures tells { IsTrue (⟦<ImageDisk<'a> as Disk>⟧.state result).tells }
     {
@@ -39,16 +52,28 @@ impl<'a> ImageDisk<'a> {
             bytes,
             refused: 0,
             spare: 0,
+            faults: 0,
+            bad: BadPage { number: 0 },
         }
+    }
+
+    /// The page of which a read failed, where it was a disk of these bytes, and one did.
+    pub(crate) fn bad_page(&self, bytes: &[u8]) -> BadPage
+        requires stays { StaysButFaults (disk_of bytes.now) (⟦<ImageDisk<'a> as Disk>⟧.state self.now) }
+        requires rose { Rose 0 (⟦<ImageDisk<'a> as Disk>⟧.state self.now).faults }
+        ensures { IsBadPage bytes.now result }
+    {
+        let _bytes = bytes;
+        self.bad
     }
 }
 
 impl<'a> Disk for ImageDisk<'a> {
     ghost use Rattle.nofs_reader.specs.Image.{image_disk, image_disk-is};
 
-    ghost state = { λ d. image_disk d.bytes.now d.refused d.spare };
+    ghost state = { λ d. image_disk d.bytes.now d.refused d.spare d.faults };
 
-    ghost is_disk = { λ d. image_disk-is d.bytes.now d.refused d.spare d.room d.small };
+    ghost is_disk = { λ d. image_disk-is d.bytes.now d.refused d.spare d.faults d.room d.counted d.small };
 
     fn blocks(&self) -> u64 {
         BLOCKS
@@ -69,60 +94,46 @@ impl<'a> Disk for ImageDisk<'a> {
         Ok(())
     }
 
-    fn read(&mut self, block: u64, into: &mut Cell) -> Result<(), Failed> {
-        read_cell(self.bytes, block, into);
-        Ok(())
+    /// It fails exactly where the page of the block can't be told.
+    fn read(&mut self, block: u64, into: &mut Cell) -> Result<(), Failed>
+        requires { block < 1048576 }
+        ensures reads { Reads (image_disk self.old.bytes.now self.old.refused self.old.spare self.old.faults)
+            (image_disk self.new.bytes.now self.new.refused self.new.spare self.new.faults) block into.new result }
+        ensures told { IsOk result ↔ (is_told self.old.bytes.now (block / 3) ≡ true) }
+    {
+        match find_cell(self.bytes, block) {
+            CellPlace::At(at) => {
+                read_cell(self.bytes, at, into);
+                Ok(())
+            }
+            CellPlace::Blank => {
+                clear_cell(into);
+                Ok(())
+            }
+            CellPlace::Bad(page) => {
+                self.bad = page;
+                self.faults = self.faults.saturating_add(1);
+                Err(Failed)
+            }
+        }
     }
 
     fn write(&mut self, _block: u64, _cell: &Cell) -> Result<(), Failed> {
         self.spare -= 1;
         self.refused += 1;
+        self.faults = self.faults.saturating_add(1);
         Err(Failed)
     }
 
     fn flush(&mut self) -> Result<(), Failed> {
         self.spare -= 1;
         self.refused += 1;
+        self.faults = self.faults.saturating_add(1);
         Err(Failed)
     }
 
     fn write_out(&mut self) -> Result<Option<u64>, Failed> {
         self.spare -= 1;
         Ok(None)
-    }
-}
-
-// Reads the cell of a block.
-#[tactic(auto, unfolding(nofs_disk::specs::CellsOfBytes::cell_in))]
-fn read_cell(bytes: &[u8], block: u64, into: &mut Cell)
-    requires { block < 1048576 }
-    ensures { into.new ≡ cell_in bytes.now block }
-{
-    let at = 1056 * block as usize;
-    read_bytes(bytes, at, &mut into.payload);
-    read_bytes(bytes, at + 1024, &mut into.tag);
-}
-
-// Copies the bytes from a place on, with zeros past the end.
-fn read_bytes(bytes: &[u8], at: usize, into: &mut [u8])
-    requires { at + length into.old < 2 ^ 63 }
-    ensures { into.new ≡ part_of bytes.now at (length into.old) }
-{
-    let end = at + into.len();
-    if end <= bytes.len() {
-        into.copy_from_slice(&bytes[at..end]);
-    } else {
-        read_end(bytes, at, into);
-    }
-}
-
-// Copies what there is from a place on, which is less than is asked for, and zeros behind it.
-fn read_end(bytes: &[u8], at: usize, into: &mut [u8])
-    requires { length bytes.now < at + length into.old }
-    ensures { into.new ≡ part_of bytes.now at (length into.old) }
-{
-    clear(into);
-    if at < bytes.len() {
-        write_bytes_at(into, 0, &bytes[at..]);
     }
 }

@@ -2,15 +2,17 @@
 //!
 //! Promise: it is the entry of the definition, and it has a kind exactly where the inode that it names is agreed and
 //! names it back.
-ghost use Rattle.std.specs.Prelude.{◌≡◌, ◌<◌, ◌≤◌, IfSome, bytes_eq, length, take};
+ghost use Rattle.std.specs.Prelude.{◌≡◌, ◌<◌, ◌≤◌, IfErr, IfOk, IfSome, OnOk, bytes_eq, length, take};
 ghost use Rattle.std.specs.List.{list_any};
 ghost use Rattle.nofs_agree.specs.Reads.{IsLast};
 ghost use Rattle.nofs_dirent.specs.Entries.{entry_limit, entry_of, entry_with, has_entry_spelling};
 ghost use Rattle.nofs_reader.specs.Answers.{IsDirectoryKnown};
 ghost use Rattle.nofs_reader.specs.Entries.{StandsAt, entry_read, is_same_link, kind_named};
 ghost use Rattle.nofs_reader.specs.Image.{disk_of, image_of};
+ghost use Rattle.nofs_reader.specs.Layouts.{IsBadPage};
 
 use crate::chain::{is_agreed, is_pair};
+use crate::layout::BadPage;
 use crate::opened::{Opened, slot};
 use crate::reads::record;
 use nofs_agree::{LastRead, PathAnswer};
@@ -42,19 +44,25 @@ pub(crate) enum Stands {
 }
 
 /// What stands at a place of a directory.
-pub(crate) fn read_place(bytes: &[u8], it: &Opened, place: u32, last: &mut LastRead) -> Stands
+pub(crate) fn read_place(
+    bytes: &[u8],
+    it: &Opened,
+    place: u32,
+    last: &mut LastRead,
+) -> Result<Stands, BadPage>
     requires directory { IsDirectoryKnown bytes.now it.now }
     requires place { place < entry_limit }
     requires last { IsLast (disk_of bytes.now) last.old }
-    ensures stands { StandsAt (image_of bytes.now) it.now.inode place result }
-    ensures last { IsLast (disk_of bytes.now) last.new }
+    ensures stands { IfOk result (StandsAt (image_of bytes.now) it.now.inode place) }
+    ensures last { OnOk result (IsLast (disk_of bytes.now) last.new) }
+    ensures bad { IfErr result (IsBadPage bytes.now) }
 {
-    match slot(bytes, it, place_of(u64::from(place / 16)), last) {
-        PathAnswer::Hole => Stands::Nothing,
-        PathAnswer::Lost => Stands::Lost,
+    match slot(bytes, it, place_of(u64::from(place / 16)), last)? {
+        PathAnswer::Hole => Ok(Stands::Nothing),
+        PathAnswer::Lost => Ok(Stands::Lost),
         PathAnswer::Holds(_) => match spelled(bytes_of(&last.cell.payload, place % 16)) {
-            None => Stands::Nothing,
-            Some(entry) => Stands::Entry(entry),
+            None => Ok(Stands::Nothing),
+            Some(entry) => Ok(Stands::Entry(entry)),
         },
     }
 }
@@ -103,9 +111,15 @@ fn copy_name(name: &[u8], into: &mut [u8; 48])
 
 /// The kind of the inode that an entry of a directory names; `None` where the entry is dead: where the inode is not
 /// agreed, or has no back link to the entry that is a pair.
-pub(crate) fn kind_named(bytes: &[u8], it: &Opened, place: u32, inode: u32) -> Option<FileKind>
+pub(crate) fn kind_named(
+    bytes: &[u8],
+    it: &Opened,
+    place: u32,
+    inode: u32,
+) -> Result<Option<FileKind>, BadPage>
     requires { IsDirectoryKnown bytes.now it.now }
-    ensures { result ≡ kind_named (image_of bytes.now) it.now.inode place inode }
+    ensures kind { IfOk result (λ kind. kind ≡ kind_named (image_of bytes.now) it.now.inode place inode) }
+    ensures bad { IfErr result (IsBadPage bytes.now) }
 {
     let link = BackLink {
         directory: it.inode,
@@ -113,14 +127,14 @@ pub(crate) fn kind_named(bytes: &[u8], it: &Opened, place: u32, inode: u32) -> O
         generation: it.record.generation,
     };
     let mut last = LastRead::NONE;
-    let found = record(bytes, &it.at, inode, &mut last);
+    let found = record(bytes, &it.at, inode, &mut last)?;
     if has_link(&found.links, &link)
-        && is_pair(bytes, &it.at, inode, &found, &link)
-        && is_agreed(bytes, &it.at, inode)
+        && is_pair(bytes, &it.at, inode, &found, &link)?
+        && is_agreed(bytes, &it.at, inode)?
     {
-        found.kind
+        Ok(found.kind)
     } else {
-        None
+        Ok(None)
     }
 }
 

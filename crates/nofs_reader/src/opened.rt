@@ -2,17 +2,20 @@
 //!
 //! Promise: it is agreed, and of the kind that is wanted, or the answer says why it is not. Each slot is that of the
 //! image.
-ghost use Rattle.std.specs.Prelude.{◌≡◌, IfOk, Some};
+ghost use Rattle.std.specs.Prelude.{◌≡◌, IfErr, IfOk, OnOk, Some, true};
 ghost use Rattle.nofs_agree.specs.Path.{IsCellOf};
-ghost use Rattle.nofs_agree.specs.Reads.{IsAt, IsLast};
+ghost use Rattle.nofs_agree.specs.Reads.{IsAt, IsLast, KnowsInode};
+ghost use Rattle.nofs_model.specs.Files.{agreed, files_in};
 ghost use Rattle.nofs_model.specs.Places.{IsPlace, place_path};
 ghost use Rattle.nofs_model.specs.Slots as slots;
-ghost use Rattle.nofs_reader.specs.Answers.{IsKnown, IsOpened, agreed_unread, inode_unread, kind_unread, live_unread};
-ghost use Rattle.nofs_reader.specs.Answers.{unread};
+ghost use Rattle.nofs_reader.specs.Answers.{IsAnswered, IsKnown, IsOpened, IsUnwanted, agreed_unread, inode_unread};
+ghost use Rattle.nofs_reader.specs.Answers.{kind_unread, live_unread};
 ghost use Rattle.nofs_reader.specs.Image.{disk_of, image_of};
+ghost use Rattle.nofs_reader.specs.Layouts.{IsBadPage};
 
 use crate::chain::is_agreed;
 use crate::disk::ImageDisk;
+use crate::layout::BadPage;
 use crate::reads::{record, superblock};
 use nofs_agree::{LastRead, PathAnswer, find_slot};
 use nofs_inode::{FileKind, Record};
@@ -40,8 +43,10 @@ pub enum Unread {
     IsDirectory,
     /// No file has such a slot: it is 4,168 or more.
     TooLarge,
-    /// There is no room for a slot: fewer than 1,024 bytes.
+    /// There is no room for a slot: fewer than 1,024 bytes; or for a mark an inode.
     NoRoom,
+    /// A page that the answer needs can't be told.
+    BadPage(BadPage),
 }
 
 /// An agreed inode of an image.
@@ -57,14 +62,14 @@ pub(crate) struct Opened {
 ///
 /// # Errors
 ///
-/// `NoImage` where the superblock has a fault, `NoInode` where no inode of this number is agreed, and `NotDirectory`
-/// or `IsDirectory` where it is not of the wanted kind.
+/// `NoImage` where the superblock has a fault, `NoInode` where no inode of this number is agreed, `NotDirectory` or
+/// `IsDirectory` where it is not of the wanted kind, and `BadPage` where a page can't be told that shows this.
 pub(crate) fn open(bytes: &[u8], wanted: Wanted, inode: u32) -> Result<Opened, Unread>
-    ensures unread { unread result ≡ inode_unread wanted (image_of bytes.now) inode }
+    ensures unread { IsAnswered bytes.now (inode_unread wanted (image_of bytes.now) inode) result }
     ensures opened { IfOk result (IsOpened bytes.now wanted inode) }
 {
     match superblock(bytes) {
-        Err(fault) => Err(Unread::NoImage(fault)),
+        Err(why) => Err(why),
         Ok(at) => open_at(bytes, at, wanted, inode),
     }
 }
@@ -72,14 +77,53 @@ pub(crate) fn open(bytes: &[u8], wanted: Wanted, inode: u32) -> Result<Opened, U
 // The agreed inode of a number, in an image whose superblock this is.
 fn open_at(bytes: &[u8], at: SuperBlock, wanted: Wanted, inode: u32) -> Result<Opened, Unread>
     requires { IsAt (disk_of bytes.now) at }
-    ensures unread { unread result ≡ agreed_unread wanted (image_of bytes.now) inode }
+    ensures unread { IsAnswered bytes.now (agreed_unread wanted (image_of bytes.now) inode) result }
     ensures opened { IfOk result (IsOpened bytes.now wanted inode) }
 {
     let mut last = LastRead::NONE;
-    let record = record(bytes, &at, inode, &mut last);
-    if !is_agreed(bytes, &at, inode) {
-        return Err(Unread::NoInode);
+    match record(bytes, &at, inode, &mut last) {
+        Ok(it) => open_record(bytes, at, wanted, inode, it),
+        Err(bad) => Err(Unread::BadPage(bad)),
     }
+}
+
+// The same with the record of the inode.
+fn open_record(
+    bytes: &[u8],
+    at: SuperBlock,
+    wanted: Wanted,
+    inode: u32,
+    record: Record,
+) -> Result<Opened, Unread>
+    requires { KnowsInode (disk_of bytes.now) at inode «record» }
+    ensures unread { IsAnswered bytes.now (agreed_unread wanted (image_of bytes.now) inode) result }
+    ensures opened { IfOk result (IsOpened bytes.now wanted inode) }
+{
+    match is_agreed(bytes, &at, inode) {
+        Ok(agreed) => {
+            if agreed {
+                open_agreed(bytes, at, wanted, inode, record)
+            } else {
+                Err(Unread::NoInode)
+            }
+        }
+        Err(bad) => Err(Unread::BadPage(bad)),
+    }
+}
+
+// The same where it is agreed.
+fn open_agreed(
+    bytes: &[u8],
+    at: SuperBlock,
+    wanted: Wanted,
+    inode: u32,
+    record: Record,
+) -> Result<Opened, Unread>
+    requires known { KnowsInode (disk_of bytes.now) at inode «record» }
+    requires agreed { agreed (files_in (image_of bytes.now)) inode ≡ true }
+    ensures unread { IsAnswered bytes.now (agreed_unread wanted (image_of bytes.now) inode) result }
+    ensures opened { IfOk result (IsOpened bytes.now wanted inode) }
+{
     match wanted_kind(wanted, record.kind) {
         Ok(kind) => Ok(Opened {
             at,
@@ -93,7 +137,7 @@ fn open_at(bytes: &[u8], at: SuperBlock, wanted: Wanted, inode: u32) -> Result<O
 
 // The kind of a record that is wanted.
 fn wanted_kind(wanted: Wanted, kind: Option<FileKind>) -> Result<FileKind, Unread>
-    ensures unread { unread result ≡ kind_unread wanted kind }
+    ensures unread { IsUnwanted (kind_unread wanted kind) result }
     ensures kind { IfOk result (λ it. kind ≡ Some it) }
 {
     match kind {
@@ -103,7 +147,7 @@ fn wanted_kind(wanted: Wanted, kind: Option<FileKind>) -> Result<FileKind, Unrea
 }
 
 fn wanted_live(wanted: Wanted, kind: FileKind) -> Result<FileKind, Unread>
-    ensures unread { unread result ≡ live_unread wanted kind }
+    ensures unread { IsUnwanted (live_unread wanted kind) result }
     ensures kind { IfOk result (λ it. kind ≡ it) }
 {
     match wanted {
@@ -120,17 +164,23 @@ fn wanted_live(wanted: Wanted, kind: FileKind) -> Result<FileKind, Unread>
 }
 
 /// What stands in the slot at a place of an inode. Where it holds, its block is the one that was read last.
-pub(crate) fn slot(bytes: &[u8], it: &Opened, place: Place, last: &mut LastRead) -> PathAnswer
+pub(crate) fn slot(
+    bytes: &[u8],
+    it: &Opened,
+    place: Place,
+    last: &mut LastRead,
+) -> Result<PathAnswer, BadPage>
     requires known { IsKnown bytes.now it.now }
     requires place { IsPlace place }
     requires last { IsLast (disk_of bytes.now) last.old }
-    ensures found { result ≡ slots.find (image_of bytes.now) it.now.inode (place_path place) }
-    ensures cell { IsCellOf (image_of bytes.now) result last.new.cell }
-    ensures last { IsLast (disk_of bytes.now) last.new }
+    ensures found { IfOk result (λ found. found ≡ slots.find (image_of bytes.now) it.now.inode (place_path place)) }
+    ensures cell { IfOk result (λ found. IsCellOf (image_of bytes.now) found last.new.cell) }
+    ensures last { OnOk result (IsLast (disk_of bytes.now) last.new) }
+    ensures bad { IfErr result (IsBadPage bytes.now) }
 {
     let mut disk = ImageDisk::over(bytes);
     match find_slot(&mut disk, &it.at, it.inode, &it.record, place, last) {
-        Ok(found) => found,
-        Err(_) => PathAnswer::Lost,
+        Ok(found) => Ok(found),
+        Err(_) => Err(disk.bad_page(bytes)),
     }
 }

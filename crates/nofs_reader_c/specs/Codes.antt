@@ -1,7 +1,8 @@
 -- Why a call has no answer, as a number.
-use Rattle.std.specs.Prelude.{ℕ, Option, Some, None}
+use Rattle.std.specs.Prelude.{◌≡◌, ◌≢◌, ℕ, List, Option, Some, None}
 use Rattle.nofs_super.specs.declared.superblock.MountFault.{MountFault}
 use Rattle.nofs_super.specs.declared.superblock.MountFault.TheVariants as fault
+use Rattle.nofs_reader.specs.Layouts.{HasBadPage}
 use Rattle.nofs_reader.specs.declared.opened.Unread.{Unread}
 use Rattle.nofs_reader.specs.declared.opened.Unread.TheVariants as unread
 
@@ -26,8 +27,14 @@ unread_code unread.NotDirectory = 8
 unread_code unread.IsDirectory = 9
 unread_code unread.TooLarge = 10
 unread_code unread.NoRoom = 11
+unread_code (unread.BadPage page) = 15
 
 -- 0 where there is one
 abbrev pub code_of : Option Unread → ℕ
 code_of None = 0
 code_of (Some why) = unread_code why
+
+-- the number that a call returns: the one of the definitions, or that of a page that can't be told, where there is one
+pub record IsCode (bytes : List ℕ) (why : Option Unread) (code : ℕ) : Type 0 where
+  pub same : code ≢ 15 → code ≡ code_of why
+  pub bad : code ≡ 15 → HasBadPage bytes

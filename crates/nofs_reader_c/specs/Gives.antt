@@ -4,7 +4,7 @@ use Rattle.nofs_super.specs.declared.superblock.SuperBlock.{SuperBlock}
 use Rattle.nofs_model.specs.Geometry.{Image}
 use Rattle.nofs_reader.specs.Answers.{IsStat, superblock_of}
 use Rattle.nofs_reader.specs.Directories.{IsLooked, IsNext}
-use Rattle.nofs_reader.specs.Gets.{IsRun}
+use Rattle.nofs_reader.specs.Gets.{IsRun, RestKept}
 use Rattle.nofs_reader.specs.declared.gets.Run.{Run}
 use Rattle.nofs_reader.specs.declared.lists.NextLine.{NextLine}
 use Rattle.nofs_reader.specs.declared.looks.Looked.{Looked}
@@ -28,9 +28,11 @@ pub record GivesStat (X : Image) (i : ℕ) (given : CStat) : Type 0 where
   pub out : given ≡ outs.stat_of it
 
 -- the run of slots from one on, whose bytes are here
-pub record GivesRun (X : Image) (i from : ℕ) (into : List ℕ) (given : CRun) : Type 0 where
+pub record GivesRun (X : Image) (i from : ℕ) (old into : List ℕ) (given : CRun) : Type 0 where
   pub it : Run
   pub is : IsRun X i from into it
+  -- only the bytes of its slots were put there
+  pub rest : RestKept old into it
   pub out : given ≡ outs.run_of it
 
 -- what the directory has from a place on

@@ -19,6 +19,7 @@ pub(crate) fn unread_code(why: Unread) -> u32
         Unread::IsDirectory => 9,
         Unread::TooLarge => 10,
         Unread::NoRoom => 11,
+        Unread::BadPage(_) => 15,
     }
 }
 

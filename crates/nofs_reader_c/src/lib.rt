@@ -1,7 +1,8 @@
 //! The reader of an image for C: `include/nofs_reader.h` declares what stands here.
 //!
 //! Promise: each function answers as the call of `nofs_reader` that it makes, on any bytes and any arguments. It keeps
-//! nothing, takes no memory, and writes only where it is told to: what an answer has no use for stays.
+//! nothing, takes no memory, and writes only where it is told to: what an answer has no use for stays, but the marks of
+//! a count.
 #![tactic(auto)]
 
 mod codes;

@@ -1,6 +1,6 @@
 use Rattle.std.proofs.Common.{length, ◌∙◌, arith}
 use Rattle.nofs_disk.specs.CellsOfBytes.{part-range}
-use Rattle.nofs_reader.proofs.disk.read_bytes.Goals as goal
+use Rattle.nofs_reader.proofs.bytes.read_bytes.Goals as goal
 
 pub returns-then-end-bytes : goal.returns-then-end-bytes
 returns-then-end-bytes c =

@@ -1,6 +1,6 @@
 use Rattle.std.proofs.Common.{length, ◌∙◌, arith}
 use Rattle.nofs_reader.proofs.OnDisk.{bytes-to_end, bytes-past}
-use Rattle.nofs_reader.proofs.disk.read_end.Goals as goal
+use Rattle.nofs_reader.proofs.bytes.read_end.Goals as goal
 
 pub returns-then-at-bytes : goal.returns-then-at-bytes
 returns-then-at-bytes c =
