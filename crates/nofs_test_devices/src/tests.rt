@@ -5,4 +5,6 @@ mod disks;
 mod filedisk;
 mod memdisk;
 mod mirror;
+mod pages;
 mod tags;
+mod twins;

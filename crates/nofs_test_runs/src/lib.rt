@@ -4,7 +4,7 @@
 //! Runs over disks that hold what was written:
 //! - `files`: an image in a file of the host
 //! - `mirrors`: a side of a mirror fails
-//! - `instance`: a disk on which the premises of the headline are met
+//! - `instance`: disks on which the premises of the headline are met, in memory and in a file in each layout
 //!
 //! Runs over images that were laid down cell by cell, and over what a crash leaves:
 //! - `images`: a long chain of directories is counted

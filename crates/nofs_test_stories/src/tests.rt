@@ -1,7 +1,10 @@
 //! The tests, by what they test, with what they share.
 
 mod caches;
+mod crashes;
 mod failing;
+mod layouts;
+mod reads;
 mod recorder;
 mod salvages;
 mod stories;

@@ -3,14 +3,15 @@ ghost use Rattle.nofs_disk.specs.Disk.{IsSettled};
 ghost use Rattle.nofs_filedisk.specs.Bytes.{IsSynced};
 ghost use Rattle.nofs_memdisk.specs.Parts.{memory_state};
 ghost use Rattle.nofs_versions.specs.Memory.{PicksVersions};
-ghost use Rattle.std.specs.Prelude.{All, ◌<◌};
+ghost use Rattle.std.specs.Prelude.{All, length, ◌+◌, ◌<◌, ◌^◌, ◌≤◌};
 
 use nofs_cache::{CacheFault, Cached};
-use nofs_disk::{Cell, Disk};
-use nofs_filedisk::{FileDisk, Positioned};
+use nofs_disk::{Cell, Disk, Failed};
+use nofs_filedisk::{FileDisk, HostFile, MemFile, Positioned};
 use nofs_memdisk::{CallCounts, CallKind, FaultAt, MemDisk, Pick};
 use nofs_mirror::{Mirror, MirrorCause, MirrorFault, Sides};
 use std::alloc::{AllocError, Global};
+use std::io;
 
 /// `nofs_memdisk::MemDisk`
 pub fn mem_disk_itself(it: MemDisk) -> MemDisk {
@@ -80,6 +81,61 @@ pub fn mem_disk_image(this: &MemDisk, alloc: Global, picks: &[Pick]) -> Result<M
     requires { All (PicksVersions (memory_state this.now)) picks.now }
 {
     this.image(alloc, picks)
+}
+
+/// `nofs_filedisk::HostFile::open`
+pub fn host_file_open(rt: &HostRuntime, path: &str) -> io::Result<HostFile> {
+    HostFile::open(rt, path)
+}
+
+/// `nofs_filedisk::HostFile::open_existing`
+pub fn host_file_open_existing(rt: &HostRuntime, path: &str) -> io::Result<HostFile> {
+    HostFile::open_existing(rt, path)
+}
+
+/// `nofs_filedisk::MemFile::new`
+pub fn mem_file_new(
+    alloc: Global,
+    bytes: &[u8],
+    piece: usize,
+    fails: &[u64],
+) -> Result<MemFile, AllocError>
+    requires { 1 ≤ piece }
+{
+    MemFile::new(alloc, bytes, piece, fails)
+}
+
+/// `nofs_filedisk::MemFile::bytes`
+pub fn mem_file_bytes(this: &MemFile) -> &[u8] {
+    this.bytes()
+}
+
+/// `nofs_filedisk::MemFile::durable`
+pub fn mem_file_durable(this: &MemFile) -> &[u8] {
+    this.durable()
+}
+
+/// `nofs_filedisk::MemFile::calls`
+pub fn mem_file_calls(this: &MemFile) -> u64 {
+    this.calls()
+}
+
+/// `nofs_filedisk::read_part`
+pub fn filedisk_read_part<B: Positioned>(
+    file: &mut B,
+    at: u64,
+    into: &mut [u8],
+) -> Result<(), Failed>
+    requires { at + length into.old < 2 ^ 63 }
+{
+    nofs_filedisk::read_part(file, at, into)
+}
+
+/// `nofs_filedisk::write_part`
+pub fn filedisk_write_part<B: Positioned>(file: &mut B, at: u64, part: &[u8]) -> Result<(), Failed>
+    requires { at + length part.now < 2 ^ 63 }
+{
+    nofs_filedisk::write_part(file, at, part)
 }
 
 /// `nofs_filedisk::FileDisk`

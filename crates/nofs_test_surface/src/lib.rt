@@ -2,9 +2,9 @@
 //! function is called with what it asks, each field and each variant is named with its type. What no longer reads so
 //! does not compile, and what asks for more is not proved.
 //!
-//! In layers, the lowest first: `base`, `texts`, `disks`, `formats`, `meaning`, `history`, `cores`, `steps`, `clients`,
-//! `callers`, `mounts`. `typed` names the type of a field, `traits` calls each method of a trait through its bound, and
-//! `laws` calls the laws.
+//! In layers, the lowest first: `base`, `texts`, `disks`, `pages`, `formats`, `meaning`, `history`, `cores`, `steps`,
+//! `clients`, `callers`, `mounts`. `typed` names the type of a field, `traits` calls each method of a trait through its
+//! bound, and `laws` calls the laws.
 //!
 //! Where a signature says more than its plain form, docs/DECISIONS.md says why:
 //! - what takes memory takes an allocator, `alloc`; what waits takes `rt`
@@ -27,6 +27,7 @@ mod history;
 mod laws;
 mod meaning;
 mod mounts;
+mod pages;
 mod steps;
 mod texts;
 mod traits;

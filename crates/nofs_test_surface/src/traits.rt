@@ -1,9 +1,10 @@
 //! The traits: each method is called through the bound, with what it asks.
-ghost use Rattle.std.specs.Prelude.{◌≡◌, ℕ, ◌^◌, ◌<◌, ◌≤◌, Bool, List, length};
+ghost use Rattle.std.specs.Prelude.{◌≡◌, ℕ, ◌+◌, ◌^◌, ◌<◌, ◌≤◌, Bool, List, length};
 ghost use Rattle.nofs_history.specs.declared.machine.steps.ElementKind.TheVariants.{Inode};
 ghost use Rattle.nofs_workers.specs.Sweep.{AreInRange};
 
 use nofs_disk::{Cell, Disk, Failed, OutFault};
+use nofs_filedisk::Positioned;
 use nofs_history::{ElementKind, Refusal, Reply, Step, Steps};
 use nofs_io::{Sink, Source};
 use nofs_salvage::NameRule;
@@ -48,6 +49,44 @@ pub fn disk_write_out<D: Disk>(disk: &mut D) -> Result<Option<u64>, Failed>
     requires { 1 ≤ (D.state disk.old).spare }
 {
     disk.write_out()
+}
+
+/// `nofs_filedisk::Positioned::read_at`
+pub fn positioned_read_at<B: Positioned>(
+    file: &mut B,
+    at: u64,
+    into: &mut [u8],
+) -> Result<usize, Failed>
+    requires { at + length into.old < 2 ^ 63 }
+{
+    file.read_at(at, into)
+}
+
+/// `nofs_filedisk::Positioned::read_ahead`
+pub fn positioned_read_ahead<B: Positioned>(
+    file: &mut B,
+    at: u64,
+    into: &mut [u8],
+) -> Result<Option<usize>, Failed>
+    requires { at + length into.old < 2 ^ 63 }
+{
+    file.read_ahead(at, into)
+}
+
+/// `nofs_filedisk::Positioned::write_at`
+pub fn positioned_write_at<B: Positioned>(
+    file: &mut B,
+    at: u64,
+    from: &[u8],
+) -> Result<usize, Failed>
+    requires { at + length from.now < 2 ^ 63 }
+{
+    file.write_at(at, from)
+}
+
+/// `nofs_filedisk::Positioned::sync`
+pub fn positioned_sync<B: Positioned>(file: &mut B) -> Result<(), Failed> {
+    file.sync()
 }
 
 /// `nofs_io::Source::take`

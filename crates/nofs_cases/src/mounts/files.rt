@@ -20,7 +20,7 @@ const BLOCKS: u64 = 64;
 const INODES: u64 = 16;
 
 /// How many bytes a call of the file moves at most.
-const PIECE: usize = 67_584;
+const PIECE: usize = 69_696;
 
 // An empty file in memory, and the disk in it behind a cache.
 fn told_disk(alloc: Global) -> Result<Cached<FileDisk<MemFile>>, Unmade>

@@ -43,8 +43,8 @@ fn a_cell_is_read_again_after_reopening(rt: HostRuntime) -> Result<(), Fail> {
 
 #[test]
 fn reads_before_across_and_after_a_write_show_it(rt: HostRuntime) -> Result<(), Fail> {
-    let script = "62=62 63=63 64=64 65=65 62?62 63?63 64?64 65?65
-        63=1 64=2 62?62 63?1 64?2 65?65 66?0";
+    let script = "64=64 65=65 66=66 67=67 64?64 65?65 66?66 67?67
+        65=1 66=2 64?64 65?1 66?2 67?67 68?0";
     bytes_after(&rt, "window", &[script])?;
     Ok(())
 }
@@ -96,11 +96,11 @@ fn cut(rt: &HostRuntime, path: &str, bytes: u64) -> Result<(), Fail> {
 fn what_is_cut_off_an_open_file_is_a_fault(rt: HostRuntime) -> Result<(), Fail> {
     let path = new_path(&rt, "cut")?;
     let mut disk = open(&rt, path.as_str())?;
-    follow(&mut disk, "70=7 130=8 flush 200?0 70?7")?;
+    follow(&mut disk, "70=7 140=8 flush 200?0 70?7")?;
     cut(&rt, path.as_str(), 80 * 1056)?;
-    follow(&mut disk, "130?! 70=9 flush! 70?9")?;
+    follow(&mut disk, "140?! 70=9 flush! 70?9")?;
     drop(disk);
-    follow(&mut open(&rt, path.as_str())?, "70?7 130?0")?;
+    follow(&mut open(&rt, path.as_str())?, "70?7 140?0")?;
     fs::remove_file(&rt, path.as_str())?;
     Ok(())
 }
@@ -126,13 +126,13 @@ fn durable_after(
     Ok(file.durable().len())
 }
 
-// A cell that was put half way (the file has 1,000 bytes of it then) is read whole, and the next flush writes all of
-// it. A run that could not be put stays in memory where the next can't begin; a flush that comes later puts it. A flush
-// makes the bytes durable, and one that fails may not.
+// A cell that was put half way (the file has 1,000 bytes of it then; two calls found it empty) is read whole, and the
+// next flush writes all of it. A run that could not be put stays in memory where the next can't begin; a flush that
+// comes later puts it. A flush makes the bytes durable, and one that fails may not.
 #[test]
 fn what_could_not_be_put_is_put_by_the_next_flush(rt: HostRuntime) -> Result<(), Fail> {
     for (moved, fails, script, then, blocks) in [
-        (1000, 3, "0?0 0=7 flush! 0?7 flush", "0?7", 1),
+        (1000, 4, "0?0 0=7 flush! 0?7 flush", "0?7", 1),
         (
             1 << 20,
             1,
@@ -157,8 +157,8 @@ fn calls_of(alloc: Global, blocks: usize, script: &str) -> Result<u64, Fail> {
     Ok(disk.file().calls())
 }
 
-// One call writes a run of neighbours, in rising or falling order, within 64 blocks from a multiple of 64 on, and one
-// makes the sync. A scan costs a call in 64 cells, up and down. The first window is read whole, any other where a cell
+// One call writes a run of neighbours, in rising or falling order, within 66 blocks from a multiple of 66 on, and one
+// makes the sync. A scan costs a call in 66 cells, up and down. The first window is read whole, any other where a cell
 // of it was read alone lately, or many of the one beside it; after windows that were of no use, where more of its cells
 // were.
 const CALLS: [(usize, &str, u64); 22] = [
@@ -168,24 +168,24 @@ const CALLS: [(usize, &str, u64); 22] = [
     (0, "7=1 8=1 10=1 11=1 flush", 3),
     (0, "9=1 8=1 7=1 flush", 2),
     (0, "8=1 9=1 7=1 10=1 6=1 8=1 flush", 2),
-    (0, "62=1 63=1 64=1 65=1 flush", 3),
-    (0, "0..63=1 flush", 2),
-    (0, "0..128=1 flush", 4),
-    (0, "63..0=1 flush", 2),
-    (0, "128..0=1 flush", 4),
-    (0, "0..65535=1 flush", 1_025),
-    (0, "4095..0=1 flush", 65),
-    (65_536, "0..65535?5", 1_024),
-    (65_536, "65535..0?5", 1_024),
-    (1_024, "0?5 1?5 63?5", 1),
-    (1_024, "0?5 640?5", 2),
-    (1_024, "0?5 640?5 700?5 641?5 699?5 642?5 643?5 698?5", 3),
-    (1_024, "0?5 64?5 0?5 64?5 65?5", 3),
-    (1_024, "0..15?5 64?5 65?5", 2),
+    (0, "64=1 65=1 66=1 67=1 flush", 3),
+    (0, "0..65=1 flush", 2),
+    (0, "0..132=1 flush", 4),
+    (0, "65..0=1 flush", 2),
+    (0, "132..0=1 flush", 4),
+    (0, "0..65535=1 flush", 994),
+    (0, "4095..0=1 flush", 64),
+    (66_000, "0..65999?5", 1_000),
+    (66_000, "65999..0?5", 1_000),
+    (1_024, "0?5 1?5 65?5", 1),
+    (1_024, "0?5 660?5", 2),
+    (1_024, "0?5 660?5 720?5 661?5 719?5 662?5 663?5 718?5", 3),
+    (1_024, "0?5 66?5 0?5 66?5 67?5", 3),
+    (1_024, "0..15?5 66?5 67?5", 2),
     (
         1_024,
-        "0?5 64..65?5 128..129?5 192..193?5 256..257?5 320..321?5 384..385?5 448..449?5
-        512..513?5 640..643?5",
+        "0?5 66..67?5 132..133?5 198..199?5 264..265?5 330..331?5 396..397?5 462..463?5
+        528..529?5 660..663?5",
         20,
     ),
     (

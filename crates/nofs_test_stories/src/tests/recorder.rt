@@ -1,18 +1,17 @@
 //! A file in memory that keeps its writes and syncs, and draws what a crash in any of them may leave.
 //!
-//! Promise: it is the file below it. Of each cell an image has what stood at the last sync before the
-//! crash, or what one write since put there.
+//! Promise: it is the file below it. Of each unit of so many bytes an image has what stood there at the last sync
+//! before the crash, or after a write since.
 
-ghost use Rattle.std.specs.Prelude.{◌≡◌, IfOk};
+ghost use Rattle.std.specs.Prelude.{◌≡◌, ℕ, IfOk};
 ghost use Rattle.nofs_filedisk.specs.Bytes.{IsSynced};
+ghost use Rattle.nofs_pages.specs.Singles.{SingleRests};
+ghost use Rattle.nofs_pages.specs.Twins.{TwinRests};
 
 use nofs_disk::{Failed, write_bytes_at};
 use nofs_filedisk::{MemFile, Positioned};
 use nofs_test_disks::draw;
 use std::alloc::{AllocError, Global};
-
-/// How many bytes a cell has in a file.
-const CELL_BYTES: usize = 1_056;
 
 /// At most so many bytes are moved by a call. A window of the disk in a file has less.
 const PIECE: usize = 1_048_576;
@@ -29,6 +28,8 @@ pub enum RecordedCall {
 pub struct Recorder {
     under: MemFile,
     alloc: Global,
+    /// How many bytes at a multiple of so many a crash leaves together.
+    unit: usize,
     /// The bytes at first, all of which are durable.
     first: Vec<u8>,
     /// The writes and syncs since, in order.
@@ -38,13 +39,16 @@ pub struct Recorder {
 }
 
 impl Recorder {
-    /// A file with these bytes.
-    pub fn new(alloc: Global, bytes: &[u8]) -> Result<Recorder, AllocError>
-        ensures { IfOk result (λ file. IsSynced (⟦<Recorder as Positioned>⟧.state file)) }
+    /// A file with these bytes, of which a crash leaves units of so many together.
+    pub fn new(alloc: Global, bytes: &[u8], unit: usize) -> Result<Recorder, AllocError>
+        ensures synced { IfOk result (λ file. IsSynced (⟦<Recorder as Positioned>⟧.state file)) }
+        ensures rests { IfOk result (λ file. (p : ℕ) → SingleRests (⟦<Recorder as Positioned>⟧.state file) p) }
+        ensures twins { IfOk result (λ file. (p : ℕ) → TwinRests (⟦<Recorder as Positioned>⟧.state file) p) }
     {
         Ok(Recorder {
             under: MemFile::new(alloc, bytes, PIECE, &[])?,
             alloc,
+            unit,
             first: bytes.to_vec(alloc)?,
             calls: Vec::new(alloc),
             is_kept: true,
@@ -56,26 +60,53 @@ impl Recorder {
         self.calls.len()
     }
 
-    /// How many cells the writes have.
-    pub fn cells(&self) -> usize {
-        let mut cells: usize = 0;
+    /// How many bytes the writes have.
+    pub fn written(&self) -> usize {
+        let mut bytes: usize = 0;
         for call in &self.calls {
-            cells = cells.saturating_add(cells_of_call(call));
+            bytes = bytes.saturating_add(bytes_of_call(call));
         }
-        cells
+        bytes
     }
 
-    /// Whether the calls tell all: each was kept and moved whole cells, all of them lead to the bytes
+    /// Whether the calls tell all: each was kept and moved whole units, all of them lead to the bytes
     /// of the file, and those up to the last sync to what is durable.
     pub fn tells_all(&self) -> Result<bool, AllocError> {
         let all = self.replay(&self.calls)?;
         let durable = self.replay(up_to_sync(&self.calls))?;
         Ok(
             self.is_kept
-                && self.calls.iter().all(has_whole_cells)
+                && self
+                    .calls
+                    .iter()
+                    .all(|call| has_whole_units(call, self.unit))
                 && all.as_slice() == self.under.bytes()
                 && durable.as_slice() == self.under.durable(),
         )
+    }
+
+    /// Whether no unit was written twice between two syncs.
+    pub fn writes_once(&self) -> Result<bool, AllocError> {
+        let mut drawn = DrawnImage::new(self.alloc, &self.first, self.unit)?;
+        let mut is_once = true;
+        for call in &self.calls {
+            drawn.offer(call, &mut 0);
+            is_once = is_once && drawn.versions.iter().all(|versions| *versions <= 2);
+            if is_sync(call) {
+                drawn.versions.as_mut_slice().fill(1);
+            }
+        }
+        Ok(is_once)
+    }
+
+    /// Whether the last calls of this file are all those of another one.
+    pub fn ends_like(&self, other: &Recorder) -> bool {
+        let behind = self.calls.len().saturating_sub(other.calls.len());
+        let mut is_like = true;
+        for (at, call) in other.calls.iter().enumerate() {
+            is_like = is_like && is_same(self.calls.get(behind.saturating_add(at)), call);
+        }
+        is_like
     }
 
     // The bytes at first, after these calls.
@@ -89,13 +120,17 @@ impl Recorder {
         Ok(bytes)
     }
 
-    /// Bytes that a crash in the call of this number, from 0 on, may leave, drawn by chance. For each
-    /// cell the last sync and the writes since, up to this call, are equally likely.
-    pub fn image(&self, call: usize, state: &mut u64) -> Result<Vec<u8>, AllocError> {
-        let ended = up_to_sync(first_calls(&self.calls, call));
-        let mut drawn = DrawnImage::new(self.alloc, self.replay(ended)?)?;
-        let begun = first_calls(&self.calls, call.saturating_add(1));
-        for call in begun.iter().skip(ended.len()) {
+    /// Bytes that a crash may leave where so many calls had ended, and so many had begun, drawn by chance. Of a write
+    /// since the last sync all units are left, or none, or some of them.
+    pub fn image(
+        &self,
+        ended: usize,
+        begun: usize,
+        state: &mut u64,
+    ) -> Result<Vec<u8>, AllocError> {
+        let durable = up_to_sync(first_calls(&self.calls, ended));
+        let mut drawn = DrawnImage::new(self.alloc, &self.replay(durable)?, self.unit)?;
+        for call in first_calls(&self.calls, begun).iter().skip(durable.len()) {
             drawn.offer(call, state);
         }
         Ok(drawn.bytes)
@@ -125,6 +160,10 @@ impl Positioned for Recorder {
         self.under.read_at(at, into)
     }
 
+    fn read_ahead(&mut self, at: u64, into: &mut [u8]) -> Result<Option<usize>, Failed> {
+        self.under.read_ahead(at, into)
+    }
+
     fn write_at(&mut self, at: u64, from: &[u8]) -> Result<usize, Failed> {
         let count = self.under.write_at(at, from)?;
         self.keep(write_call(self.alloc, at, from, count));
@@ -147,19 +186,19 @@ fn write_call(alloc: Global, at: u64, from: &[u8], count: usize) -> Option<Recor
     }
 }
 
-// How many cells a call writes.
-fn cells_of_call(call: &RecordedCall) -> usize {
+// How many bytes a call writes.
+fn bytes_of_call(call: &RecordedCall) -> usize {
     match call {
-        RecordedCall::Write { bytes, .. } => bytes.len() / CELL_BYTES,
+        RecordedCall::Write { bytes, .. } => bytes.len(),
         RecordedCall::Sync => 0,
     }
 }
 
-// Whether a call writes whole cells, if it writes.
-fn has_whole_cells(call: &RecordedCall) -> bool {
+// Whether a call writes whole units, if it writes.
+fn has_whole_units(call: &RecordedCall, unit: usize) -> bool {
     match call {
         RecordedCall::Write { at, bytes } => {
-            *at % CELL_BYTES as u64 == 0 && bytes.len() % CELL_BYTES == 0
+            (*at as usize).checked_rem(unit) == Some(0) && bytes.len().checked_rem(unit) == Some(0)
         }
         RecordedCall::Sync => true,
     }
@@ -185,6 +224,23 @@ fn is_sync(call: &RecordedCall) -> bool {
     }
 }
 
+// Whether there is a call, and it is this one.
+fn is_same(own: Option<&RecordedCall>, call: &RecordedCall) -> bool {
+    match own {
+        Some(RecordedCall::Write { at, bytes }) => is_write_of(call, *at, bytes),
+        Some(RecordedCall::Sync) => is_sync(call),
+        None => false,
+    }
+}
+
+// Whether a call writes these bytes to this place.
+fn is_write_of(call: &RecordedCall, place: u64, part: &[u8]) -> bool {
+    match call {
+        RecordedCall::Write { at, bytes } => *at == place && bytes.as_slice() == part,
+        RecordedCall::Sync => false,
+    }
+}
+
 // Puts a part at its place, if it ends inside.
 fn put(bytes: &mut [u8], at: usize, part: &[u8]) {
     if at <= bytes.len() && part.len() <= bytes.len() - at {
@@ -192,41 +248,61 @@ fn put(bytes: &mut [u8], at: usize, part: &[u8]) {
     }
 }
 
-/// Bytes of which each cell is one of its versions so far.
+/// Bytes of which each unit is one of its versions so far.
 #[derive(Drop)]
 struct DrawnImage {
+    unit: usize,
     bytes: Vec<u8>,
-    /// How many versions each cell had.
+    /// What the calls so far lead to.
+    now: Vec<u8>,
+    /// How many versions each unit had.
     versions: Vec<u64>,
 }
 
 impl DrawnImage {
     // Bytes of one version.
-    fn new(alloc: Global, bytes: Vec<u8>) -> Result<DrawnImage, AllocError> {
-        let versions = vec![in alloc; 1u64; bytes.len() / CELL_BYTES]?;
-        Ok(DrawnImage { bytes, versions })
+    fn new(alloc: Global, bytes: &[u8], unit: usize) -> Result<DrawnImage, AllocError> {
+        let units = bytes.len().checked_div(unit).unwrap_or(0);
+        Ok(DrawnImage {
+            unit,
+            bytes: bytes.to_vec(alloc)?,
+            now: bytes.to_vec(alloc)?,
+            versions: vec![in alloc; 1u64; units]?,
+        })
     }
 
-    // Takes or leaves each cell that a call writes.
+    // Takes or leaves each unit that a call writes.
     fn offer(&mut self, call: &RecordedCall, state: &mut u64) {
         if let RecordedCall::Write { at, bytes } = call {
-            self.offer_cells(*at as usize / CELL_BYTES, bytes, state);
+            put(&mut self.now, *at as usize, bytes);
+            self.offer_units(*at as usize, bytes.len(), state);
         }
     }
 
-    fn offer_cells(&mut self, first: usize, cells: &[u8], state: &mut u64) {
-        for (number, cell) in cells.chunks(CELL_BYTES).enumerate() {
-            self.offer_cell(first.saturating_add(number), cell, state);
+    fn offer_units(&mut self, at: usize, count: usize, state: &mut u64) {
+        let first = at.checked_div(self.unit).unwrap_or(0);
+        let units = count.checked_div(self.unit).unwrap_or(0);
+        let taking = draw(state, 3);
+        for number in 0..units {
+            self.offer_unit(first.saturating_add(number), taking, state);
         }
     }
 
-    // Takes a further version in one of as many cases as there are now.
-    fn offer_cell(&mut self, block: usize, cell: &[u8], state: &mut u64) {
-        if let Some(versions) = self.versions.get_mut(block) {
+    // Takes a further version: always, never, or in one of as many cases as there are now.
+    fn offer_unit(&mut self, number: usize, taking: u64, state: &mut u64) {
+        if let Some(versions) = self.versions.get_mut(number) {
             *versions = versions.saturating_add(1);
-            if draw(state, *versions) == 0 {
-                put(&mut self.bytes, block.saturating_mul(CELL_BYTES), cell);
+            if taking == 0 || (taking == 1 && draw(state, *versions) == 0) {
+                self.take(number.saturating_mul(self.unit));
             }
+        }
+    }
+
+    // Takes the unit at a place as it is now.
+    fn take(&mut self, at: usize) {
+        let end = at.saturating_add(self.unit);
+        if let Some(part) = self.now.get(at..end) {
+            put(&mut self.bytes, at, part);
         }
     }
 }
