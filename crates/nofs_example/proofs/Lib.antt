@@ -1,0 +1,2 @@
+mod OnCut
+mod OnFormat
