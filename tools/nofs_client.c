@@ -2,280 +2,676 @@
 #include "nofs_client.h"
 
 #include <errno.h>
+#include <fcntl.h>
+#include <poll.h>
+#include <signal.h>
+#include <stdlib.h>
 #include <string.h>
 #include <sys/socket.h>
 #include <sys/wait.h>
+#include <time.h>
 #include <unistd.h>
 
-enum { BODY_BYTES = 1100 };
-enum step { LOOK = 1, MAKE, LINK, DROP, RENAME, LIST, GET, PUT, RESIZE, STAT, FLUSH, SEE_INODE, SEE_BLOCK };
+enum {
+    STREAM_BYTES = 16777216,    /* of a stream, at most */
+    /* of them are kept to examine by, so that a step is asked again in the session that refused it */
+    RESERVE = 1 << 16,
+    ROOM = 1 << 18,             /* for what is received at once */
+    SOCKET_BYTES = 1 << 20,
+    BODY_BYTES = 1100,
+    SEEN_AT_ONCE = 64,          /* often nothing but the last of an image is free */
+    ROUNDS = 1 << 15,           /* of examining, which is twice the blocks of the largest image */
+    GRACE = 200                 /* hundredths of a second, for a program that was told to end */
+};
 
 const struct nofs_at nofs_root = {1, 1}, nofs_label = {2, 2};
 
-/* A body that is written or read from its start. One that is too short for what is read has `cut` set. */
-struct body { uint8_t bytes[BODY_BYTES]; size_t length, place; int cut; };
+/* Memory: what finds none is noted, and the batch is not sent */
 
-static void spell(struct body *it, uint64_t number, int count)
+static int grow(struct nofs_bytes *it, size_t more)
 {
-    for (; count > 0; count--, number >>= 8) it->bytes[it->length++] = (uint8_t)number;
+    if (it->length + more <= it->room) return 1;
+    size_t room = 2 * (it->length + more);
+    uint8_t *made = realloc(it->bytes, room);
+    if (!made) return 0;
+    it->bytes = made;
+    it->room = room;
+    return 1;
 }
 
-static void spell_at(struct body *it, struct nofs_at at)
+static int grow_replies(struct nofs *it)
+{
+    if (it->count < it->room) return 1;
+    size_t room = it->room ? 2 * it->room : 64;
+    size_t *starts = realloc(it->starts, (room + 1) * sizeof *starts);
+    if (starts) it->starts = starts;
+    struct nofs_reply *replies = realloc(it->replies, room * sizeof *replies);
+    if (replies) it->replies = replies;
+    if (!starts || !replies) return 0;
+    it->room = room;
+    return 1;
+}
+
+/* The session */
+
+/* In a session of its own: a signal from the terminal ends the program only by way of its caller, which may flush
+ * before. */
+static void become_program(const struct nofs *it, int end)
+{
+    sigset_t none;
+    sigemptyset(&none);
+    sigprocmask(SIG_SETMASK, &none, NULL);
+    setsid();
+    for (int n = 0; n < 2; n++) {
+        dup2(end, n);
+        fcntl(n, F_SETFD, 0);
+    }
+    execl(it->program, it->program, it->image, "wire", (char *)0);
+    _exit(127);
+}
+
+static int start(struct nofs *it)
+{
+    int ends[2], room = SOCKET_BYTES;
+    if (socketpair(AF_UNIX, SOCK_STREAM | SOCK_CLOEXEC, 0, ends)) return NOFS_ENDED;
+    for (int n = 0; n < 2; n++) setsockopt(ends[n], SOL_SOCKET, SO_SNDBUF, &room, sizeof room);
+    it->child = fork();
+    if (it->child == 0) become_program(it, ends[1]);
+    close(ends[1]);
+    it->sent = 0;
+    it->socket = it->child > 0 ? ends[0] : -1;
+    if (it->child < 0) close(ends[0]);
+    return it->child > 0 ? NOFS_OK : NOFS_ENDED;
+}
+
+/* One that goes on without a client that takes its replies is ended by force. */
+static int wait_with_grace(pid_t child, int *status)
+{
+    const struct timespec hundredth = {0, 10000000};
+    for (int n = 0; n < GRACE; n++) {
+        pid_t done = waitpid(child, status, WNOHANG);
+        if (done == child || (done < 0 && errno != EINTR)) return done == child;
+        nanosleep(&hundredth, NULL);
+    }
+    kill(child, SIGKILL);
+    return 0;
+}
+
+static int end_program(struct nofs *it, int with_grace)
+{
+    int status = 0, done;
+    shutdown(it->socket, SHUT_WR);
+    if (!with_grace || !wait_with_grace(it->child, &status))
+        while ((done = waitpid(it->child, &status, 0)) < 0 && errno == EINTR) {}
+    close(it->socket);
+    it->socket = -1;
+    return WIFEXITED(status) ? WEXITSTATUS(status) : 128 + WTERMSIG(status);
+}
+
+/* A program that refuses the image says so on the stream, in a line that is no frame. */
+static void keep_said(struct nofs *it)
+{
+    size_t length = 0;
+    for (; length < it->in.length && length + 1 < sizeof it->said; length++) {
+        char said = (char)it->in.bytes[length];
+        if (said < ' ' || said > '~') break;
+        it->said[length] = said;
+    }
+    it->said[length] = 0;
+}
+
+static int ended(struct nofs *it)
+{
+    keep_said(it);
+    if (it->socket >= 0) it->status = end_program(it, 1);
+    else if (!it->status) it->status = 127;
+    it->ended = 1;
+    if (it->on_end) it->on_end(it->with);
+    return NOFS_ENDED;
+}
+
+int nofs_open(struct nofs *it, const char *program, const char *image)
+{
+    memset(it, 0, sizeof *it);
+    it->program = program;
+    it->image = image;
+    it->socket = -1;
+    return start(it);
+}
+
+int nofs_again(struct nofs *it)
+{
+    it->ended = 0;
+    return it->socket >= 0 || start(it) == NOFS_OK ? NOFS_OK : ended(it);
+}
+
+int nofs_close(struct nofs *it)
+{
+    int status = it->socket < 0 ? it->status : end_program(it, 0);
+    free(it->out.bytes);
+    free(it->in.bytes);
+    free(it->starts);
+    free(it->replies);
+    memset(it, 0, sizeof *it);
+    it->socket = -1;
+    it->ended = 1;
+    it->status = status;
+    return status;
+}
+
+int nofs_watch(struct nofs *it)
+{
+    struct pollfd end = {it->socket, POLLIN, 0};
+    if (it->ended) return NOFS_ENDED;
+    it->in.length = 0;
+    return poll(&end, 1, 0) > 0 ? ended(it) : NOFS_OK;
+}
+
+/* A batch */
+
+void nofs_begin(struct nofs *it)
+{
+    it->out.length = it->count = 0;
+    it->no_memory = 0;
+}
+
+static void put_number(uint8_t *to, uint64_t number, int bytes)
+{
+    for (int n = 0; n < bytes; n++) to[n] = (uint8_t)(number >> 8 * n);
+}
+
+static uint64_t get_number(const uint8_t *from, int bytes)
+{
+    uint64_t number = 0;
+    while (bytes--) number = number << 8 | from[bytes];
+    return number;
+}
+
+static void spell(struct nofs *it, uint64_t number, int bytes)
+{
+    put_number(it->out.bytes + it->out.length, number, bytes);
+    it->out.length += (size_t)bytes;
+}
+
+static void spell_at(struct nofs *it, struct nofs_at at)
 {
     spell(it, at.inode, 4);
     spell(it, at.generation, 8);
 }
 
-/* A name that is too long is spelled with its length alone and refused by the program. */
-static void spell_name(struct body *it, const char *name)
+/* A name that is too long is spelled with its first bytes, one too many, and refused by the program. */
+static void spell_name(struct nofs *it, const char *name)
 {
     size_t length = strlen(name);
     if (length > NOFS_NAME_BYTES) length = NOFS_NAME_BYTES + 1;
     spell(it, length, 1);
-    memcpy(it->bytes + it->length, name, length);
-    it->length += length;
+    memcpy(it->out.bytes + it->out.length, name, length);
+    it->out.length += length;
 }
+
+/* Begins a frame, with room for the largest one; 0 where there is no memory. */
+static int begin_frame(struct nofs *it, int step)
+{
+    if (it->no_memory || !grow(&it->out, 4 + BODY_BYTES) || !grow_replies(it)) {
+        it->no_memory = 1;
+        return 0;
+    }
+    it->starts[it->count] = it->out.length;
+    it->out.length += 4;
+    spell(it, (uint64_t)step, 1);
+    return 1;
+}
+
+static void end_frame(struct nofs *it)
+{
+    size_t at = it->starts[it->count++];
+    put_number(it->out.bytes + at, it->out.length - at - 4, 4);
+}
+
+enum step { LOOK = 1, MAKE, LINK, DROP, RENAME, LIST, GET, PUT, RESIZE, STAT, FLUSH, SEE_INODE, SEE_BLOCK };
+
+static int begin_at(struct nofs *it, enum step step, struct nofs_at at)
+{
+    if ((step >= MAKE && step <= RENAME) || step == PUT || step == RESIZE) it->changed = 1;
+    if (!begin_frame(it, step)) return 0;
+    spell_at(it, at);
+    return 1;
+}
+
+static int begin_named(struct nofs *it, enum step step, struct nofs_at directory, const char *name)
+{
+    if (!begin_at(it, step, directory)) return 0;
+    spell_name(it, name);
+    return 1;
+}
+
+static void add_numbered(struct nofs *it, enum step step, struct nofs_at at, uint64_t number)
+{
+    if (!begin_at(it, step, at)) return;
+    spell(it, number, 8);
+    end_frame(it);
+}
+
+void nofs_add_look(struct nofs *it, struct nofs_at directory, const char *name)
+{
+    if (begin_named(it, LOOK, directory, name)) end_frame(it);
+}
+
+void nofs_add_make(struct nofs *it, struct nofs_at directory, const char *name, enum nofs_kind kind)
+{
+    if (!begin_named(it, MAKE, directory, name)) return;
+    spell(it, kind, 1);
+    end_frame(it);
+}
+
+void nofs_add_link(struct nofs *it, struct nofs_at directory, const char *name, struct nofs_at file)
+{
+    if (!begin_named(it, LINK, directory, name)) return;
+    spell_at(it, file);
+    end_frame(it);
+}
+
+void nofs_add_drop(struct nofs *it, struct nofs_at directory, const char *name)
+{
+    if (begin_named(it, DROP, directory, name)) end_frame(it);
+}
+
+void nofs_add_rename(struct nofs *it, struct nofs_at directory, const char *name, const char *new_name)
+{
+    if (!begin_named(it, RENAME, directory, name)) return;
+    spell_name(it, new_name);
+    end_frame(it);
+}
+
+void nofs_add_list(struct nofs *it, struct nofs_at directory, uint64_t slot)
+{
+    add_numbered(it, LIST, directory, slot);
+}
+void nofs_add_get(struct nofs *it, struct nofs_at file, uint64_t slot) { add_numbered(it, GET, file, slot); }
+void nofs_add_resize(struct nofs *it, struct nofs_at file, uint64_t size) { add_numbered(it, RESIZE, file, size); }
+
+/* Bytes past a slot are refused by the program, of which it is told by one byte too many. */
+void nofs_add_put(struct nofs *it, struct nofs_at file, uint64_t slot, uint32_t place, const void *bytes, size_t length)
+{
+    if (!begin_at(it, PUT, file)) return;
+    if (length > NOFS_SLOT_BYTES) place = NOFS_SLOT_BYTES, length = 1;
+    spell(it, slot, 8);
+    spell(it, place, 4);
+    memcpy(it->out.bytes + it->out.length, bytes, length);
+    it->out.length += length;
+    end_frame(it);
+}
+
+void nofs_add_stat(struct nofs *it, struct nofs_at at)
+{
+    if (begin_at(it, STAT, at)) end_frame(it);
+}
+
+void nofs_add_flush(struct nofs *it)
+{
+    const struct nofs_at all = {0, 0};
+    if (begin_at(it, FLUSH, all)) end_frame(it);
+}
+
+void nofs_add_see_inode(struct nofs *it, uint32_t inode)
+{
+    if (!begin_frame(it, SEE_INODE)) return;
+    spell(it, inode, 4);
+    end_frame(it);
+}
+
+void nofs_add_see_block(struct nofs *it, uint64_t block)
+{
+    if (!begin_frame(it, SEE_BLOCK)) return;
+    spell(it, block, 8);
+    end_frame(it);
+}
+
+/* The exchange */
+
+/* How many whole frames there are from `*at` on, which moves behind them; -1 where one has no right length. */
+static long whole_frames(const struct nofs_bytes *in, size_t *at)
+{
+    long count = 0;
+    while (in->length - *at >= 4) {
+        size_t length = (size_t)get_number(in->bytes + *at, 4);
+        if (length < 1 || length > BODY_BYTES) return -1;
+        if (in->length - *at - 4 < length) break;
+        *at += 4 + length;
+        count++;
+    }
+    return count;
+}
+
+static int receive(struct nofs *it, int flags)
+{
+    if (it->in.room - it->in.length < ROOM / 4 && !grow(&it->in, ROOM)) return NOFS_ENDED;
+    ssize_t got = recv(it->socket, it->in.bytes + it->in.length, it->in.room - it->in.length, flags);
+    if (got > 0) it->in.length += (size_t)got;
+    return got > 0 || (got < 0 && (errno == EINTR || errno == EAGAIN)) ? NOFS_OK : NOFS_ENDED;
+}
+
+/* Gives what goes without waiting. */
+static int give(struct nofs *it, const uint8_t *from, size_t length, size_t *put)
+{
+    ssize_t some = send(it->socket, from + *put, length - *put, MSG_NOSIGNAL | MSG_DONTWAIT);
+    if (some > 0) *put += (size_t)some;
+    return some > 0 || errno == EINTR || errno == EAGAIN ? NOFS_OK : NOFS_ENDED;
+}
+
+/* Both directions at once: the program takes nothing where nobody takes its replies. Once all is given, a
+ * read waits. */
+static int pump(struct nofs *it, const uint8_t *from, size_t length, size_t count)
+{
+    size_t put = 0, seen = 0, place = 0;
+    while (seen < count) {
+        if (put < length && give(it, from, length, &put)) return NOFS_ENDED;
+        if (put < length) {
+            struct pollfd end = {it->socket, POLLIN | POLLOUT, 0};
+            if (poll(&end, 1, -1) < 0 && errno != EINTR) return NOFS_ENDED;
+        }
+        if (receive(it, put < length ? MSG_DONTWAIT : 0)) return NOFS_ENDED;
+        long more = whole_frames(&it->in, &place);
+        if (more < 0) return NOFS_ENDED;
+        seen += (size_t)more;
+    }
+    return seen == count && place == it->in.length && put == length ? NOFS_OK : NOFS_ENDED;
+}
+
+static void read_replies(const struct nofs *it, struct nofs_reply *into, size_t count)
+{
+    const uint8_t *at = it->in.bytes;
+    for (size_t n = 0; n < count; n++) {
+        size_t length = (size_t)get_number(at, 4);
+        into[n] = (struct nofs_reply){at[4], at + 5, length - 1};
+        at += 4 + length;
+    }
+}
+
+int nofs_renew(struct nofs *it)
+{
+    if (it->ended) return NOFS_ENDED;
+    it->in.length = 0;
+    it->status = end_program(it, 0);
+    return it->status || start(it) ? ended(it) : NOFS_OK;
+}
+
+static int exchange(struct nofs *it, const uint8_t *from, size_t length, struct nofs_reply *into, size_t count,
+                    size_t reserve)
+{
+    if (it->ended || (it->sent + length > STREAM_BYTES - reserve && nofs_renew(it))) return NOFS_ENDED;
+    it->in.length = 0;
+    it->sent += length;
+    it->steps += count;
+    it->batches++;
+    if (pump(it, from, length, count)) return ended(it);
+    read_replies(it, into, count);
+    return NOFS_OK;
+}
+
+int nofs_send(struct nofs *it)
+{
+    if (it->no_memory) return NOFS_NO_MEMORY;
+    return it->count ? exchange(it, it->out.bytes, it->out.length, it->replies, it->count, RESERVE) : NOFS_OK;
+}
+
+/* Examines blocks or inodes from the least on that was not. The later ones may lie behind the last. */
+static int examine(struct nofs *it, int refusal, uint64_t next)
+{
+    uint8_t out[SEEN_AT_ONCE * 13];
+    struct nofs_reply seen[SEEN_AT_ONCE];
+    int bytes = refusal == NOFS_FULL ? 8 : 4;
+    size_t each = 5 + (size_t)bytes;
+    for (size_t n = 0; n < SEEN_AT_ONCE; n++) {
+        put_number(out + n * each, (uint64_t)bytes + 1, 4);
+        out[n * each + 4] = refusal == NOFS_FULL ? SEE_BLOCK : SEE_INODE;
+        put_number(out + n * each + 5, next + n, bytes);
+    }
+    int answer = exchange(it, out, SEEN_AT_ONCE * each, seen, SEEN_AT_ONCE, 0);
+    return answer ? answer : seen[0].answer;
+}
+
+/* One step of the batch is sent again. */
+static int send_again(struct nofs *it, size_t place)
+{
+    size_t from = it->starts[place], to = place + 1 < it->count ? it->starts[place + 1] : it->out.length;
+    return exchange(it, it->out.bytes + from, to - from, &it->replies[place], 1, 0);
+}
+
+/* One step of the batch, whose reply is known, until it is accepted or refused for good. */
+static int persist(struct nofs *it, size_t place)
+{
+    struct nofs_reply *reply = &it->replies[place];
+    for (int round = 0; round < ROUNDS; round++) {
+        size_t at = reply->answer == NOFS_FULL ? 16 : 0;
+        if ((reply->answer != NOFS_FULL && reply->answer != NOFS_INODES_FULL) || reply->length < at + 16) break;
+        if (get_number(reply->bytes + at, 8) == 0) break;
+        int answer = examine(it, reply->answer, get_number(reply->bytes + at + 8, 8));
+        if (!answer) answer = send_again(it, place);
+        if (answer) return answer;
+    }
+    return reply->answer;
+}
+
+int nofs_claim(struct nofs *it, size_t *done)
+{
+    size_t place = 0;
+    int answer = nofs_send(it);
+    while (!answer && place < it->count && !it->replies[place].answer) place++;
+    while (!answer && place < it->count && !(answer = persist(it, place)))
+        /* it may have been refused for the sake of that one */
+        if (++place < it->count) answer = send_again(it, place);
+    if (done) *done = place;
+    return answer;
+}
+
+/* Replies */
+
+/* What is left of a body; one that is too short, or not used up, comes from no NoFS. */
+struct body { const uint8_t *bytes; size_t length; int bad; };
+
+static struct body body_of(const struct nofs_reply *reply) { return (struct body){reply->bytes, reply->length, 0}; }
 
 static const uint8_t *take(struct body *it, size_t count)
 {
     static const uint8_t none[NOFS_SLOT_BYTES];
-    if (it->length - it->place < count) {
-        it->cut = 1;
+    if (it->length < count) {
+        it->bad = 1;
         return none;
     }
-    it->place += count;
-    return it->bytes + it->place - count;
+    it->bytes += count;
+    it->length -= count;
+    return it->bytes - count;
 }
 
-static uint64_t number(struct body *it, int count)
-{
-    const uint8_t *bytes = take(it, (size_t)count);
-    uint64_t number = 0;
-    while (count--) number = number << 8 | bytes[count];
-    return number;
-}
+static uint64_t number(struct body *it, int bytes) { return get_number(take(it, (size_t)bytes), bytes); }
 
 static struct nofs_at read_at(struct body *it)
 {
     struct nofs_at at;
     at.inode = (uint32_t)number(it, 4);
     at.generation = number(it, 8);
+    if (at.inode == 0) it->bad = 1;
     return at;
 }
 
-static int read_all(int of, uint8_t *into, size_t length)
+static enum nofs_kind read_kind(struct body *it)
 {
-    while (length) {
-        ssize_t got = read(of, into, length);
-        if (got < 0 && errno == EINTR) continue;
-        if (got <= 0) return NOFS_ENDED;
-        into += got;
-        length -= (size_t)got;
-    }
-    return NOFS_OK;
+    uint64_t kind = number(it, 1);
+    if (kind != NOFS_FILE && kind != NOFS_DIRECTORY) it->bad = 1;
+    return kind == NOFS_DIRECTORY ? NOFS_DIRECTORY : NOFS_FILE;
 }
 
-/* Where the program ended no signal comes. */
-static int write_all(int to, const uint8_t *from, size_t length)
+static int whole(const struct body *it) { return it->bad || it->length ? NOFS_NONSENSE : NOFS_OK; }
+
+int nofs_take_found(const struct nofs_reply *reply, struct nofs_found *found)
 {
-    while (length) {
-        ssize_t put = send(to, from, length, MSG_NOSIGNAL);
-        if (put < 0 && errno == EINTR) continue;
-        if (put <= 0) return NOFS_ENDED;
-        from += put;
-        length -= (size_t)put;
-    }
-    return NOFS_OK;
+    struct body body = body_of(reply);
+    if (reply->answer) return reply->answer;
+    found->at = read_at(&body);
+    found->kind = read_kind(&body);
+    return whole(&body);
 }
 
-/* Sends one request, and takes its reply. */
-static int exchange(struct nofs *it, const struct body *request, struct body *reply)
+int nofs_take_made(const struct nofs_reply *reply, struct nofs_at *made)
 {
-    uint8_t frame[4 + BODY_BYTES], head[4];
-    for (int n = 0; n < 4; n++) frame[n] = (uint8_t)(request->length >> 8 * n);
-    memcpy(frame + 4, request->bytes, request->length);
-    if (write_all(it->socket, frame, 4 + request->length) || read_all(it->socket, head, 4)) return NOFS_ENDED;
-    reply->length = head[0] | (size_t)head[1] << 8 | (size_t)head[2] << 16 | (size_t)head[3] << 24;
-    reply->place = 0;
-    reply->cut = 0;
-    if (reply->length < 1 || reply->length > BODY_BYTES || read_all(it->socket, reply->bytes, reply->length)) return NOFS_ENDED;
-    return (int)number(reply, 1);
+    struct body body = body_of(reply);
+    if (reply->answer) return reply->answer;
+    *made = read_at(&body);
+    return whole(&body);
 }
 
-/* Where the image or its inodes seem full, the least block or inode that was not examined is examined, and the step is
- * asked again, until none is left. */
-static int ask(struct nofs *it, const struct body *request, struct body *reply)
+static void read_line(struct body *it, struct nofs_name *line)
 {
-    for (;;) {
-        int answer = exchange(it, request, reply);
-        if (answer != NOFS_FULL && answer != NOFS_INODES_FULL) return answer;
-        if (answer == NOFS_FULL) take(reply, 16);
-        uint64_t left = number(reply, 8), next = number(reply, 8);
-        if (reply->cut || left == 0) return answer;
-        struct body see = {{0}, 0, 0, 0}, seen;
-        spell(&see, answer == NOFS_FULL ? SEE_BLOCK : SEE_INODE, 1);
-        spell(&see, next, answer == NOFS_FULL ? 8 : 4);
-        answer = exchange(it, &see, &seen);
-        if (answer != NOFS_OK) return answer;
-    }
+    line->kind = read_kind(it);
+    line->dead = number(it, 1) != 0;
+    size_t length = (size_t)number(it, 1);
+    if (length < 1 || length > NOFS_NAME_BYTES) it->bad = 1;
+    else memcpy(line->name, take(it, length), length);
+    if (strlen(line->name) != length || strchr(line->name, '/')) it->bad = 1;
 }
 
-/* The answer of a call whose reply was read: one that was cut comes from no NoFS. */
-static int whole(int answer, const struct body *reply) { return answer == NOFS_OK && reply->cut ? NOFS_ENDED : answer; }
-
-static struct body begin(enum step step, struct nofs_at at)
+int nofs_take_names(const struct nofs_reply *reply, uint64_t slot, struct nofs_names *names)
 {
-    struct body it = {{0}, 0, 0, 0};
-    spell(&it, step, 1);
-    spell_at(&it, at);
-    return it;
+    struct body body = body_of(reply);
+    if (reply->answer) return reply->answer;
+    memset(names, 0, sizeof *names);
+    uint64_t kind = number(&body, 1), count = 0;
+    names->end = kind == 3;
+    names->lost = kind == 2;
+    if (!names->end) names->slot = number(&body, 8);
+    if (kind == 1) count = number(&body, 1);
+    if (kind < 1 || kind > 3 || count > NOFS_SLOT_NAMES) return NOFS_NONSENSE;
+    if (!names->end && (names->slot < slot || names->slot >= NOFS_DIRECTORY_SLOTS)) return NOFS_NONSENSE;
+    for (; names->count < (int)count && !body.bad; names->count++) read_line(&body, &names->names[names->count]);
+    return whole(&body);
 }
 
-static struct body begin_named(enum step step, struct nofs_at directory, const char *name)
+int nofs_take_stat(const struct nofs_reply *reply, struct nofs_stat *stat)
 {
-    struct body it = begin(step, directory);
-    spell_name(&it, name);
-    return it;
+    struct body body = body_of(reply);
+    if (reply->answer) return reply->answer;
+    stat->kind = read_kind(&body);
+    stat->size = number(&body, 8);
+    stat->links = (uint32_t)number(&body, 4);
+    if (stat->size > (uint64_t)NOFS_FILE_SLOTS * NOFS_SLOT_BYTES) body.bad = 1;
+    return whole(&body);
 }
 
-int nofs_open(struct nofs *it, const char *program, const char *image)
+int nofs_take_value(const struct nofs_reply *reply, enum nofs_value *value, const uint8_t **bytes)
 {
-    int ends[2];
-    if (socketpair(AF_UNIX, SOCK_STREAM, 0, ends)) return NOFS_ENDED;
-    it->child = fork();
-    if (it->child == 0) {
-        dup2(ends[1], 0);
-        dup2(ends[1], 1);
-        close(ends[0]);
-        close(ends[1]);
-        execl(program, program, image, "wire", (char *)0);
-        _exit(127);
-    }
-    close(ends[1]);
-    it->socket = ends[0];
-    if (it->child > 0) return NOFS_OK;
-    close(it->socket);
-    return NOFS_ENDED;
+    static const uint8_t zeros[NOFS_SLOT_BYTES];
+    struct body body = body_of(reply);
+    if (reply->answer) return reply->answer;
+    uint64_t kind = number(&body, 1);
+    if (kind < NOFS_BYTES || kind > NOFS_LOST) return NOFS_NONSENSE;
+    *value = (enum nofs_value)kind;
+    *bytes = *value == NOFS_BYTES ? take(&body, NOFS_SLOT_BYTES) : zeros;
+    return whole(&body);
 }
 
-int nofs_close(struct nofs *it)
-{
-    int status;
-    shutdown(it->socket, SHUT_WR);
-    while (waitpid(it->child, &status, 0) < 0)
-        if (errno != EINTR) return NOFS_ENDED;
-    close(it->socket);
-    return WIFEXITED(status) ? WEXITSTATUS(status) : NOFS_ENDED;
-}
+/* One step: the batch of it alone */
+
+static int claim_one(struct nofs *it) { return nofs_claim(it, NULL); }
 
 int nofs_look(struct nofs *it, struct nofs_at directory, const char *name, struct nofs_found *found)
 {
-    struct body request = begin_named(LOOK, directory, name), reply;
-    int answer = ask(it, &request, &reply);
-    if (answer != NOFS_OK) return answer;
-    found->at = read_at(&reply);
-    found->kind = (enum nofs_kind)number(&reply, 1);
-    return whole(answer, &reply);
+    nofs_begin(it);
+    nofs_add_look(it, directory, name);
+    int answer = claim_one(it);
+    return answer ? answer : nofs_take_found(it->replies, found);
 }
 
 int nofs_make(struct nofs *it, struct nofs_at directory, const char *name, enum nofs_kind kind, struct nofs_at *made)
 {
-    struct body request = begin_named(MAKE, directory, name), reply;
-    spell(&request, kind, 1);
-    int answer = ask(it, &request, &reply);
-    if (answer != NOFS_OK) return answer;
-    *made = read_at(&reply);
-    return whole(answer, &reply);
+    nofs_begin(it);
+    nofs_add_make(it, directory, name, kind);
+    int answer = claim_one(it);
+    return answer ? answer : nofs_take_made(it->replies, made);
 }
 
 int nofs_link(struct nofs *it, struct nofs_at directory, const char *name, struct nofs_at file)
 {
-    struct body request = begin_named(LINK, directory, name), reply;
-    spell_at(&request, file);
-    return ask(it, &request, &reply);
+    nofs_begin(it);
+    nofs_add_link(it, directory, name, file);
+    return claim_one(it);
 }
 
 int nofs_drop(struct nofs *it, struct nofs_at directory, const char *name)
 {
-    struct body request = begin_named(DROP, directory, name), reply;
-    return ask(it, &request, &reply);
+    nofs_begin(it);
+    nofs_add_drop(it, directory, name);
+    return claim_one(it);
 }
 
 int nofs_rename(struct nofs *it, struct nofs_at directory, const char *name, const char *new_name)
 {
-    struct body request = begin_named(RENAME, directory, name), reply;
-    spell_name(&request, new_name);
-    return ask(it, &request, &reply);
+    nofs_begin(it);
+    nofs_add_rename(it, directory, name, new_name);
+    return claim_one(it);
 }
 
 int nofs_list(struct nofs *it, struct nofs_at directory, uint64_t slot, struct nofs_names *names)
 {
-    struct body request = begin(LIST, directory), reply;
-    spell(&request, slot, 8);
-    int answer = ask(it, &request, &reply);
-    if (answer != NOFS_OK) return answer;
-    memset(names, 0, sizeof *names);
-    uint64_t kind = number(&reply, 1);
-    names->end = kind == 3;
-    names->lost = kind == 2;
-    if (!names->end) names->slot = number(&reply, 8);
-    if (kind == 1) names->count = (int)number(&reply, 1);
-    if (names->count > NOFS_SLOT_NAMES) return NOFS_ENDED;
-    for (int n = 0; n < names->count; n++) {
-        struct nofs_name *line = &names->names[n];
-        line->kind = (enum nofs_kind)number(&reply, 1);
-        line->dead = (int)number(&reply, 1);
-        size_t length = (size_t)number(&reply, 1);
-        if (length > NOFS_NAME_BYTES) return NOFS_ENDED;
-        memcpy(line->name, take(&reply, length), length);
-    }
-    return whole(answer, &reply);
+    nofs_begin(it);
+    nofs_add_list(it, directory, slot);
+    int answer = claim_one(it);
+    return answer ? answer : nofs_take_names(it->replies, slot, names);
 }
 
 int nofs_stat(struct nofs *it, struct nofs_at at, struct nofs_stat *stat)
 {
-    struct body request = begin(STAT, at), reply;
-    int answer = ask(it, &request, &reply);
-    if (answer != NOFS_OK) return answer;
-    stat->kind = (enum nofs_kind)number(&reply, 1);
-    stat->size = number(&reply, 8);
-    stat->links = (uint32_t)number(&reply, 4);
-    return whole(answer, &reply);
+    nofs_begin(it);
+    nofs_add_stat(it, at);
+    int answer = claim_one(it);
+    return answer ? answer : nofs_take_stat(it->replies, stat);
 }
 
-int nofs_get(struct nofs *it, struct nofs_at file, uint64_t slot, uint8_t bytes[NOFS_SLOT_BYTES], enum nofs_value *value)
+int nofs_get(struct nofs *it, struct nofs_at file, uint64_t slot, uint8_t bytes[NOFS_SLOT_BYTES],
+             enum nofs_value *value)
 {
-    struct body request = begin(GET, file), reply;
-    spell(&request, slot, 8);
-    int answer = ask(it, &request, &reply);
-    if (answer != NOFS_OK) return answer;
-    *value = (enum nofs_value)number(&reply, 1);
-    if (*value == NOFS_BYTES) memcpy(bytes, take(&reply, NOFS_SLOT_BYTES), NOFS_SLOT_BYTES);
-    else memset(bytes, 0, NOFS_SLOT_BYTES);
-    return whole(answer, &reply);
+    const uint8_t *from;
+    nofs_begin(it);
+    nofs_add_get(it, file, slot);
+    int answer = claim_one(it);
+    if (!answer) answer = nofs_take_value(it->replies, value, &from);
+    if (!answer) memcpy(bytes, from, NOFS_SLOT_BYTES);
+    return answer;
 }
 
 int nofs_put(struct nofs *it, struct nofs_at file, uint64_t slot, uint32_t place, const void *bytes, size_t length)
 {
-    if (length > NOFS_SLOT_BYTES) return NOFS_BAD_RANGE;
-    struct body request = begin(PUT, file), reply;
-    spell(&request, slot, 8);
-    spell(&request, place, 4);
-    memcpy(request.bytes + request.length, bytes, length);
-    request.length += length;
-    return ask(it, &request, &reply);
+    nofs_begin(it);
+    nofs_add_put(it, file, slot, place, bytes, length);
+    return claim_one(it);
 }
 
 int nofs_resize(struct nofs *it, struct nofs_at file, uint64_t size)
 {
-    struct body request = begin(RESIZE, file), reply;
-    spell(&request, size, 8);
-    return ask(it, &request, &reply);
+    nofs_begin(it);
+    nofs_add_resize(it, file, size);
+    return claim_one(it);
 }
 
 int nofs_flush(struct nofs *it)
 {
-    struct nofs_at all = {0, 0};
-    struct body request = begin(FLUSH, all), reply;
-    return ask(it, &request, &reply);
+    nofs_begin(it);
+    nofs_add_flush(it);
+    int answer = claim_one(it);
+    if (!answer) it->changed = 0;
+    return answer;
+}
+
+int nofs_see_inode(struct nofs *it, uint32_t inode)
+{
+    nofs_begin(it);
+    nofs_add_see_inode(it, inode);
+    return claim_one(it);
+}
+
+int nofs_see_block(struct nofs *it, uint64_t block)
+{
+    nofs_begin(it);
+    nofs_add_see_block(it, block);
+    return claim_one(it);
 }

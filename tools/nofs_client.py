@@ -1,11 +1,15 @@
 #!/usr/bin/env python3
 """Lists a directory of a NoFS image, puts a file into it and gets one, by frames (docs/FORMAT.md, "Frames").
 
-    nofs_client.py NOFS IMAGE list PATH | put PATH FILE | get PATH
+    tools/nofs_client.py ./nofs disk.img list /
+    tools/nofs_client.py ./nofs disk.img put /notes notes.txt
+    tools/nofs_client.py ./nofs disk.img get /notes
 
-NOFS is the program, which serves frames as `NOFS IMAGE wire` over its standard input and output. `get` writes the bytes to
-standard output. Status: 0 done, 1 refused, 2 wrong words, 3 the program ended.
+The program serves frames as `NOFS IMAGE wire` over its standard input and output. `get` writes the bytes to standard output.
+
+Status: 0 done, 1 refused, 2 wrong words, 3 the program ended.
 """
+import argparse
 import struct
 import subprocess
 import sys
@@ -148,13 +152,25 @@ def run(wire, command, path, *words):
     return 0
 
 
-def main(words):
-    if len(words) < 4 or (words[2], len(words)) not in (("list", 4), ("put", 5), ("get", 4)):
-        print(__doc__, file=sys.stderr)
-        return 2
-    wire = Wire(*words[:2])
+def words_of():
+    parser = argparse.ArgumentParser(
+        description=__doc__.splitlines()[0], epilog="\n".join(__doc__.splitlines()[1:]), formatter_class=argparse.RawDescriptionHelpFormatter)
+    parser.add_argument("nofs", metavar="NOFS", help="the program")
+    parser.add_argument("image", metavar="IMAGE", help="its first word")
+    parser.add_argument("command", choices=("list", "put", "get"))
+    parser.add_argument("path", metavar="PATH")
+    parser.add_argument("file", metavar="FILE", nargs="?", help="the file whose bytes are put")
+    words = parser.parse_args()
+    if (words.command == "put") != (words.file is not None):
+        parser.error("put, and no other command, takes a file")
+    return words
+
+
+def main():
+    words = words_of()
+    wire = Wire(words.nofs, words.image)
     try:
-        status = run(wire, *words[2:])
+        status = run(wire, words.command, words.path, *([words.file] if words.file else []))
         return 3 if wire.close() else status
     except Refused as refused:
         print(refused, file=sys.stderr)
@@ -166,4 +182,4 @@ def main(words):
 
 
 if __name__ == "__main__":
-    sys.exit(main(sys.argv[1:]))
+    sys.exit(main())

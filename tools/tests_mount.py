@@ -1,11 +1,13 @@
 """tools/nofs-mount: an image as a directory, used by the programs that people use. Left out where there is no /dev/fuse."""
 import errno
+import functools
 import os
 import random
 import shutil
 import signal
 import subprocess
 import sys
+import tempfile
 import time
 import unittest
 
@@ -13,10 +15,20 @@ from tests_common import NOFS, TOOLS, Folders, read, run, serve, tree, write
 
 CELL = 1056
 SECONDS = 60
+MOUNT = os.environ.get("NOFS_MOUNT") or os.path.join(TOOLS, "nofs-mount")
 
 
 def has_fuse():
     return os.access("/dev/fuse", os.R_OK | os.W_OK) and (os.getuid() == 0 or shutil.which("fusermount3") is not None)
+
+
+@functools.cache
+def empty_image(blocks, inodes):
+    """The bytes of a new image of version 2, made once for all cases."""
+    with tempfile.TemporaryDirectory(prefix="nofs-empty-") as room:
+        image = os.path.join(room, "disk.img")
+        run([MOUNT, "--nofs", NOFS, "--new", image, str(blocks), str(inodes)])
+        return read(image)
 
 
 def lose(image, content):
@@ -34,21 +46,21 @@ def lose(image, content):
 class Mounted(Folders):
     """An image of version 2 that is mounted."""
 
-    blocks, inodes = 16384, 1024
+    blocks, inodes = 4096, 256
+    nofs = NOFS
 
     def setUp(self):
         super().setUp()
         self.image, self.top = self.at("disk.img"), self.at("top")
         os.mkdir(self.top)
-        serve(self.image, b"", "new", str(self.blocks), str(self.inodes))
-        self.assertEqual(serve(self.image, b"", "upgrade"), ["upgraded"])
+        write(self.image, empty_image(self.blocks, self.inodes))
         self.mount = None
         self.addCleanup(self.drop)
         self.remount()
 
-    def remount(self):
+    def remount(self, *more, image=None):
         self.unmount()
-        words = [sys.executable, os.path.join(TOOLS, "nofs-mount"), "--nofs", NOFS, self.image, self.top]
+        words = [MOUNT, "--nofs", self.nofs, *more, image or self.image, self.top]
         self.said = open(self.at("said"), "wb")
         self.mount = subprocess.Popen(words, stderr=self.said)
         limit = time.monotonic() + SECONDS
@@ -56,6 +68,12 @@ class Mounted(Folders):
             if self.mount.poll() is not None or time.monotonic() > limit:
                 raise AssertionError(f"not mounted: {read(self.at('said'))!r}")
             time.sleep(0.02)
+
+    def renew(self):
+        """A new image, mounted."""
+        self.unmount()
+        write(self.image, empty_image(self.blocks, self.inodes))
+        self.remount()
 
     def drop(self):
         """Ends the mount whatever a case left open in it."""
@@ -68,10 +86,17 @@ class Mounted(Folders):
     def unmount(self, how=None, status=0):
         """Ends the mount, by `umount` or as asked, and asks for its status."""
         if self.mount:
-            (how or (lambda: subprocess.run(["umount", self.top], check=True)))()
+            (how or self.umount)()
             mount, self.mount = self.mount, None
             self.assertEqual(mount.wait(SECONDS), status, read(self.at("said")))
             self.said.close()
+
+    def umount(self):
+        """A program that has just ended may be in it for a moment still."""
+        limit = time.monotonic() + SECONDS
+        while subprocess.run(["umount", self.top], stderr=subprocess.DEVNULL).returncode:
+            self.assertLess(time.monotonic(), limit, "busy")
+            time.sleep(0.1)
 
     def path(self, *names):
         return os.path.join(self.top, *names)
@@ -171,13 +196,14 @@ class Names(Mounted):
         self.assertEqual(tree(self.top), {"e": None, "e/d": None, "e/d/g": b"moved"})
 
     def test_1152_names_are_listed_and_the_next_is_refused(self):
+        os.mkdir(self.path("d"))
         for number in range(1152):
-            os.mknod(self.path(f"n{number}"))
-        self.refused(errno.ENOSPC, os.mknod, self.path("one-more"))
+            os.mknod(self.path("d", f"n{number}"))
+        self.refused(errno.ENOSPC, os.mknod, self.path("d", "one-more"))
         self.remount()
-        self.assertEqual(sorted(os.listdir(self.top)), sorted(f"n{number}" for number in range(1152)))
+        self.assertEqual(sorted(os.listdir(self.path("d"))), sorted(f"n{number}" for number in range(1152)))
 
-    blocks, inodes = 16384, 1200
+    blocks, inodes = 4096, 1200
 
 
 class Refusals(Mounted):
@@ -263,6 +289,17 @@ class Losses(Mounted):
         self.assertEqual(read(self.path("f")), data)
         self.assertIn(b"slot 2 of inode", read(self.at("said")))
 
+    def test_a_large_file_is_read_up_to_the_page_first_and_up_to_the_slot_then(self):
+        data = random.Random(8).randbytes(200000)
+        write(self.path("f"), data)
+        self.unmount()
+        self.assertEqual(lose(self.image, data[103 * 1024:104 * 1024]), 1)
+        self.remount()
+        for end in (100 * 1024, 103 * 1024):
+            done = subprocess.run(["cat", self.path("f")], capture_output=True)
+            self.assertEqual((len(done.stdout), done.returncode), (end, 1))
+            self.assertEqual(done.stdout, data[:end])
+
     def test_what_was_synced_outlives_a_killed_program_and_open_files_hear_of_it(self):
         for number in range(20):
             with open(self.path(f"kept{number}"), "wb", buffering=0) as file:
@@ -297,10 +334,68 @@ class Losses(Mounted):
     def test_an_image_that_is_mounted_is_in_use(self):
         other = self.at("other")
         os.mkdir(other)
-        done = subprocess.run([sys.executable, os.path.join(TOOLS, "nofs-mount"), "--nofs", NOFS, self.image, other], capture_output=True)
+        done = subprocess.run([MOUNT, "--nofs", NOFS, self.image, other], capture_output=True)
         self.assertEqual(done.returncode, 1)
         self.assertIn(b"in use", done.stderr)
         self.assertFalse(os.path.ismount(other))
+
+
+class Arguments(Mounted):
+    """What the mount is given."""
+
+    def test_an_image_of_two_files_is_mounted_by_its_word(self):
+        word = f"mirror:{self.blocks}:{self.at('a.img')}:{self.at('b.img')}"
+        run([MOUNT, "--nofs", NOFS, "--new", word, str(self.blocks), str(self.inodes)])
+        self.remount(image=word)
+        write(self.path("f"), b"in both")
+        other = subprocess.run([MOUNT, "--nofs", NOFS, word, self.top], capture_output=True)
+        self.assertEqual((other.returncode, b"in use" in other.stderr), (1, True))
+        self.unmount()
+        for image in ("a.img", "b.img"):
+            self.assertEqual(serve(self.at(image), b"get /f 0 9"), ["got bytes:" + b"in both".hex()])
+
+    def test_an_image_of_version_1_is_mounted_with_its_smaller_files(self):
+        self.unmount()
+        os.remove(self.image)
+        serve(self.image, b"", "new", "4096", "256")
+        self.remount()
+        write(self.path("f"), b"x" * 73728)
+        os.chmod(self.path("f"), 0o600)
+        self.refused(errno.EFBIG, os.truncate, self.path("f"), 73729)
+        self.remount()
+        self.assertEqual((os.stat(self.path("f")).st_size, os.stat(self.path("f")).st_mode & 0o777), (73728, 0o600))
+
+    def test_an_image_without_room_for_the_folder_of_the_mount_is_mounted_without_it(self):
+        self.unmount()
+        os.remove(self.image)
+        serve(self.image, b"make /a\nmake /b\n", "new", "64", "4")
+        self.remount()
+        self.assertIn(b"no hidden folder", read(self.at("said")))
+        write(self.path("a"), b"kept")
+        os.replace(self.path("a"), self.path("b"))
+        self.remount()
+        self.assertEqual(tree(self.top), {"b": b"kept"})
+
+    def test_a_mount_that_cannot_be_says_why(self):
+        write(self.at("none.img"), bytes(5000))
+        for words, status in (((self.at("none.img"), self.at("top2")), 1), ((self.at("missing"), self.at("top2")), 1), ((self.image,), 2), (("--new", "x"), 2),
+                              (("--flush", "x", self.image, self.top), 2), (("--other", self.image, self.top), 2)):
+            done = subprocess.run([MOUNT, "--nofs", NOFS, *words], capture_output=True)
+            self.assertEqual((done.returncode, done.stderr[:12]), (status, b"nofs-mount: "), words)
+
+    def test_help_has_lines_of_120_columns(self):
+        said = run([MOUNT, "--help"])[0].decode()
+        self.assertIn("What is durable when", said)
+        self.assertLessEqual(max(map(len, said.split("\n"))), 120)
+
+    @unittest.skipIf(os.environ.get("NOFS_MOUNT"), "the server is given")
+    def test_where_no_compiler_is_the_script_says_so(self):
+        shutil.copytree(TOOLS, self.at("tools"), ignore=shutil.ignore_patterns("out", "__pycache__"))
+        os.mkdir(self.at("bin"))
+        for name in ("sh", "dirname", "find", "head"):
+            os.symlink(shutil.which(name), self.at("bin", name))
+        done = subprocess.run(["/bin/sh", self.at("tools", "nofs-mount"), "--help"], env={"PATH": self.at("bin")}, capture_output=True)
+        self.assertEqual((done.returncode, b"a C compiler is missing" in done.stderr), (7, True), done.stderr)
 
 
 class Long(Mounted):
