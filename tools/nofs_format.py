@@ -6,6 +6,8 @@ import os
 import struct
 from typing import NamedTuple, Optional
 
+import nofs_pages
+
 PAYLOAD, CELL = 1024, 1056
 NOTHING, CONTENT, DIRECTORY, LEAF, TABLE, SUPER = range(6)
 FREE, FILE, FOLDER = range(3)
@@ -131,7 +133,7 @@ class Image:
     def __init__(self, path):
         with open(path, "rb") as file:
             length = os.fstat(file.fileno()).st_size
-            self.data = mmap.mmap(file.fileno(), 0, access=mmap.ACCESS_READ) if length else b""
+            self.data, self.bad_pages = nofs_pages.cells_of(mmap.mmap(file.fileno(), 0, access=mmap.ACCESS_READ) if length else b"")
         magic, self.version, _, self.blocks, self.inodes, self.mount = struct.unpack("<8sIIQQQ", self.payload(0)[:40])
         fault = self.fault(magic)
         if fault:

@@ -1,5 +1,6 @@
 """Reads an image by the proved reader for C (crates/nofs_reader_c), where `./nofs --reader` has built it: without a mount, and
-with the lines that the program has for `list`, `stat` and `get`."""
+with the lines that the program has for `list`, `stat` and `get`. Where a page can't be told, a line goes on behind it, and has
+`/unread:PLACE` and `unread:LENGTH` for what stood there."""
 import ctypes
 import os
 import struct
@@ -9,10 +10,14 @@ LIBRARY = os.path.normpath(os.path.join(HOME, "crates", "nofs_reader_c", "out", 
 ROOT, LABEL = 1, 2
 SLOT, SLOTS = 1024, {1: 72, 2: 4168}
 FILE, FOLDER = 1, 2
-NOTHING, ENTRY, DEAD, LOST_SLOT = range(4)
-BYTES, HOLES = 1, 2
+NOTHING, ENTRY, DEAD, LOST_SLOT, UNREAD = range(5)
+BYTES, HOLES, LOST, NOT_READ = 1, 2, 3, 4
+PLACES = 1152
+BAD_PAGE = 15
+PARTS = {HOLES: b"hole", LOST: b"lost", NOT_READ: b"unread"}
 FAULTS = {1: "bad magic", 2: "bad version", 3: "a byte that is not zero", 4: "bad geometry", 5: "device too small", 6: "mounts spent"}
-REFUSED = {7: "14 stale", 8: "5 not a directory", 9: "6 is a directory", 10: "12 too large"}
+REFUSED = {7: "14 stale", 8: "5 not a directory", 9: "6 is a directory", 10: "12 too large",
+           BAD_PAGE: "18 read fault"}
 
 
 def is_built():
@@ -25,6 +30,10 @@ class NoImage(Exception):
 
 class Refused(Exception):
     """A command was refused, with the text of its line."""
+
+
+class BadPage(Refused):
+    """A page that the answer needs can't be told."""
 
 
 class Reader:
@@ -41,7 +50,7 @@ class Reader:
         if code in FAULTS:
             raise NoImage(FAULTS[code])
         if code:
-            raise Refused(REFUSED[code])
+            raise (BadPage if code == BAD_PAGE else Refused)(REFUSED[code])
         return struct.unpack(answer, self.out.raw[:struct.calcsize(answer)])
 
     def stat(self, inode):
@@ -49,11 +58,18 @@ class Reader:
         return self.call("stat", "<2I2Q", ctypes.c_uint32(inode))
 
     def lines(self, directory):
-        """What stands in a directory, place by place: what it is, the place, the inode, its kind, its generation and the name."""
+        """What stands in a directory, place by place: what it is, the place, the inode, its kind, its generation and the name. A place
+        that can't be read is one, too."""
         place = 0
-        while True:
-            what, place, inode, kind, generation, length, name = self.call(
-                "next", "<4I2Q48s", ctypes.c_uint32(directory), ctypes.c_uint32(place))
+        self.stat(directory)
+        while place < PLACES:
+            try:
+                what, place, inode, kind, generation, length, name = self.call(
+                    "next", "<4I2Q48s", ctypes.c_uint32(directory), ctypes.c_uint32(place))
+            except BadPage:
+                yield UNREAD, place, 0, 0, 0, b""
+                place += 1
+                continue
             if what == NOTHING:
                 return
             yield what, place, inode, kind, generation, name[:length]
@@ -62,8 +78,11 @@ class Reader:
     def runs(self, inode, first, last):
         """What the slots of a file from one to another are, run by run: what they are, how many, and their bytes."""
         while first < last:
-            what, count = self.call("get", "<2Q", ctypes.c_uint32(inode), ctypes.c_uint64(first), self.room,
-                                    ctypes.c_size_t(min(len(self.room), SLOT * (last - first))))
+            try:
+                what, count = self.call("get", "<2Q", ctypes.c_uint32(inode), ctypes.c_uint64(first), self.room,
+                                        ctypes.c_size_t(min(len(self.room), SLOT * (last - first))))
+            except BadPage:
+                what, count = NOT_READ, 1
             yield what, count, self.room.raw[:SLOT * count] if what == BYTES else b""
             first += count
 
@@ -96,7 +115,7 @@ class Reader:
     def list_line(self, directory):
         parts = [b"names"]
         for what, place, _, kind, _, name in self.lines(directory):
-            lost = {LOST_SLOT: b"/lost:%d" % (place // 16), DEAD: b"/dead:" + name}
+            lost = {LOST_SLOT: b"/lost:%d" % (place // 16), DEAD: b"/dead:" + name, UNREAD: b"/unread:%d" % place}
             parts.append(lost.get(what, name + b"/" * (kind == FOLDER)))
         return b" ".join(parts)
 
@@ -116,5 +135,5 @@ class Reader:
             for at in range(count):
                 first, last = max(offset - SLOT * (number + at), 0), min(end - SLOT * (number + at), SLOT)
                 some = data[SLOT * at + first:SLOT * at + last].hex().encode()
-                yield b"bytes:" + some if what == BYTES else b"%s:%d" % (b"hole" if what == HOLES else b"lost", last - first)
+                yield b"bytes:" + some if what == BYTES else b"%s:%d" % (PARTS[what], last - first)
             number += count

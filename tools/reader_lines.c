@@ -4,6 +4,7 @@
  *     reader_lines IMAGE < session       a line for each `stat PATH`, `list PATH` and `get PATH OFFSET LENGTH`; `?` for another
  *     reader_lines IMAGE scan            the line of a scan
  *     reader_lines IMAGE speed           the processor time of a copy of the image, and of a read of all files, and their bytes
+ *     reader_lines IMAGE count           the processor time of a scan
  *
  * The image lies in pages that can only be read, and ends where a page begins that can't: so a write, and a read past its end, ends
  * the program. */
@@ -43,6 +44,7 @@ static void refused(uint32_t code)
     case NOFS_READER_NOT_DIRECTORY: puts("refused 5 not a directory"); break;
     case NOFS_READER_IS_DIRECTORY: puts("refused 6 is a directory"); break;
     case NOFS_READER_TOO_LARGE: puts("refused 12 too large"); break;
+    case NOFS_READER_BAD_PAGE: puts("refused 18 read fault"); break;
     default: printf("fault %u\n", code);
     }
 }
@@ -98,28 +100,37 @@ static void stat_line(uint32_t inode)
 static void list_line(uint32_t directory)
 {
     struct nofs_reader_line line;
-    uint32_t code = nofs_reader_next(image, size, directory, 0, &line);
+    struct nofs_reader_inode it;
+    uint32_t code = nofs_reader_stat(image, size, directory, &it);
+    if (!code && it.kind != NOFS_READER_DIRECTORY)
+        code = NOFS_READER_NOT_DIRECTORY;
     if (code)
         return refused(code);
     printf("names");
-    while (!code && line.what) {
-        if (line.what == NOFS_READER_LOST_SLOT) {
+    for (uint32_t place = 0; place < 1152; place = line.place + 1) {
+        code = nofs_reader_next(image, size, directory, place, &line);
+        if (code) {
+            line.place = place;
+            printf(" /unread:%u", place);
+        } else if (line.what == NOFS_READER_NOTHING) {
+            break;
+        } else if (line.what == NOFS_READER_LOST_SLOT) {
             printf(" /lost:%u", line.place / NOFS_READER_SLOT_PLACES);
         } else {
             printf(line.what == NOFS_READER_DEAD ? " /dead:" : " ");
             fwrite(line.name, 1, line.length, stdout);
             printf(line.kind == NOFS_READER_DIRECTORY ? "/" : "");
         }
-        code = nofs_reader_next(image, size, directory, line.place + 1, &line);
     }
     puts("");
 }
 
-/* The part of a slot from one byte to another. */
+/* The part of a slot from one byte to another; where `what` is 0 it was not read. */
 static void part(uint64_t what, const uint8_t *bytes, uint64_t first, uint64_t last)
 {
+    static const char *const words[] = {"unread", "bytes", "hole", "lost"};
     if (what != NOFS_READER_BYTES) {
-        printf(" %s:%llu", what == NOFS_READER_HOLES ? "hole" : "lost", (unsigned long long)(last - first));
+        printf(" %s:%llu", words[what], (unsigned long long)(last - first));
         return;
     }
     printf(" bytes:");
@@ -145,7 +156,7 @@ static void get_line(uint32_t inode, uint64_t offset, uint64_t length)
     while (offset < end && 1024 * slot < end) {
         code = nofs_reader_get(image, size, inode, slot, bytes, sizeof bytes, &run);
         if (code)
-            return refused(code);
+            run = (struct nofs_reader_run){0, 1};
         for (uint64_t n = 0; n < run.slots && 1024 * slot < end; n++, slot++) {
             uint64_t first = offset > 1024 * slot ? offset - 1024 * slot : 0, last = end - 1024 * slot;
             part(run.what, bytes + 1024 * n, first, last < 1024 ? last : 1024);
@@ -176,8 +187,9 @@ static void answer(char *command)
 /* What a scan counts, with the line of the program. */
 static void count_line(void)
 {
+    static uint8_t marks[NOFS_READER_MOST_INODES];
     struct nofs_reader_used it;
-    uint32_t code = nofs_reader_counts(image, size, &it);
+    uint32_t code = nofs_reader_counts(image, size, marks, numbers.inodes, &it);
     if (code)
         return refused(code);
     printf("inodes used %llu free %llu unchecked 0, ", (unsigned long long)it.used_inodes, (unsigned long long)(it.inodes - it.used_inodes));
@@ -240,8 +252,15 @@ int main(int count, char **words)
     uint32_t code = nofs_reader_superblock(image, size, &numbers);
     if (code)
         return refused(code), 4;
-    if (count == 3)
-        return strcmp(words[2], "scan") ? speed() : count_line(), 0;
+    if (count == 3) {
+        double begin = seconds();
+        if (!strcmp(words[2], "speed"))
+            return speed(), 0;
+        count_line();
+        if (!strcmp(words[2], "count"))
+            printf("seconds %.6f\n", seconds() - begin);
+        return 0;
+    }
     while ((length = getline(&line, &room, stdin)) >= 0) {
         line[strcspn(line, "\n")] = 0;
         answer(line);

@@ -14,6 +14,8 @@ TOOLS = os.path.dirname(os.path.abspath(__file__))
 sys.path.insert(0, TOOLS)
 import damage_cases as damages  # noqa: E402
 import nofs_format as nofs  # noqa: E402
+import nofs_pages as pages  # noqa: E402
+import nofs_reader  # noqa: E402
 from damage_cases import Laying, S  # noqa: E402
 from slow_reader import unmountable  # noqa: E402
 from tests_common import NOFS, Folders, read, run, serve, tree, write  # noqa: E402
@@ -24,6 +26,8 @@ CRATE = os.path.join(HOME, "crates", "nofs_reader_c")
 INCLUDE = os.path.join(CRATE, "include")
 ARCHIVE = os.path.join(CRATE, "out", "libnofs_reader_c.a")
 SHARED = os.path.join(CRATE, "out", "libnofs_reader.so")
+# The layouts that the reader knows, each as it is made of packed cells
+LAYOUTS = {"packed": bytes, "paged": pages.paged, "twin": pages.twin}
 # The code of each fault of a superblock, by the words with which a mount tells it
 FAULTS = {"bad magic": 1, "bad version": 2, "byte": 3, "bad geometry": 4, "device too small": 5, "mounts spent": 6}
 
@@ -64,12 +68,13 @@ class Read(Folders):
         """What is wrong with what the reader says where this is wanted: commands that write, and those behind them, are left out."""
         first = next((at for at, command in enumerate(session) if command.split(b" ")[0] not in READING), len(session))
         want = [code_of(lines[0])] if status == 4 else lines[:first]
-        told = self.told(data, session[:first])
-        if told == (status, want):
-            return []
-        pairs = [(one, other) for one, other in zip(told[1], want) if one != other]
-        one, other = pairs[0] if pairs else (b"%d lines" % len(told[1]), b"%d lines" % len(want))
-        return [f"{name}: the reader {told[0]} {damages.shown(one)[:300]}\n   wanted {status} {damages.shown(other)[:300]}"]
+        for layout, made in LAYOUTS.items():
+            told = self.told(made(data), session[:first])
+            if told != (status, want):
+                pairs = [(one, other) for one, other in zip(told[1], want) if one != other]
+                one, other = pairs[0] if pairs else (b"%d lines" % len(told[1]), b"%d lines" % len(want))
+                return [f"{name}, {layout}: the reader {told[0]} {damages.shown(one)[:300]}\n   wanted {status} {damages.shown(other)[:300]}"]
+        return []
 
 
 class Reader(Read):
@@ -87,7 +92,8 @@ class Reader(Read):
         self.assertGreater(len(runs), 50)
         for case, each in runs:
             want = [code_of(each.lines[0])] if each.status == 4 else each.lines
-            self.assertEqual(self.told(case.data, [], "scan"), (each.status, want), case.name)
+            for layout, made in LAYOUTS.items():
+                self.assertEqual(self.told(made(case.data), [], "scan"), (each.status, want), f"{case.name}, {layout}")
 
     def test_drawn_damages_are_told_as_by_the_definitions(self):
         day, images = damages.image("day2"), []
@@ -128,6 +134,68 @@ class Reader(Read):
             if float(taken) <= 2 * float(copied):
                 return
         self.fail(said)
+
+
+    def test_the_time_of_a_count_does_not_go_with_the_depth_of_directories(self):
+        seconds = {}
+        for name, parent in (("deep", lambda n: n - 1), ("flat", lambda n: (n - 1) // NamedImage.NAMES)):
+            image = NamedImage(parent)
+            write(self.at(name), image.data)
+            for _ in range(3):
+                said = run([self.program, self.at(name), "count"])[0].decode()
+                scan, taken = re.fullmatch(r"(.*)\nseconds (\S+)\n", said).groups()
+                self.assertEqual(scan, "inodes used 65536 free 0 unchecked 0, "
+                                 f"blocks used {image.free} free {image.BLOCKS - image.free} unchecked 0")
+                seconds[name] = min(seconds.get(name, 1e9), float(taken))
+        self.assertLess(seconds["deep"], 3 * seconds["flat"])
+
+
+class NamedImage(Laying):
+    """An image whose 65,536 inodes are the root, the label file, and directories that each have their place in a tree. They are counted
+    from 0, the root; `parent` says of each other one which names it, an earlier one."""
+
+    NAMES, INODES, COUNT = 1152, 65536, 65535
+    BLOCKS = 1 + INODES // 4 + 65534
+
+    def __init__(self, parent):
+        super().__init__()
+        self.new(str(self.BLOCKS), str(self.INODES))
+        self.free = 1 + self.INODES // 4
+        self.records = bytearray(256 * self.INODES)
+        struct.pack_into("<QI", self.records, 256, 2, nofs.FILE)
+        names, links = {}, {}
+        for n in range(1, self.COUNT):
+            above = names.setdefault(parent(n), [])
+            links[n] = (self.inode(parent(n)), len(above), self.generation(parent(n)))
+            above.append(struct.pack("<IIQ48s", self.inode(n), 1 + len(str(n)), self.generation(n), b"d%d" % n))
+        for n in range(self.COUNT):
+            self.directory(n, links.get(n), names.get(n, []))
+        for block in range(self.INODES // 4):
+            self.data[(1 + block) * nofs.CELL:(1 + block) * nofs.CELL + 1024] = self.records[1024 * block:1024 * block + 1024]
+
+    @staticmethod
+    def inode(n):
+        return n + 2 if n else nofs.ROOT
+
+    @staticmethod
+    def generation(n):
+        return S + n if n else 1
+
+    def claim(self, kind, n, slot, payload):
+        """Lays a cell in the next block, and gives its pointer."""
+        pointer = struct.pack("<QQ", self.free, S + 100000 + self.free)
+        tag = struct.pack("<IIQQ", kind, self.inode(n), self.generation(n), slot) + pointer[8:]
+        self.data[self.free * nofs.CELL:(self.free + 1) * nofs.CELL] = payload.ljust(nofs.PAYLOAD, b"\0") + tag
+        self.free += 1
+        return pointer
+
+    def directory(self, n, link, entries):
+        slots = [self.claim(nofs.DIRECTORY, n, slot, b"".join(entries[16 * slot:16 * slot + 16])) for slot in range(-(-len(entries) // 16))]
+        leaf = self.claim(nofs.LEAF, n, nofs.LEAF_SLOT, b"".join(slots[8:])) if slots[8:] else b""
+        links = struct.pack("<IIQ", *link) if link else b""
+        record = (struct.pack("<QIIQQ", self.generation(n), nofs.FOLDER, bool(link), 0, 0) + links.ljust(64, b"\0")
+                  + b"".join(slots[:8]).ljust(128, b"\0") + leaf.ljust(32, b"\0"))
+        self.records[256 * (self.inode(n) - 1):256 * self.inode(n)] = record
 
 
 class FullImage(Laying):
@@ -171,6 +239,224 @@ class FullImage(Laying):
                     "link0", f"1,{inode - 3},1", "leaf", leaf, "top", top, *direct)
 
 
+class BadPages(Read):
+    """What the reader says of an image in pages of which some can't be told."""
+
+    SESSION = ["mkdir /d", "make /d/f", "put /d/f 0 " + "61" * 20480, "size /d/f 30000", "link /d/f /g", "make /h", "put /h 0 " + "62" * 9000,
+               *(f"make /d/n{n}" for n in range(20)), "drop /d/n3"]
+
+    def setUp(self):
+        super().setUp()
+        image = self.at("sound.img")
+        run([NOFS, image, "new", "256", "36"])
+        self.assertFalse([line for line in serve(image, "\n".join(self.SESSION).encode()) if line.startswith("refused")])
+        packed = pages.cells_of(read(image))[0]
+        self.sound, self.tree = pages.paged(packed), nofs.Tree(nofs.Image(image))
+        self.gets = {(path, slot): b"get %b %d 1024" % (path, 1024 * slot) for path, count in ((b"/d/f", 30), (b"/g", 30), (b"/h", 9))
+                     for slot in range(count)}
+        self.commands = [*self.gets.values(), b"list /", b"list /d", b"stat /", b"stat /d", b"stat /d/f", b"stat /g", b"stat /h", b"stat @"]
+        status, self.lines = self.told(self.sound, self.commands)
+        self.assertEqual(status, 0)
+        self.assertFalse([line for line in self.lines if b"refused" in line or b"lost" in line])
+
+    def spoiled(self, number, how):
+        """The image with a page that can't be told."""
+        data = bytearray(self.sound)
+        first = pages.PAGE * number
+        if how == "rotten":
+            data[first + 2000] ^= 1
+        elif how == "torn":
+            data[first + 3584:first + 4096] = b"\7" * 512
+        elif how == "headless":
+            data[first:first + 512] = bytes(512)
+        else:
+            data[first:first + pages.PAGE] = pages.page_of(number + 1, data[first + pages.AREA:first + pages.PAGE])
+        return bytes(data)
+
+    def told_or_not(self, data):
+        """The commands whose lines are refused by a page, where all others are those of the sound image; lists may lack places."""
+        status, lines = self.told(data, self.commands)
+        if status == 4:
+            return lines
+        self.assertEqual((status, len(lines)), (0, len(self.lines)))
+        refused = set()
+        for command, line, sound in zip(self.commands, lines, self.lines):
+            if re.fullmatch(rb"refused 18 read fault|got unread:\d+", line):
+                refused.add(command)
+            elif command.startswith(b"list"):
+                some = [part for part in line.split(b" ") if not part.startswith(b"/unread:")]
+                self.assertLessEqual(set(some), set(sound.split(b" ")), command)
+                if some != sound.split(b" "):
+                    refused.add(command)
+            else:
+                self.assertEqual(line, sound, command)
+        return refused
+
+    def test_a_bad_page_is_refused_by_the_calls_that_need_it_and_by_no_others(self):
+        owners, area, blocks = self.tree.owners(), self.tree.image.area, self.tree.image.blocks
+        paths, content = self.names(), 0
+        for number in range(len(self.sound) // pages.PAGE):
+            here = range(3 * number, min(3 * number + 3, blocks))
+            used = [block for block in here if block < area or block in owners]
+            for how in ("rotten", "torn", "headless", "another's"):
+                if self.spoiled(number, how) == self.sound or not any(self.sound[pages.PAGE * number:pages.PAGE * (number + 1)]):
+                    continue
+                refused = self.told_or_not(self.spoiled(number, how))
+                if not used:
+                    self.assertEqual(refused, set(), (number, how))
+                elif all(block in owners and owners[block][1].wanted.kind == nofs.CONTENT for block in used):
+                    want = {self.gets[path, owners[block][1].number] for block in used for path in paths[owners[block][0]]}
+                    self.assertEqual(refused, want, (number, how))
+                    content += 1
+                elif 0 in here and how != "headless":
+                    self.assertEqual(refused, [b"refused 18 read fault"], how)
+                elif not number:
+                    self.assertEqual(refused, [b"fault 1"], how)
+                else:
+                    self.assertNotEqual(refused, set(), (number, how))
+        self.assertGreater(content, 20)
+
+    def names(self):
+        """The files of the session by their inodes, each with its paths."""
+        found = {}
+        for path in (b"/d/f", b"/g", b"/h"):
+            inode = nofs_reader.Reader(self.sound).resolve(path)
+            found.setdefault(inode, []).append(path)
+        return found
+
+    def test_a_page_of_zeros_and_one_past_the_end_have_cells_of_zeros(self):
+        for number in range(1, len(self.sound) // pages.PAGE):
+            first = pages.PAGE * number
+            packed = bytearray(pages.cells_of(self.sound)[0])
+            packed[pages.CELLS * number:pages.CELLS * (number + 1)] = bytes(pages.CELLS)
+            blank = self.sound[:first] + bytes(pages.PAGE) + self.sound[first + pages.PAGE:]
+            self.assertEqual(self.told(blank, self.commands), self.told(bytes(packed), self.commands), number)
+            cut = self.told(bytes(packed[:pages.CELLS * number]), self.commands)
+            self.assertEqual(self.told(self.sound[:first], self.commands), cut, number)
+
+    def test_a_file_that_ends_within_a_page_has_zeros_behind_it(self):
+        last = len(self.sound.rstrip(b"\0"))
+        number = (last - 1) // pages.PAGE
+        self.assertEqual(self.told(self.sound[:last], self.commands), (0, self.lines))
+        for cut in (last - 1, pages.PAGE * number + 1, pages.PAGE * number + 1000):
+            self.assertEqual(self.told(self.sound[:cut], self.commands), self.told(
+                self.sound[:cut].ljust(len(self.sound), b"\0"), self.commands), cut)
+
+    def test_unpacking_goes_past_bad_pages_and_names_what_is_not_read(self):
+        owners = self.tree.owners()
+        block = next(block for block in sorted(owners) if block % 3 == 0 and all(
+            b in owners and owners[b][1].wanted.kind == nofs.CONTENT for b in range(block, block + 3)))
+        for layout, data in (("paged", self.sound), ("twin", pages.twin(pages.cells_of(self.sound)[0]))):
+            self.assertEqual(self.unpacked(layout, data), (0, b""), layout)
+        data = bytearray(self.sound)
+        data[pages.PAGE * (block // 3) + 2000] ^= 1
+        twin = bytearray(pages.twin(pages.cells_of(self.sound)[0]))
+        twin[2 * pages.PAGE * (block // 3) + 2000] ^= 1
+        twin[2 * pages.PAGE * (block // 3) + pages.PAGE + 2000] ^= 1
+        slots = sorted(owners[b][1].number for b in range(block, block + 3))
+        for name, spoiled in (("paged bad", data), ("twin bad", twin)):
+            status, said = self.unpacked(name, bytes(spoiled))
+            self.assertEqual(status, 1)
+            for slot in slots:
+                self.assertIn(b"slot %d not read, bytes %d to %d, a page of it can't be told" % (slot, 1024 * slot, 1024 * slot + 1023), said)
+            got, want = tree(self.at(name)), tree(self.at("paged"))
+            self.assertEqual(got.keys(), want.keys())
+            for path, content in want.items():
+                for at in range(0, len(content or b""), 1024):
+                    some = content[at:at + 1024] if got[path][at:at + 1024].strip(b"\0") else bytes(len(content[at:at + 1024]))
+                    self.assertEqual(got[path][at:at + 1024], some)
+
+    def unpacked(self, folder, data):
+        write(self.at("unpack.img"), data)
+        done = subprocess.run([sys.executable, os.path.join(TOOLS, "nofs-unpack"), self.at("unpack.img"), self.at(folder)],
+                              stdout=subprocess.PIPE, stderr=subprocess.PIPE)
+        self.assertEqual(done.stdout.decode(), f"read by {SHARED}, without a mount\n")
+        return done.returncode, done.stderr
+
+
+class Twins(Read):
+    """What the reader says of an image in twin pages, by what is left of the places of a page."""
+
+    SESSION = BadPages.SESSION
+
+    def setUp(self):
+        super().setUp()
+        image = self.at("sound.img")
+        run([NOFS, image, "new", "256", "36"])
+        self.assertFalse([line for line in serve(image, "\n".join(self.SESSION).encode()) if line.startswith("refused")])
+        self.cells = pages.cells_of(read(image))[0]
+        self.whole = pages.twin(self.cells)
+        self.commands = [*(b"get %b %d 1024" % (path, 1024 * slot) for path in (b"/d/f", b"/g", b"/h") for slot in range(30)),
+                         b"list /", b"list /d", b"stat /", b"stat /d", b"stat /d/f", b"stat @"]
+        status, self.lines = self.told(self.cells, self.commands)
+        self.assertEqual(status, 0)
+        self.assertFalse([line for line in self.lines if b"refused" in line or b"lost" in line])
+
+    def cells_with(self, number, area):
+        """The packed image where a page has other cells."""
+        cells = bytearray(self.cells.ljust(pages.CELLS * (number + 1), b"\0"))
+        cells[pages.CELLS * number:pages.CELLS * (number + 1)] = area
+        return bytes(cells)
+
+    def twin_with(self, number, one, two):
+        """The image in twin pages where a page has these two places."""
+        data, first = bytearray(self.whole), 2 * pages.PAGE * number
+        data[first:first + 2 * pages.PAGE] = one + two
+        return bytes(data)
+
+    def places(self, number):
+        """What may stand in a place of a page: a version with its cells, and what is none: rotten, torn, another's, without a sum."""
+        area, whole, spoiled = self.cells[pages.CELLS * number:pages.CELLS * (number + 1)].ljust(pages.CELLS, b"\0"), [], []
+        for version in (2, 3, 4, 5, 2**64 - 2, 2**64 - 1):
+            for shown in (area, random.Random(version).randbytes(pages.CELLS)):
+                page = pages.twin_of(number, version, shown)
+                whole.append((page, (version, shown)))
+                spoiled += [(each, None) for each in (
+                    page[:2000] + bytes([page[2000] ^ 1]) + page[2001:], page[:3584] + b"\7" * 512, page[:16] + bytes(8) + page[24:],
+                    pages.twin_of(number + 1, version, shown), pages.page_of(number, shown))]
+        return whole, spoiled, [(pages.BLANK, None)]
+
+    def test_of_two_places_the_one_with_the_higher_version_is_shown(self):
+        draw, told, bad = random.Random(7), 0, 0
+        for number in range(-(-len(self.cells) // pages.CELLS)):
+            kinds = self.places(number)
+            for _ in range(8):
+                (one, first), (two, second) = (draw.choice(draw.choice(kinds)) for _ in range(2))
+                if number == 0 and one[:8] != pages.TWIN_MAGIC and (one[:8] == pages.MAGIC or two[:8] != pages.TWIN_MAGIC):
+                    continue                                    # it shows another layout
+                data, right = self.twin_with(number, one, two), [it for place, it in enumerate((first, second)) if it and it[0] % 2 == place]
+                if right or pages.BLANK in (one, two):
+                    want = self.cells_with(number, max(right)[1] if right else bytes(pages.CELLS))
+                    self.assertEqual(self.told(data, self.commands), self.told(want, self.commands), number)
+                    told += 1
+                else:
+                    lines = [line for line, sound in zip(self.told(data, self.commands)[1], self.lines) if line != sound]
+                    self.assertEqual([line for line in lines if b"unread:" not in line and line != b"refused 18 read fault"], [], number)
+                    bad += 1
+        self.assertGreater(told, 100)
+        self.assertGreater(bad, 50)
+
+    def test_page_0_is_told_by_either_place(self):
+        area = self.cells[:pages.CELLS]
+        for one, version in ((pages.BLANK, 3), (b"\7" * pages.PAGE, 3), (bytes(8) + pages.twin_of(0, 2, area)[8:], 3)):
+            data = self.twin_with(0, one, pages.twin_of(0, version, area))
+            self.assertEqual(self.told(data, self.commands), (0, self.lines))
+            self.assertEqual(pages.cells_of(data)[0][:len(self.cells)], self.cells)
+        spoiled = pages.twin_of(0, 3, area)[:2000] + b"\7" + pages.twin_of(0, 3, area)[2001:]
+        self.assertEqual(self.told(self.twin_with(0, pages.twin_of(0, 2, area), spoiled), self.commands), (0, self.lines))
+        self.assertEqual(self.told(self.twin_with(0, b"\7" * pages.PAGE, spoiled), self.commands), (4, [b"refused 18 read fault"]))
+        # Behind a whole magic of another layout the bytes at 4096 mean nothing
+        packed = self.cells[:pages.PAGE] + pages.TWIN_MAGIC + self.cells[pages.PAGE + 8:]
+        self.assertEqual(self.told(packed, [b"stat /"])[0], 0)
+
+    def test_a_file_that_ends_within_a_twin_page_has_zeros_behind_it(self):
+        whole = pages.twin(self.cells, 3)                       # the second places are current
+        for number in range(len(whole) // (2 * pages.PAGE)):
+            first = 2 * pages.PAGE * number
+            for cut in (first, first + 1, first + 1000, first + pages.PAGE, first + pages.PAGE + 2000, first + 2 * pages.PAGE - 1):
+                self.assertEqual(self.told(whole[:cut], self.commands), self.told(whole[:cut].ljust(len(whole), b"\0"), self.commands), cut)
+
+
 class ReaderPage(Read):
     """The lines of C and of Python on the page, and calls with odd arguments."""
 
@@ -190,11 +476,7 @@ class ReaderPage(Read):
 
     def test_the_lines_of_c_list_the_names_and_copy_a_file(self):
         source = self.at("page.c")
-        write(source, b'''
-#include "nofs_reader.h"
-#include <stdio.h>
-#include <string.h>
-''' + self.block("c").encode() + b'''
+        write(source, self.block("c").encode() + b'''
 int main(int count, char **words)
 {
     static uint8_t image[300 * 1056];
@@ -219,6 +501,13 @@ int main(int count, char **words)
         f, d, e = (int(re.search(rb"\((\d+), b'%s'\)" % path, done.stdout).group(1)) for path in (b"/g", b"/d/", b"/d/e/"))
         names = f"({d}, b'/d/') ({f}, b'/d/f') ({e}, b'/d/e/') ({f}, b'/g')"
         self.assertEqual(done.stdout.decode().splitlines(), [names, self.content.hex()])
+        block = next(block for block, (_, slot) in nofs.Tree(nofs.Image(self.image)).owners().items() if slot.wanted.kind == nofs.CONTENT)
+        laid = Laying(read(self.image))
+        laid.tag(str(block), "stamp", "77")
+        write(self.image, laid.data)
+        done = subprocess.run([sys.executable, "-c", lines], cwd=self.room, stdout=subprocess.PIPE, stderr=subprocess.PIPE)
+        self.assertEqual((done.returncode, done.stdout.decode()), (1, names + "\n"))
+        self.assertRegex(done.stderr.decode().splitlines()[-1], rf"^OSError: slot \d+ of inode {f} is lost$")
 
     def test_unpacking_by_the_reader_and_by_the_program_gives_the_same(self):
         for name in ("day2", "lost"):
@@ -252,8 +541,14 @@ int main(int count, char **words)
             self.assertEqual(reader.nofs_reader_get(*image, u32(2), u64(0), into, size(room), out), 11)
         self.assertEqual(reader.nofs_reader_get(*image, u32(1), u64(0), into, size(2048), out), 9)
         self.assertEqual(reader.nofs_reader_next(*image, u32(2), u32(0), out), 8)
+        marks = ctypes.create_string_buffer(b"\7" * 12, 12)
+        self.assertEqual(reader.nofs_reader_counts(*image, marks, size(11), out), 11)
+        self.assertEqual(marks.raw, b"\7" * 12)
         self.assertEqual(reader.nofs_reader_superblock(b"", size(0), out), 1)
+        self.assertEqual(reader.nofs_reader_counts(b"", size(0), marks, size(0), out), 1)
         self.assertEqual((out.raw, into.raw), (b"\5" * 80, b"\6" * 2048))
+        self.assertEqual(reader.nofs_reader_counts(*image, marks, size(12), out), 0)
+        self.assertEqual(struct.unpack("<4Q", out.raw[:32])[:3], (12, 5, 256))
         for place in (1152, 2**32 - 1):
             self.assertEqual(reader.nofs_reader_next(*image, u32(1), u32(place), out), 0)
             self.assertEqual(out.raw[:4], bytes(4))
