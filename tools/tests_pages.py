@@ -2,6 +2,9 @@
 import glob
 import os
 import re
+import subprocess
+import sys
+import tempfile
 import unittest
 
 TOP = os.path.dirname(os.path.dirname(os.path.abspath(__file__)))
@@ -91,6 +94,31 @@ class Pages(unittest.TestCase):
                     yield f"{to}#{part}"
 
         self.each(lost)
+
+    def test_a_picture_is_what_its_script_draws(self):
+        with tempfile.TemporaryDirectory(prefix="nofs-pictures-") as room:
+            subprocess.run([sys.executable, os.path.join(TOP, "tools", "pictures"), room], check=True)
+            drawn = {name: read(os.path.join(room, name)) for name in os.listdir(room)}
+        self.assertEqual(sorted(drawn), ["layers.svg", "pair.svg"])
+        for name, text in drawn.items():
+            self.assertEqual(text, read(os.path.join("docs", name)), "run tools/pictures")
+
+    def test_no_cell_of_a_table_is_long(self):
+        def long(path, page):
+            if path == "README.md":
+                return
+            for line in re.sub(r"```.*?```", "", page, flags=re.S).splitlines():
+                if line.startswith("|"):
+                    yield from (f"{len(cell.strip())}: {cell.strip()[:60]}" for cell in re.split(r"(?<!\\)\|", line) if len(cell.strip()) > 200)
+
+        self.each(long)
+
+    def test_long_pages_begin_with_their_contents(self):
+        for path in ("docs/PROMISES.md", "docs/FORMAT.md", "docs/PROOFS.md", "docs/DECISIONS.md"):
+            page = read(path)
+            first = page[:page.index("\n## ")]
+            wanted = [anchor(it) for it in re.findall(r"^## (.*)$", page, re.M)]
+            self.assertEqual([part for to, part in LINK.findall(first) if not to], wanted, path)
 
 
 if __name__ == "__main__":

@@ -8,6 +8,7 @@ import sys
 import unittest
 
 import nofs_format as nofs
+import nofs_pages as pages
 from tests_common import NOFS, TOOLS, Folders, S, read, run, serve, tool, tree, write
 
 
@@ -75,6 +76,11 @@ class Packing(Trees):
         out, said = tool("nofs-pack", self.at("in"), "--skip")
         self.assertEqual([line.split(" ")[1] for line in out.decode().splitlines()], ["/fits", "/fits", "/"])
         self.assertEqual(said.count("left out"), len(refused))
+
+    def test_a_refused_name_is_told_on_one_line(self):
+        write(self.at("in", "two\nlines\x1b"), b"")
+        said = tool("nofs-pack", self.at("in"), "--skip")[1]
+        self.assertEqual(said, f"nofs-pack: {self.at('in')}/two\\x0alines\\x1b: a name with a space or an end of line, left out\n")
 
     def test_a_folder_has_at_most_1152_names(self):
         for number in range(1154):
@@ -268,11 +274,52 @@ class Crashes(Trees):
         self.assertEqual(read(image), data)
         self.assertIsNone(re.search(rb"https?:|src=|@import|url\(", read(self.at("page.html"))))
 
+    def test_the_picture_of_an_image_in_pages_is_that_of_its_cells(self):
+        _, image = self.crashed(3)
+        packed, want = read(image), self.picture(image)["images"][0]
+        for made in (pages.paged, pages.twin, lambda cells: pages.twin(cells, 3)):
+            write(image, made(packed))
+            self.assertEqual(self.picture(image)["images"][0], want)
+        data = bytearray(pages.paged(packed))
+        data[4096 * 3 + 1000] ^= 1
+        write(image, data)
+        said = tool("nofs-picture", image, self.at("page.html"))[1]
+        self.assertEqual(said, f"nofs-picture: {image}: page 3 can't be told, with its blocks 9 to 11\n")
+
     def picture(self, image, *words):
         """What the page is told."""
         tool("nofs-picture", image, self.at("page.html"), *words)
         page = read(self.at("page.html")).decode()
         return json.loads(re.search(r"^const TOLD = (.*);$", page, re.M).group(1))
+
+
+class Layouts(unittest.TestCase):
+    """Images in pages, and in twin pages."""
+
+    CELLS = random.Random(7).randbytes(10 * nofs.CELL)
+
+    def test_cells_are_read_as_they_were_laid(self):
+        for made in (pages.paged, pages.twin, lambda cells: pages.twin(cells, 9)):
+            cells, bad = pages.cells_of(made(self.CELLS))
+            self.assertEqual((cells[:len(self.CELLS)], cells[len(self.CELLS):].strip(b"\0"), bad), (self.CELLS, b"", []))
+
+    def test_a_page_that_is_no_longer_itself_is_named(self):
+        for at in (0, 3, 9, 17, 1000, 4095):            # its magic, its number, its sum, its cells
+            data = bytearray(pages.paged(self.CELLS))
+            data[2 * 4096 + at] ^= 1
+            self.assertEqual(pages.cells_of(data), (pages.cells_of(pages.paged(self.CELLS))[0][:6336] + bytes(3168)
+                                                    + pages.cells_of(pages.paged(self.CELLS))[0][9504:], [2]))
+
+    def test_the_later_place_of_a_twin_that_is_told_counts(self):
+        old, new = bytes([1]) * 3168, bytes([2]) * 3168
+        low, high = pages.twin_of(0, 4, old), pages.twin_of(0, 5, new)
+        self.assertEqual(pages.cells_of(low + high), (new, []))
+        self.assertEqual(pages.cells_of(low + high[:-1] + b"\0"), (old, []))
+        self.assertEqual(pages.cells_of(pages.twin_of(0, 6, new) + pages.twin_of(0, 5, old)), (new, []))
+        self.assertEqual(pages.cells_of(low + pages.twin_of(1, 7, new)), (old, []))     # it is another's
+        self.assertEqual(pages.cells_of(low + pages.twin_of(0, 6, new)), (old, []))     # it belongs to the other place
+        self.assertEqual(pages.cells_of(low[:-1] + b"\0" + bytes(4096)), (bytes(3168), []))
+        self.assertEqual(pages.cells_of(low[:-1] + b"\0" + high[:-1] + b"\0"), (bytes(3168), [0]))
 
 
 class Format(unittest.TestCase):
