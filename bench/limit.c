@@ -10,7 +10,7 @@
 #include <stdio.h>
 #include <unistd.h>
 
-enum { WINDOW = 64 * 1056 };
+enum { WINDOW = 66 * 1056 };
 
 static char bytes[WINDOW];
 

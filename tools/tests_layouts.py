@@ -37,6 +37,11 @@ def content(user, number, size):
     return (b"%02d%04d__" % (user, number) * (size // 8 + 1))[:size].hex()
 
 
+def got(data):
+    """The line of a get of these bytes, which begin a file: a word for each slot."""
+    return "got" + "".join(f" bytes:{data[at:at + 2048]}" for at in range(0, len(data), 2048))
+
+
 def put(image, at, data):
     """Puts bytes at a place, with zeros between the end and it."""
     image.extend(bytes(max(0, at + len(data) - len(image))))
@@ -193,7 +198,7 @@ class Logged(Folders):
             counts = run([NOFS, left, "scan"])[0]
             self.assertEqual(counts.count(b" unchecked 0"), 2, counts)
             lines = serve(left, looks)
-            self.assertEqual(lines[:4], [f"got bytes:{content(99, number, 3000)}" for number in range(4)])
+            self.assertEqual(lines[:4], [got(content(99, number, 3000)) for number in range(4)])
             for name, line in zip(names, lines[4:]):
                 user, number = (int(part) for part in re.findall(r"\d+", name))
                 for part in re.findall(r"bytes:([0-9a-f]+)", line):
@@ -230,7 +235,7 @@ class Logged(Folders):
                 program.wait()
                 counts = run([NOFS, path, "scan"])[0]
                 self.assertEqual(counts.count(b" unchecked 0"), 2, counts)
-                self.assertEqual(serve(path, b"get /kept 0 3000\n"), [f"got bytes:{content(99, 1, 3000)}"])
+                self.assertEqual(serve(path, b"get /kept 0 3000\n"), [got(content(99, 1, 3000))])
 
     def test_a_file_is_synced_before_it_is_read(self):
         path = self.at("disk.img")

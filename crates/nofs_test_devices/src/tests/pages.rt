@@ -89,8 +89,8 @@ fn a_page_in_the_place_of_another_is_not_read(rt: HostRuntime) -> Result<(), Fai
     Ok(())
 }
 
-// Writes three cells of one byte to the page of a number.
-fn write_page<P: Positioned>(file: &mut P, number: u16, byte: u8) -> bool {
+/// Writes three cells of one byte to the page of a number; whether that was done.
+pub fn write_page<P: Positioned>(file: &mut P, number: u16, byte: u8) -> bool {
     write_part(file, 3168 * number as u64, &[byte; 3168]).is_ok()
 }
 

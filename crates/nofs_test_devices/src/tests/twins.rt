@@ -1,13 +1,9 @@
 //! Pages with two places: versions that alternate, and places that are torn, exchanged, another page's or rotten.
-use nofs_filedisk::{MemFile, Positioned, read_part, write_part};
+use crate::tests::pages::write_page;
+use nofs_filedisk::{MemFile, Positioned, read_part};
 use nofs_pages::{Layout, layout_of, sum_of, twin_pages};
 use std::alloc::Global;
 use std::test::Fail;
-
-// Writes three cells of one byte to the page of a number.
-fn write_page<P: Positioned>(file: &mut P, number: u64, byte: u8) -> bool {
-    write_part(file, 3168 * number, &[byte; 3168]).is_ok()
-}
 
 // The bytes of a file, after pages 0 to 2 were written and synced once with each of some bytes.
 fn after(alloc: Global, bytes: &[u8], rounds: &[u8]) -> Result<Vec<u8>, Fail> {
