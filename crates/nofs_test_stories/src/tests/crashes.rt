@@ -1,20 +1,19 @@
-//! Images that a crash in an ordinary day may leave of the file of an image, in each layout, and of two in a mirror.
+//! Images that a crash in an ordinary day may leave of the file of an image, in each layout.
 //!
 //! Where the device leaves together what the layout asks for, each image is clean: it can be mounted, a scan counts
 //! what the slow functions do, what was durable is there, and no part has a byte of another file. Twin pages ask for
-//! nothing: there a place that was being written may have any mixture of old and new bytes. Where the device leaves less
-//! than pages ask for, one may be torn: then a fault is named, and what is read is of its file all the same.
+//! nothing: there a place that was being written may have any mixture of old and new bytes. Where the device leaves
+//! less than pages ask for, one may be torn: then a fault is named, and what is read is of its file all the same.
 
 use crate::tests::layouts::{LaidFile, found_disk, laid, laid_bytes, unlaid};
 use crate::tests::reads::{KEPT, kept_line, reading, see};
 use crate::tests::recorder::Recorder;
 use crate::tests::stories::{SessionLine, Story, evening, text_of_lines};
 use nofs_disk::Disk;
-use nofs_filedisk::{FileDisk, MemFile};
+use nofs_filedisk::FileDisk;
 use nofs_io::{MemSink, MemSource};
-use nofs_mirror::Mirror;
 use nofs_pages::Layout;
-use nofs_test_disks::{bytes_of, cached, cells_of, draw, used};
+use nofs_test_disks::{bytes_of, cached, cells_of, used};
 use nofs_test_sessions::{ReadTally, count, run_on, run_with};
 use std::alloc::{AllocError, Global};
 use std::process::Abort;
@@ -349,102 +348,4 @@ fn a_day_in_twin_pages_survives_where_sectors_are_left_whole(rt: HostRuntime) ->
 #[test]
 fn a_day_in_twin_pages_survives_any_mixture_of_bytes(rt: HostRuntime) -> Result<(), Fail> {
     survives(&rt, MIXED_TWINS)
-}
-
-/// A mirror of two files.
-type Mirrored<B> = Mirror<FileDisk<LaidFile<B>>, FileDisk<LaidFile<B>>>;
-
-fn mirrored<A: Disk + Drop, B: Disk + Drop>(lead: A, other: B) -> Result<Mirror<A, B>, Fail> {
-    match Mirror::open(lead, other, SMALL.blocks) {
-        Ok(mirror) => Ok(mirror),
-        Err(_) => Err("no mirror".into()),
-    }
-}
-
-// A mirror of the disks in files with these bytes.
-fn found_mirror(alloc: Global, lead: &[u8], other: &[u8]) -> Result<Mirrored<MemFile>, Fail> {
-    mirrored(found_disk(alloc, lead)?, found_disk(alloc, other)?)
-}
-
-/// How many calls of a file a call of the mirror makes at most. A flush writes what a run has no place beside, makes a
-/// page durable that is written again, writes the last row, and syncs.
-const MOST_CALLS: u64 = 4;
-
-// How many calls of the lead and of the other have ended and have begun at a moment. As a mirror is opened, the other
-// alone makes its first calls. Then a call of the mirror makes some calls of the lead, and after them the same of the
-// other: while the one makes a call the other one is some calls behind, or ahead.
-fn calls_at(moment: usize, first: usize, between: usize) -> ((usize, usize), (usize, usize)) {
-    if moment < first {
-        return ((0, 0), (moment, moment.saturating_add(1)));
-    }
-    let at = moment.saturating_sub(first);
-    let (call, next) = (at / 2, (at / 2).saturating_add(1));
-    if at % 2 == 0 {
-        let copied = first.saturating_add(call.saturating_sub(between));
-        ((call, next), (copied, copied))
-    } else {
-        let ended = next.saturating_add(between);
-        (
-            (ended, ended),
-            (first.saturating_add(call), first.saturating_add(next)),
-        )
-    }
-}
-
-// Looks at images of crashes in the calls of two files of a mirror.
-fn judge_mirrors<R: Threads + Wait + Sync>(
-    rt: &R,
-    alloc: Global,
-    found: &mut Found,
-    lead: &Recorder,
-    other: &Recorder,
-    start: u64,
-) -> Result<(), Fail> {
-    let first = other.calls().saturating_sub(lead.calls());
-    let moments = lead.calls().saturating_add(other.calls());
-    let mut state = start;
-    for number in 0..LEAST_IMAGES.max(moments) {
-        let moment = number.checked_rem(moments).unwrap_or(0);
-        let between = draw(&mut state, MOST_CALLS) as usize;
-        let (of_lead, of_other) = calls_at(moment, first, between);
-        let one = lead.image(of_lead.0, of_lead.1, &mut state)?;
-        let copy = other.image(of_other.0, of_other.1, &mut state)?;
-        judge(rt, alloc, found, found_mirror(alloc, &one, &copy)?)?;
-    }
-    Ok(())
-}
-
-// Serves a day on a mirror of two files, and looks at what a crash may leave of them.
-fn judge_mirrored_day<R: Threads + Wait + Sync>(
-    rt: &R,
-    alloc: Global,
-    trial: Trial,
-    found: &mut Found,
-    start: u64,
-) -> Result<(), Fail> {
-    let cells = evening_bytes(rt, alloc)?;
-    let mirror = mirrored(
-        recorded(alloc, trial, &cells)?,
-        recorded(alloc, trial, &cells)?,
-    )?;
-    let (status, mirror) = served_day(rt, alloc, mirror)?;
-    let (lead, other) = mirror.apart();
-    let (lead, other) = (unlaid(lead.file()), unlaid(other.file()));
-    let is_copied = other.ends_like(&lead);
-    if status != 0 || !is_copied || !is_recorded(trial, &lead)? || !is_recorded(trial, &other)? {
-        count(&mut found.wrong);
-    }
-    judge_mirrors(rt, alloc, found, &lead, &other, start)
-}
-
-#[test]
-fn a_mirrored_day_in_pages_survives(rt: HostRuntime) -> Result<(), Fail> {
-    let mut found = Found::NOTHING;
-    for start in 1..STARTS.saturating_add(1) {
-        judge_mirrored_day(&rt, rt.alloc(), PAGES, &mut found, start)?;
-    }
-    assert_eq!(rt; found.wrong, 0);
-    assert_eq!(rt; found.seen.foreign, 0);
-    assert!(rt; are_full(PAGES, found));
-    Ok(())
 }
