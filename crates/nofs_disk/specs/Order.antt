@@ -1,7 +1,7 @@
 -- What a call asked of a device, where it ordered nothing: it wrote these cells alone, or it made one flush and nothing
 -- else. That it wrote nothing is `KeepsCells`.
 use Rattle.std.specs.Prelude.{◌≡◌, ◌≢◌, ℕ, ◌+◌, ◌*◌, ◌⊎◌, List, [], ◌∷◌, length, Bool, true, false, Result, Ok, Err}
-use Rattle.std.specs.Prelude.{Contains, slice_set}
+use Rattle.std.specs.Prelude.{Contains, IsTrue, slice_set}
 use Rattle.nofs_disk.specs.Disk.{DiskState, IsSettled}
 use Rattle.nofs_disk.specs.declared.Failed.{Failed}
 use Rattle.nofs_disk.specs.declared.tag.Cell.{Cell}
@@ -41,6 +41,10 @@ pub record OnlyWrites (old new : DiskState) (calls : List (ℕ × Cell)) (failed
   -- a read gives all of them, but perhaps that of the call that failed
   pub done : failed ≡ false → new.now ≡ image_after calls old.now
   pub tried : failed ≡ true → IsTried calls old.now new.now
+  -- nothing was written out: another block that was dirty is dirty still
+  pub dirty : (b : ℕ) → IsApart calls b → Contains old.dirty b → Contains new.dirty b
+  -- and so, where writes are kept back, is each block that was written
+  pub held : IsTrue old.holds_back → (b : ℕ) (c : Cell) → OneOf calls b c → Contains new.dirty b
 
 -- One flush, and nothing else that takes time: no cell was written
 pub record OnlyFlushes (old new : DiskState) (failed : Bool) : Type 0 where
@@ -48,6 +52,8 @@ pub record OnlyFlushes (old new : DiskState) (failed : Bool) : Type 0 where
   pub now : new.now ≡ old.now
   pub done : failed ≡ false → IsSettled new
   pub kept : failed ≡ true → new.may ≡ old.may
+  -- nothing is dirty that was not
+  pub dirty : (b : ℕ) → Contains new.dirty b → Contains old.dirty b
 
 -- no block is written twice
 abbrev pub WritesOnce : List (ℕ × Cell) → Type 0

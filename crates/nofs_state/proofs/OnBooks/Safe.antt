@@ -60,19 +60,20 @@ safe-over old new k stop h disk super s =
     } in
     safe-sizes old new k (record k { stopped = stop; history = h }) s at same s.in_area
 
--- Where cells, past and moment stay
+-- Where cells, past and moment stay, and what is dirty
 
 pub record Keeping (old new : DiskState) : Type 0 where
   pub disk : IsSameDisk old new
   pub past : KeepsPast old new
   pub cells : KeepsCells old new
+  pub dirty : new.dirty ≡ old.dirty
 
 pub reads-keep : (old new : DiskState) → StaysButFaults old new → Keeping old new
-reads-keep old new s = record { disk = s.disk; past = s.past; cells = s.cells }
+reads-keep old new s = record { disk = s.disk; past = s.past; cells = s.cells; dirty = s.dirty }
 
 pub ready-keeps : {E : Type 0} (old new : DiskState) (calls : ℕ) (result : Result (Unit {0}) E)
     → MakesReady old new calls result → Keeping old new
-ready-keeps old new calls result m = record { disk = m.disk; past = m.past; cells = m.cells }
+ready-keeps old new calls result m = record { disk = m.disk; past = m.past; cells = m.cells; dirty = m.dirty }
 
 pub safe-keeps : (old new : DiskState) (keep : Keeping old new) (k : Books) → IsSafe old k → IsSafe new k
 safe-keeps old new keep k = safe-over old new k k.stopped k.history keep.disk (ap super_at keep.cells.now)

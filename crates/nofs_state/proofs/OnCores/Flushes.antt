@@ -56,8 +56,9 @@ safe-flushed old new k stop f = safe-over old new k stop k.history f.disk (ap su
 only-flushes : (old new : DiskState) (r : Result (Unit {0}) Failed) → Flushes old new r
     → OnlyFlushes old new (has_failed r)
 only-flushes old new (Ok u) f =
-    record { moment = f.moment; now = f.now; done = λ e. f.settled; kept = λ e. absurd (cc e) }
-only-flushes old new (Err x) f = record { moment = f.moment; now = f.now; done = λ e. absurd (cc e); kept = λ e. f.err }
+    record { moment = f.moment; now = f.now; done = λ e. f.settled; kept = λ e. absurd (cc e); dirty = f.dirty }
+only-flushes old new (Err x) f =
+    record { moment = f.moment; now = f.now; done = λ e. absurd (cc e); kept = λ e. f.err; dirty = f.dirty }
 
 module _ (old new : DiskState) (k : Books) (i g : ℕ) (is_old : IsDisk old) (is_new : IsDisk new) (safe : IsSafe old k)
     (going : k.stopped ≡ false)

@@ -187,7 +187,7 @@ module _ (old new : DiskState) (k : Books) (s : Step) (is : IsDisk old) (safe : 
   pub goes-stopped : k.stopped ≡ true → Goes old k new k s no_claims (reply.Refused refusal.Stopped)
   goes-stopped stopped =
       safely-goes old new k k s no_claims (reply.Refused refusal.Stopped) (safely-stopped old new k safe stays stopped)
-      (LeavesDisk refl stays.cells) sound
+      (LeavesDisk refl stays.cells stays.dirty) sound
       (λ tells caller H p o. absurd (let g = o.going in cc (g, stopped)))
       (λ tells caller H p o. record {
         none = λ t. absurd (cc);
@@ -205,7 +205,7 @@ module _ (old new : DiskState) (k : Books) (s : Step) (is : IsDisk old) (safe : 
       × Next p.world (entry caller old new s no_claims r) p.world)
       → Goes old k new k s no_claims r
   goes-idle r memory quick going safely idle =
-      safely-goes old new k k s no_claims r safely (LeavesDisk quick stays.cells) sound
+      safely-goes old new k k s no_claims r safely (LeavesDisk quick stays.cells stays.dirty) sound
       (λ tells caller H p o.
       let e : Entry1 = entry caller old new s no_claims r in
       let i = idle tells H p o (o.says.stopped ∙ going) caller in

@@ -133,12 +133,14 @@ module _ (old new : DiskState) (keep : Keeping old new) where
   pub order-after : (end : DiskState) (k : Books) (s : Step) (c : Claims) (r : Reply)
       → NoOrder new end (MeetsOpen new k) s c r
       → NoOrder old end (MeetsOpen old k) s c r
-  order-after end k s c r (LeavesDisk quick cells) = LeavesDisk quick (KeepsCells-trans old new end keep.cells cells)
+  order-after end k s c r (LeavesDisk quick cells dirty) =
+      LeavesDisk quick (KeepsCells-trans old new end keep.cells cells) (dirty ∙ keep.dirty)
   order-after end k s c r (FlushesAlone is quick f) = FlushesAlone is quick (record {
     moment = f.moment ∙ ap (λ (n : ℕ). n + 2) moment';
     now = f.now ∙ keep.cells.now;
     done = f.done;
     kept = λ e. f.kept e ∙ keep.cells.may;
+    dirty = λ b has. subst (λ (l : List ℕ). Contains l b) keep.dirty (f.dirty b has);
   })
   order-after end k s c r (WritesAlone made w) = WritesAlone made (record {
     row = w.row;
@@ -155,6 +157,9 @@ module _ (old new : DiskState) (keep : Keeping old new) where
           (w.only.cells b c has);
       done = λ e. w.only.done e ∙ ap (λ (X : Image). image_after w.calls X) keep.cells.now;
       tried = λ e. subst (λ (X : Image). IsTried w.calls X end.now) keep.cells.now (w.only.tried e);
+      dirty = λ b apart has.
+          w.only.dirty b apart (subst (λ (l : List ℕ). Contains l b) (sym keep.dirty) has);
+      held = λ holds. w.only.held (subst (λ (b : Bool). IsTrue b) (sym keep.disk.holds_back) holds);
     };
     told = λ F m. w.told F (
       m.0,
@@ -200,7 +205,7 @@ module _ (old new : DiskState) (keep : Keeping old new) where
       → Goes old k new k s c (reply.Refused refusal.OutOfMemory)
   goes-memory k s c safe =
       safely-goes old new k k s c (reply.Refused refusal.OutOfMemory) (safely-memory old new keep k safe)
-      (LeavesDisk refl keep.cells)
+      (LeavesDisk refl keep.cells keep.dirty)
       (λ tells H p o from q. sounds-keep from old new keep.disk keep.past keep.cells q)
       (λ tells caller H p o.
       record { none = λ t. open-keeps k H p o; done = λ n f. absurd (cc); fault = λ t. absurd (cc) })

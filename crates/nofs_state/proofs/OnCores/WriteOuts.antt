@@ -1,6 +1,6 @@
 -- What stands goes on over a write-out.
 use Rattle.std.proofs.Common.{◌≡◌, ℕ, ◌<◌, ◌≤◌, inl, inr, List, ◌∷◌, Option, None, Result, Ok, Err, IfSome}
-use Rattle.std.proofs.Common.{IsPermutation, [], IfOk, OnErr, OnOk, ◌↔◌, sym, ap, ◌∙◌, subst, subst₂, arith}
+use Rattle.std.proofs.Common.{IsPermutation, [], IfOk, OnErr, OnOk, ◌↔◌, refl, sym, ap, ◌∙◌, subst, subst₂, arith}
 use Rattle.std.proofs.lemmas.Bool.{cases_lt}
 use Rattle.nofs_disk.specs.Disk.{DiskState, IsDisk, MakesReady, Picks, Rose, WritesOut}
 use Rattle.nofs_disk.specs.Chains.{IsSameDisk-trans, KeepsCells-trans}
@@ -99,9 +99,9 @@ module _ {E : Type 0} (old mid new : DiskState) (ok : Result (Unit {0}) E) (is :
       (λ e. let c = w.cause in let f = ready.disk.faults in omega (arith, c, f)) tt
 
 module _ (old new : DiskState) (result : Result (Option ℕ) OutFault) (out : WroteOne old new result) where
-  -- the same disk, with the images that were left before
+  -- the same disk, with the images that were left before, and the blocks that were dirty
   abbrev before : DiskState
-  before = record new { left = old.left }
+  before = record new { left = old.left; dirty = old.dirty }
 
   keep : Keeping old before
   keep = record {
@@ -113,6 +113,7 @@ module _ (old new : DiskState) (result : Result (Option ℕ) OutFault) (out : Wr
     };
     past = record { was = out.was; no_more = λ m X low left. left; no_less = λ m X low left. left };
     cells = record { now = out.cells.now; may = out.cells.may; moment = out.cells.moment };
+    dirty = refl;
   }
 
   pub at-each-out : (P : ℕ → Image → Type 0) (from : ℕ) → ((X : Image) → Picks old.may old.blocks X → P old.moment X)

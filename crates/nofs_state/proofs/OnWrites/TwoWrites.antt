@@ -52,6 +52,9 @@ only-one old new b c r is w = record {
       Adds-writes (OneOf ((b, c) ∷ [])) old new b c is w (inl (refl, refl)) in a.cells);
   done = done r w.ok;
   tried = tried r w.err;
+  dirty = λ n apart has. (w.dirty n apart.0).1 has;
+  held = λ holds n d one. elim one
+      [ inl here ↦ subst (λ (q : ℕ). Contains new.dirty q) (sym here.0) (w.held holds).1 | inr none ↦ absurd none ];
 }
   where
     kept : (n : ℕ) (d : Cell) (t : Bool) → eqb n b ≡ t → Contains (old.may n) d → Contains (new.may n) d
@@ -74,6 +77,17 @@ only-one old new b c r is w = record {
     tried (Ok u) s e = absurd (cc e)
     tried (Err x) s e = s
 
+-- a block is none of these, or one of them
+apart-or-one : (ws : List (ℕ × Cell)) (b : ℕ) → IsApart ws b ⊎ ((c : Cell) × OneOf ws b c)
+apart-or-one [] b = inl tt
+apart-or-one (w ∷ ws) b = go (eqb b w.0) refl (apart-or-one ws b)
+  where
+    go : (t : Bool) → eqb b w.0 ≡ t → IsApart ws b ⊎ ((c : Cell) × OneOf ws b c)
+        → IsApart (w ∷ ws) b ⊎ ((c : Cell) × OneOf (w ∷ ws) b c)
+    go true e rest = inr (w.1, inl (eqb-true b w.0 e, refl))
+    go false e (inr one) = inr (one.0, inr one.1)
+    go false e (inl apart) = inl (λ q. let t : eqb b w.0 ≡ true = rw q (grind arith) in cc (e, t), apart)
+
 -- and others after it
 only-more : (old mid new : DiskState) (b : ℕ) (c : Cell) (calls : List (ℕ × Cell)) (failed : Bool) → IsDisk mid
     → Writes old mid b c (Ok tt)
@@ -85,6 +99,8 @@ only-more old mid new b c calls failed is w v = record {
   cells = λ n d has. back n d (v.cells n d has);
   done = λ e. v.done e ∙ ap (λ (X : Image). image_after calls X) w.ok;
   tried = λ e. tried calls (v.tried e);
+  dirty = λ n apart has. v.dirty n apart.1 (first.dirty n (apart.0, tt) has);
+  held = λ holds n d one. held (subst (λ (q : Bool). IsTrue q) (sym w.disk.holds_back) holds) (w.held holds).1 n d one;
 }
   where
     first : OnlyWrites old mid ((b, c) ∷ []) false
@@ -98,6 +114,12 @@ only-more old mid new b c calls failed is w v = record {
     back n d (inr later) = inr (inr later)
     back n d (inl has) = elim (one.cells n d has)
         [ inl was ↦ inl was | inr it ↦ elim it [ inl here ↦ inr (inl here) | inr none ↦ absurd none ] ]
+
+    held : IsTrue mid.holds_back → Contains mid.dirty b → (n : ℕ) (d : Cell) → OneOf ((b, c) ∷ calls) n d
+        → Contains new.dirty n
+    held holds has n d (inr later) = v.held holds n d later
+    held holds has n d (inl here) = subst (λ (q : ℕ). Contains new.dirty q) (sym here.0) (elim (apart-or-one calls b)
+        [ inl apart ↦ v.dirty b apart has | inr one ↦ v.held holds b one.0 one.1 ])
 
     tried : (xs : List (ℕ × Cell)) → IsTried xs mid.now new.now → IsTried ((b, c) ∷ xs) old.now new.now
     tried [] none = absurd none

@@ -100,9 +100,10 @@ pub record WritesCells (old new : DiskState) (Told : Files → Type 0) (s : Step
   pub only : OnlyWrites old new calls failed
 
 -- NO STEP ORDERS ITS WRITES. Over a device that tells a step leaves it as it is, or makes writes alone, or, where it is
--- a Flush, one flush alone. Over one that does not tell this is a count of the calls that write or flush, and no more
+-- a Flush, one flush alone. Over one that does not tell this is a count of the calls that write or flush, and what is
+-- dirty. Over each it writes no block out
 pub data NoOrder (old new : DiskState) (Told : Files → Type 0) (s : Step) (c : Claims) (r : Reply) : Type 0 where
-  LeavesDisk : makes_calls r ≡ false → KeepsCells old new → NoOrder old new Told s c r
+  LeavesDisk : makes_calls r ≡ false → KeepsCells old new → new.dirty ≡ old.dirty → NoOrder old new Told s c r
   WritesAlone : makes_calls r ≡ true → WritesCells old new Told s c (is_write_fault r) → NoOrder old new Told s c r
   FlushesAlone : is_flush s ≡ true → takes_time r ≡ true → OnlyFlushes old new (is_write_fault r)
       → NoOrder old new Told s c r
