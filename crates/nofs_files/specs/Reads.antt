@@ -1,6 +1,6 @@
 -- What the steps on files answer.
 use Rattle.nofs_state.specs.Writes.Cells.{stopped_books}
-use Rattle.std.specs.Prelude.{◌≡◌, ℕ, Bool, true, List, Option, Some, if◌then◌else◌, ◌==◌, IsTrue, Result, Ok, Err}
+use Rattle.std.specs.Prelude.{◌≡◌, ℕ, Bool, true, false, List, Option, Some, if◌then◌else◌, ◌==◌, IsTrue, Result, Ok, Err}
 use Rattle.std.specs.Prelude.{IfOk, IfErr, OnOk, OnErr, count_by}
 use Rattle.nofs_ptrs.specs.Paths.{slot_limit}
 use Rattle.nofs_disk.specs.declared.Failed.{Failed}
@@ -72,6 +72,21 @@ got_answer bytes (Ok got.Bytes) = reply.Bytes bytes
 got_answer bytes (Ok got.Hole) = reply.Hole
 got_answer bytes (Ok got.Lost) = reply.Lost
 got_answer bytes (Err why) = reply.Refused why
+
+-- only the bytes of a slot are put there: where it has none, or a step is refused, all is as it was
+abbrev pub KeptButBytes : List ℕ → List ℕ → Result Got Refusal → Type 0
+KeptButBytes old new (Ok got.Bytes) = Unit {0}
+KeptButBytes old new (Ok got.Hole) = new ≡ old
+KeptButBytes old new (Ok got.Lost) = new ≡ old
+KeptButBytes old new (Err why) = new ≡ old
+
+-- a Flush of the whole disk is made, or fails, or finds no memory, or the mount is stopped
+abbrev pub answers_whole : Result (Unit {0}) Refusal → Bool
+answers_whole (Ok done) = true
+answers_whole (Err refusal.WriteFault) = true
+answers_whole (Err refusal.OutOfMemory) = true
+answers_whole (Err refusal.Stopped) = true
+answers_whole (Err _) = false
 
 abbrev pub flush_answer : Result (Unit {0}) Refusal → Reply
 flush_answer (Ok done) = reply.Flushed

@@ -27,7 +27,7 @@ use Rattle.nofs_state.proofs.OnCores.Unchanged.{goes-after, reads-keep, safe-kee
 use Rattle.nofs_state.proofs.OnCores.Replies.{open-files}
 use Rattle.nofs_state.proofs.OnCores.Refusals.{IsLate, first-late, late-row, goes-unopened}
 use Rattle.nofs_state.proofs.OnBooks.Machine.{are-agreed, stale-none}
-use Rattle.nofs_files.specs.Reads.{FlushesDisk, Flushed, NotFlushed, flush_answer}
+use Rattle.nofs_files.specs.Reads.{FlushesDisk, Flushed, NotFlushed, answers_whole, flush_answer}
 
 -- what was flushed is settled
 pub settled-by : (old new : DiskState) (k l : Books) (result : Result (Unit {0}) Refusal)
@@ -36,6 +36,12 @@ settled-by old new k l result (Flushed f same e) =
     subst (λ (r : Result (Unit {0}) Refusal). OnOk r (IsSettled new)) (sym e) f.settled
 settled-by old new k l result (NotFlushed x f same e) =
     subst (λ (r : Result (Unit {0}) Refusal). OnOk r (IsSettled new)) (sym e) tt
+
+-- it was made, or failed
+pub whole-by : (old new : DiskState) (k l : Books) (result : Result (Unit {0}) Refusal) → FlushesDisk old k new l result
+    → answers_whole result ≡ true
+whole-by old new k l result (Flushed f same e) = ap answers_whole e
+whole-by old new k l result (NotFlushed x f same e) = ap answers_whole e
 
 -- the flush itself
 pub ends-flush : (old new : DiskState) (k l : Books) (i g : ℕ) (result : Result (Unit {0}) Refusal) → IsDisk old

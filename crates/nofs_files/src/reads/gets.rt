@@ -7,7 +7,7 @@ ghost use Rattle.nofs_history.specs.declared.machine.replies.Refusal.TheVariants
 ghost use Rattle.nofs_history.specs.declared.machine.replies.Reply.TheVariants as reply;
 ghost use Rattle.nofs_state.specs.Books.Maps.{IsSafe};
 ghost use Rattle.nofs_state.specs.Cores.Steps.{Goes};
-ghost use Rattle.nofs_files.specs.Reads.{got_answer};
+ghost use Rattle.nofs_files.specs.Reads.{KeptButBytes, got_answer};
 
 use crate::reads::files::{find_content, open_file, slots_of};
 use nofs_agree::{LastRead, PathAnswer};
@@ -26,8 +26,9 @@ pub enum Got {
     Lost,
 }
 
-/// Reads a slot of a file, whatever the size. Where there are bytes, `into` has them. It takes no memory, and has only
-/// read, so its caller may still find none for them.
+/// Reads a slot of a file, whatever the size. Where there are bytes, `into` has them, and else it is as it was: no bytes
+/// of a block that is lost come there. It takes no memory, and has only read, so its caller may still find none for
+/// them.
 pub fn get<D: Disk + Drop>(
     core: &mut Core<D>,
     inode: u32,
@@ -41,6 +42,7 @@ pub fn get<D: Disk + Drop>(
     ensures memory { Goes (D.state core.old.disk) core.old.books (D.state core.new.disk) core.new.books
         (step.Get inode generation slot) no_claims (reply.Refused refusal.OutOfMemory) }
     ensures no_memory { is_out_of_memory (got_answer into.new result) ≡ false }
+    ensures kept { KeptButBytes into.old into.new result }
 {
     if core.books.stopped {
         return Err(Refusal::Stopped);

@@ -1,8 +1,8 @@
-use Rattle.std.proofs.Common.{sym, ◌∙◌}
+use Rattle.std.proofs.Common.{refl, sym, ◌∙◌}
 use Rattle.nofs_disk.specs.Chains.{StaysButFaults-refl}
 use Rattle.nofs_history.specs.declared.machine.steps.Step.TheVariants as step
 use Rattle.nofs_state.proofs.OnCores.Replies.{goes-stopped}
-use Rattle.nofs_files.proofs.OnReads.Flushes.{ends-flush, opened-flush, settled-by, unopened-flush, whole-row}
+use Rattle.nofs_files.proofs.OnReads.Flushes.{ends-flush, opened-flush, settled-by, unopened-flush, whole-by, whole-row}
 use Rattle.nofs_files.proofs.reads.flushes.flush_with_room.Goals as goal
 
 pub returns-then-core-clause-goes : goal.returns-then-core-clause-goes
@@ -40,3 +40,17 @@ returns-then-names_disk-clause-settled g c = settled-by _ _ _ _ _ c.flush_disk.e
 
 pub returns-in-Ok-clause-settled : goal.returns-in-Ok-clause-settled
 returns-in-Ok-clause-settled g c = settled-by _ _ _ _ _ c.flush_disk-in-Ok.ensures
+
+pub returns-then-core-clause-whole : goal.returns-then-core-clause-whole
+returns-then-core-clause-whole g c = λ whole. refl
+
+pub returns-then-names_disk-clause-whole : goal.returns-then-names_disk-clause-whole
+returns-then-names_disk-clause-whole g c = λ whole. whole-by _ _ _ _ _ c.flush_disk.ensures
+
+pub returns-in-Ok-clause-whole : goal.returns-in-Ok-clause-whole
+returns-in-Ok-clause-whole g c = λ whole.
+    absurd (let e = c.names_disk.ensures in let f = c.if-names_disk.false in cc (e, f, whole))
+
+pub returns-in-Err-clause-whole : goal.returns-in-Err-clause-whole
+returns-in-Err-clause-whole g c = λ whole.
+    absurd (let e = c.names_disk.ensures in let f = c.if-names_disk.false in cc (e, f, whole))
