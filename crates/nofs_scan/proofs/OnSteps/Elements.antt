@@ -127,7 +127,7 @@ goes-seen old new k l s used stays going still safe at history follows = record 
   past = stays.past;
   later = (let m = stays.cells.moment in omega (arith, m));
   cause = seen-causes old new k l used stays.cells going still;
-  order = LeavesDisk refl stays.cells;
+  order = LeavesDisk refl stays.cells stays.dirty;
   safe = safe;
   at = at;
   history = history;
