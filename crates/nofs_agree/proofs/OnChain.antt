@@ -51,6 +51,7 @@ record-of old now at i r s k t = ap (λ (X : Image). inode X i) (sym s.cells.now
 -- from the first directory the way leads to this one
 pub record Climbed (old now : DiskState) (at : SuperBlock) (first here : Directory) (last : LastRead) : Type 0 where
   pub stays : StaysButFaults old now
+  pub no_fault : now.faults ≡ old.faults
   pub known : KnowsDirectory now at here.inode here.record.generation here.record
   pub kept : IsLast now last
   pub same : IsTrue old.tells → agreed (files_in old.now) first.inode ≡ agreed (files_in old.now) here.inode
@@ -59,7 +60,7 @@ pub climb-begins : (old : DiskState) (at : SuperBlock) (first : Directory) (last
     → KnowsDirectory old at first.inode first.record.generation first.record → IsLast old last
     → Climbed old old at first first last
 climb-begins old at first last known kept =
-    record { stays = StaysButFaults-refl old; known = known; kept = kept; same = λ t. refl }
+    record { stays = StaysButFaults-refl old; no_fault = refl; known = known; kept = kept; same = λ t. refl }
 
 -- the first back link of a directory leads to the one above it, where it is a pair
 decided : (old : DiskState) (at : SuperBlock) (it : Directory) (link : BackLink)
@@ -82,6 +83,7 @@ parent-none old new at it link last res known e reads is =
     subst (λ (q : Result (Option Record) Failed). ReadsPair old new at it.inode it.record link last q) is reads in
     record {
       stays = p.stays;
+      no_fault = p.no_fault;
       parent = tt;
       none = λ t n. decided old at it link known e t
           ∙ ap (λ (b : Bool). b && agreed (files_in old.now) link.directory) (sym (p.pair t));
@@ -103,6 +105,7 @@ parent-some old new at it link last res r known e reads is =
     let same = partner.directory.generation in
     record {
       stays = p.stays;
+      no_fault = p.no_fault;
       parent = record {
         known = record { known = partner.directory.known; kind = partner.directory.kind; generation = refl };
         older = omega (arith, older, same);
@@ -127,6 +130,7 @@ climb-goes old now new at first here parent last next res c root special reads i
     let above : IsDirectoryAbove now new at here parent = p.parent in
     record {
       stays = StaysButFaults-trans old now new c.stays p.stays;
+      no_fault = p.no_fault ∙ c.no_fault;
       known = above.known;
       kept = p.kept;
       same = λ t.
@@ -146,6 +150,7 @@ pub climb-root : (old now : DiskState) (at : SuperBlock) (known : List (Option B
     → TellsAgreed old now known (λ X. agreed (files_in X) first.inode) last (Ok true)
 climb-root old now at known first here last c root = record {
   stays = c.stays;
+  no_fault = c.no_fault;
   found = λ t a. sym (c.same t ∙ root-is (files_in old.now) here.inode
       (sym (root old.now (record-of old now at here.inode here.record c.stays c.known.known t))));
   kept = c.kept;
@@ -160,6 +165,7 @@ pub climb-special : (old now : DiskState) (at : SuperBlock) (known : List (Optio
     → TellsAgreed old now known (λ X. agreed (files_in X) first.inode) last (Ok false)
 climb-special old now at known first here last c root special = record {
   stays = c.stays;
+  no_fault = c.no_fault;
   found = λ t a. sym (c.same t ∙ special-is (files_in old.now) here.inode
       (sym (root old.now (record-of old now at here.inode here.record c.stays c.known.known t))) (sym special));
   kept = c.kept;
@@ -179,6 +185,7 @@ climb-none old now new at known first here last next res c root special reads is
     subst (λ (q : Result (Option Directory) Failed). ReadsParent now new at here next q) is reads in
     record {
       stays = StaysButFaults-trans old now new c.stays p.stays;
+      no_fault = p.no_fault ∙ c.no_fault;
       found = λ t a.
           let up : has_agreed_link (files_in old.now) here.inode ≡ false =
           subst (λ (X : Image). has_agreed_link (files_in X) here.inode ≡ false) c.stays.cells.now
@@ -201,6 +208,7 @@ pub record Passed (old now : DiskState) (known : List (Option Bool)) (i : ℕ) (
   pub none : IsTrue old.tells → AreTrue old.now known
       → (k : ℕ) → k < place → is_agreed_link (files_in old.now) i (get_or r.links k no_link) ≡ false
   pub stays : StaysButFaults old now
+  pub no_fault : now.faults ≡ old.faults
   pub kept : IsLast now last
 
 pub passed-goes : (old now new : DiskState) (known : List (Option Bool)) (i : ℕ) (r : Record) (last next : LastRead)
@@ -214,6 +222,7 @@ passed-goes old now new known i r last next place res p reads is =
     reads is in
     record {
       stays = StaysButFaults-trans old now new p.stays q.stays;
+      no_fault = q.no_fault ∙ p.no_fault;
       kept = q.kept;
       none = λ t a k low. elim (cases_lt k place) [
         | inl before ↦ p.none t a k before
@@ -240,6 +249,7 @@ passed-found old now new at known i r last next place res is p low reads e =
     reads e in
     record {
       stays = StaysButFaults-trans old now new p.stays q.stays;
+      no_fault = q.no_fault ∙ p.no_fault;
       found = λ t a.
           let four = four-of old at i r is t in
           let here : true ≡ is_agreed_link (files_in old.now) i (get_or r.links place no_link) =
@@ -257,6 +267,7 @@ pub passed-ends : (old now : DiskState) (at : SuperBlock) (known : List (Option 
     → TellsAgreed old now known (λ X. list_any (is_agreed_link (files_in X) i) r.links) last (Ok false)
 passed-ends old now at known i r last place is p whole = record {
   stays = p.stays;
+  no_fault = p.no_fault;
   found = λ t a. let four = four-of old at i r is t in
       sym (list_any_none (is_agreed_link (files_in old.now) i) r.links (λ k d low.
       ap (is_agreed_link (files_in old.now) i) (get_or_default r.links k d no_link low)

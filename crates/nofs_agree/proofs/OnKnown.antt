@@ -1,7 +1,7 @@
 -- What is known of inodes, and how more becomes known on the way up from one.
 use Rattle.std.proofs.Common.{◌≡◌, ℕ, ◌-◌, ◌<◌, ◌≤◌, ◌≢◌, inl, inr, Bool, true, false, IsTrue, List, length, get_or}
 use Rattle.std.proofs.Common.{Option, Some, None, IfSome, Result, Ok}
-use Rattle.std.proofs.Common.{Err, IsErr, OnErr, slice_set, replicate, refl, sym, ap, ◌∙◌, subst, arith, leb}
+use Rattle.std.proofs.Common.{Err, IsErr, OnErr, OnOk, slice_set, replicate, refl, sym, ap, ◌∙◌, subst, arith, leb}
 use Rattle.std.proofs.lemmas.Bool.{cases_lt}
 use Rattle.std.proofs.lemmas.Bool.Decides.{nat_tests}
 use Rattle.std.proofs.lemmas.List.{get_or_past, get_or-replicate, get_or-set_other, get_or-set_same, length-replicate}
@@ -148,6 +148,7 @@ pub keeps-ends : (old now : DiskState) (at : SuperBlock) (known more most : List
     → LearnsChain old now known most last (Ok tt)
 keeps-ends old now at known more most first here last b is k one = record {
   stays = k.climbed.stays;
+  no_fault = k.climbed.no_fault;
   learns = keeps-here old now at known more most first here last b is k one;
   kept = k.climbed.kept;
   cause = tt;
@@ -165,6 +166,7 @@ keeps-none old now new at known more most first here last next b res is k one re
     subst (λ (w : Result (Option Directory) Failed). ReadsParent now new at here next w) e reads in
     record {
       stays = StaysButFaults-trans old now new k.climbed.stays q.stays;
+      no_fault = q.no_fault ∙ k.climbed.no_fault;
       learns = keeps-here old now at known more most first here last b is k one;
       kept = q.kept;
       cause = tt;
@@ -185,6 +187,7 @@ keeps-fails old now new at known more most first here last next b res (Err y) x 
     subst (λ (w : Result (Option Directory) Failed). ReadsParent now new at here next w) e reads in
     record {
       stays = StaysButFaults-trans old now new k.climbed.stays q.stays;
+      no_fault = tt;
       learns = keeps-here old now at known more most first here last b is k one;
       kept = tt;
       cause = Rose-within old.faults now.faults new.faults new.faults k.climbed.stays.disk.faults q.cause (omega arith);
@@ -194,6 +197,7 @@ keeps-fails old now new at known more most first here last next b res (Err y) x 
 pub record Above (old now : DiskState) (at : SuperBlock) (known more : List (Option Bool)) (i : ℕ) (r : Record)
     (last : LastRead) : Type 0 where
   pub stays : StaysButFaults old now
+  pub no_fault : now.faults ≡ old.faults
   pub is : KnowsInode now at i r
   pub kept : IsLast now last
   pub learns : LearnsAgreement old known more
@@ -208,6 +212,7 @@ above-goes old now new at known more most i r last next res a reads e =
     subst (λ (w : Result (Unit {0}) Failed). LearnsChain now new more most next w) e reads in
     record {
       stays = StaysButFaults-trans old now new a.stays q.stays;
+      no_fault = q.no_fault ∙ a.no_fault;
       is = KnowsInode-on now new at i r q.stays a.is;
       kept = q.kept;
       learns = learns-more old now known more most a.stays a.learns q.learns;
@@ -217,17 +222,22 @@ on-err : (r : Result (Unit {0}) Failed) (P : Type 0) → P → OnErr r P
 on-err (Ok u) P p = tt
 on-err (Err e) P p = p
 
+on-ok : (r : Result (Unit {0}) Failed) (P : Type 0) → IsErr r → OnOk r P
+on-ok (Ok u) P failed = absurd (cc failed)
+on-ok (Err e) P failed = tt
+
 -- one of them could not be read to its end
 pub above-fails : (old now new : DiskState) (at : SuperBlock) (known more most : List (Option Bool)) (i : ℕ)
     (r : Record) (last next : LastRead)
     (res whole : Result (Unit {0}) Failed) (e : Failed)
-    → Above old now at known more i r last → LearnsChain now new more most next res → res ≡ Err e
+    → Above old now at known more i r last → LearnsChain now new more most next res → res ≡ Err e → IsErr whole
     → LearnsAbove old new known most whole
-above-fails old now new at known more most i r last next res whole x a reads e =
+above-fails old now new at known more most i r last next res whole x a reads e failed =
     let q : LearnsChain now new more most next (Err x) =
     subst (λ (w : Result (Unit {0}) Failed). LearnsChain now new more most next w) e reads in
     record {
       stays = StaysButFaults-trans old now new a.stays q.stays;
+      no_fault = on-ok whole _ failed;
       learns = learns-more old now known more most a.stays a.learns q.learns;
       cause = on-err whole _
           (Rose-within old.faults now.faults new.faults new.faults a.stays.disk.faults q.cause (omega arith));

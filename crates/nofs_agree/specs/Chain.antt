@@ -44,6 +44,7 @@ pub record TellsAnswer (old new : DiskState) (answer : Image → Bool) (last : L
   pub found : IfOk result (λ a. IsTrue old.tells → a ≡ answer old.now)
   pub kept : OnOk result (IsLast new last)
   pub cause : OnErr result (Rose old.faults new.faults)
+  pub no_fault : OnOk result (new.faults ≡ old.faults)
 
 -- so it is where what is known is true
 pub record TellsAgreed (old new : DiskState) (known : List (Option Bool)) (answer : Image → Bool) (last : LastRead)
@@ -52,6 +53,7 @@ pub record TellsAgreed (old new : DiskState) (known : List (Option Bool)) (answe
   pub found : IfOk result (λ a. IsTrue old.tells → AreTrue old.now known → a ≡ answer old.now)
   pub kept : OnOk result (IsLast new last)
   pub cause : OnErr result (Rose old.faults new.faults)
+  pub no_fault : OnOk result (new.faults ≡ old.faults)
 
 -- the record of a directory that may name an inode with this record
 pub record IsPartner (d : DiskState) (at : SuperBlock) (it : Record) (link : BackLink) (r : Record) : Type 0 where
@@ -66,6 +68,7 @@ pub record ReadsPair (old new : DiskState) (at : SuperBlock) (i : ℕ) (it : Rec
   pub directory : IfOk result (λ found. IfSome found (IsPartner new at it link))
   pub kept : OnOk result (IsLast new last)
   pub cause : OnErr result (Rose old.faults new.faults)
+  pub no_fault : OnOk result (new.faults ≡ old.faults)
 
 -- a directory above this one: it is older, and agreed exactly where this one has an agreed back link
 pub record IsDirectoryAbove (old new : DiskState) (at : SuperBlock) (it parent : Directory) : Type 0 where
@@ -82,6 +85,7 @@ pub record ReadsParent (old new : DiskState) (at : SuperBlock) (it : Directory) 
       (λ found. IsTrue old.tells → IsNone found → has_agreed_link (files_in old.now) it.inode ≡ false)
   pub kept : OnOk result (IsLast new last)
   pub cause : OnErr result (Rose old.faults new.faults)
+  pub no_fault : OnOk result (new.faults ≡ old.faults)
 
 -- so it is of one inode: what is known of the others was known before
 pub record LearnsOne (old new : List (Option Bool)) (i : ℕ) (agreed : Bool) : Type 0 where
@@ -97,6 +101,7 @@ pub record LearnsChain (old new : DiskState) (known more : List (Option Bool)) (
   pub learns : LearnsAgreement old known more
   pub kept : OnOk result (IsLast new last)
   pub cause : OnErr result (Rose old.faults new.faults)
+  pub no_fault : OnOk result (new.faults ≡ old.faults)
 
 -- so were all ways up from an inode
 pub record LearnsAbove (old new : DiskState) (known more : List (Option Bool))
@@ -104,3 +109,4 @@ pub record LearnsAbove (old new : DiskState) (known more : List (Option Bool))
   pub stays : StaysButFaults old new
   pub learns : LearnsAgreement old known more
   pub cause : OnErr result (Rose old.faults new.faults)
+  pub no_fault : OnOk result (new.faults ≡ old.faults)

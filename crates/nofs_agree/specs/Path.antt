@@ -26,3 +26,4 @@ pub record FindsSlot (old new : DiskState) (at : SuperBlock) (answer : Image →
   pub cell : IfOk result (λ a. IsTrue old.tells → IsCellOf old.now a last.cell)
   pub kept : OnOk result (IsLast new last)
   pub cause : OnErr result (Rose old.faults new.faults)
+  pub no_fault : OnOk result (new.faults ≡ old.faults)

@@ -26,6 +26,7 @@ pub record ReadsBlock (old new : DiskState) (block : ℕ) (last : LastRead)
   pub cell : OnOk result (IsTrue old.tells → last.cell ≡ cell_at old.now block)
   pub kept : OnOk result (IsLast new last)
   pub cause : OnErr result (Rose old.faults new.faults)
+  pub no_fault : OnOk result (new.faults ≡ old.faults)
 
 -- the record is that of the inode. It has a spelling even where the disk doesn't tell
 pub record KnowsInode (d : DiskState) (at : SuperBlock) (i : ℕ) (r : Record) : Type 0 where
@@ -42,6 +43,7 @@ pub record ReadsInode (old new : DiskState) (at : SuperBlock) (i : ℕ) (last : 
   pub found : IfOk result (λ r. KnowsInode new at i r)
   pub kept : OnOk result (IsLast new last)
   pub cause : OnErr result (Rose old.faults new.faults)
+  pub no_fault : OnOk result (new.faults ≡ old.faults)
 
 -- the record is that of a live directory of this generation
 pub record KnowsDirectory (d : DiskState) (at : SuperBlock) (i g : ℕ) (r : Record) : Type 0 where

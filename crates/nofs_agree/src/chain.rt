@@ -2,7 +2,7 @@
 //!
 //! Promise: it answers whether the inode is agreed, where what is said to be known is true, and ends
 //! whatever the image is, since each directory on the way is older than the one below.
-ghost use Rattle.std.specs.Prelude.{◌≡◌, IfOk, IsTrue, OnErr};
+ghost use Rattle.std.specs.Prelude.{◌≡◌, IfOk, IsTrue, OnErr, OnOk};
 ghost use Rattle.std.specs.List.{list_any};
 ghost use Rattle.nofs_disk.specs.Disk.{Rose, StaysButFaults};
 ghost use Rattle.nofs_inode.specs.declared.inode.FileKind.TheVariants as kind;
@@ -35,6 +35,7 @@ pub fn check_chain<D: Disk>(
     ensures agreed { IfOk result (λ answer. IsTrue (D.state disk.old).tells → AreTrue (D.state disk.old).now known.now
         → answer ≡ files.agreed (files.files_in (D.state disk.old).now) inode) }
     ensures cause { OnErr result (Rose (D.state disk.old).faults (D.state disk.new).faults) }
+    ensures no_fault { OnOk result ((D.state disk.new).faults ≡ (D.state disk.old).faults) }
 {
     if let Some(agreed) = known.told(inode) {
         return Ok(agreed);

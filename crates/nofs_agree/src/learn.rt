@@ -3,7 +3,7 @@
 //! Promise: it answers as the check that keeps nothing does. What is known afterwards is true where what was known
 //! before is, and each directory on the way up is known then. So many checks in a row walk each directory of a disk
 //! once, however deep it lies, and whether the way leads to the root or not.
-ghost use Rattle.std.specs.Prelude.{◌≡◌, ◌≤◌, IfOk, IsTrue, OnErr, Some, length};
+ghost use Rattle.std.specs.Prelude.{◌≡◌, ◌≤◌, IfOk, IsTrue, OnErr, OnOk, Some, length};
 ghost use Rattle.nofs_disk.specs.Disk.{Rose, StaysButFaults};
 ghost use Rattle.nofs_model.specs.Files as files;
 ghost use Rattle.nofs_agree.specs.Chain.{AreTrue, LearnsAgreement, LearnsAbove, LearnsChain, known_agreement};
@@ -38,6 +38,7 @@ pub fn learn_chain<D: Disk>(
     ensures knows { IfOk result
         (λ answer. 1 ≤ inode → inode ≤ at.now.inodes → known_agreement known.new inode ≡ Some answer) }
     ensures cause { OnErr result (Rose (D.state disk.old).faults (D.state disk.new).faults) }
+    ensures no_fault { OnOk result ((D.state disk.new).faults ≡ (D.state disk.old).faults) }
 {
     if let Some(agreed) = known.told(inode) {
         return Ok(agreed);

@@ -2,7 +2,7 @@
 //!
 //! Promise: it answers what stands in the slot by its definition, and reads no more than the
 //! record, the blocks above the slot, and its own block.
-ghost use Rattle.std.specs.Prelude.{◌≡◌, ◌<◌, IsTrue, IfOk, OnErr};
+ghost use Rattle.std.specs.Prelude.{◌≡◌, ◌<◌, IsTrue, IfOk, OnErr, OnOk};
 ghost use Rattle.nofs_disk.specs.Disk.{Rose, StaysButFaults};
 ghost use Rattle.nofs_ptrs.specs.Paths as paths;
 ghost use Rattle.nofs_model.specs.Places.{IsPlace, place_path};
@@ -36,6 +36,7 @@ pub fn check_path<D: Disk>(
     ensures found { IfOk result (λ answer. IsTrue (D.state disk.old).tells
         → answer ≡ slots.find (D.state disk.old).now inode (paths.path_of slot)) }
     ensures cause { OnErr result (Rose (D.state disk.old).faults (D.state disk.new).faults) }
+    ensures no_fault { OnOk result ((D.state disk.new).faults ≡ (D.state disk.old).faults) }
 {
     let mut last = LastRead::NONE;
     let it = read_inode(disk, at, inode, &mut last)?;
