@@ -14,9 +14,10 @@ use Rattle.nofs_history.specs.declared.machine.replies.Refusal.{Refusal}
 use Rattle.nofs_history.specs.declared.machine.replies.Reply.TheVariants as reply
 use Rattle.nofs_history.specs.declared.machine.steps.Step.{Step}
 use Rattle.nofs_history.specs.declared.machine.steps.Step.TheVariants as step
-use Rattle.nofs_files.specs.Reads.{flush_answer}
+use Rattle.nofs_files.specs.Reads.{answers_whole, flush_answer}
 use Rattle.nofs_shared.specs.Acts.Contents.{reads_content}
 use Rattle.nofs_shared.specs.Acts.Sees.{is_see}
+use Rattle.nofs_shared.specs.Mount.Flushes.{is_whole_answer}
 
 -- names answer a List, and bytes a Get
 pub names-read : (s : Step) (k : ℕ) (lines : List NameLine) → Fits s (reply.Names k lines) → reads_content s ≡ true
@@ -59,3 +60,12 @@ pub flush-settles : (P : Type 0) (done : Result (Unit {0}) Refusal) → OnOk don
     → P
 flush-settles P (Ok u) settled is = settled
 flush-settles P (Err why) settled is = absurd (cc is)
+
+-- and one of the whole disk was made, or failed, or found no memory, or the mount is stopped
+pub flush-answers : (done : Result (Unit {0}) Refusal) → answers_whole done ≡ true
+    → is_whole_answer (flush_answer done) ≡ true
+flush-answers (Ok u) e = refl
+flush-answers (Err refusal.WriteFault) e = refl
+flush-answers (Err refusal.OutOfMemory) e = refl
+flush-answers (Err refusal.Stopped) e = refl
+flush-answers (Err _) e = absurd (cc e)

@@ -50,7 +50,7 @@ module _ (index : Index) (s : Step) (it : Found) (told : IsTold index s it) wher
 
   module _ (d : DiskState) (k : Books) (going : k.stopped ≡ false) where
     pub told-order : NoOrder d d (MeetsOpen d k) s no_claims (reply.Found it)
-    told-order = LeavesDisk refl (KeepsCells-refl d)
+    told-order = LeavesDisk refl (KeepsCells-refl d) refl
 
     pub told-safely : IsSafe d k → IsSafeStep d k d k (reply.Found it)
     told-safely safe = safely-answer d d k safe (StaysButFaults-refl d) (reply.Found it) refl refl going

@@ -108,7 +108,7 @@ number-known a b known = eqb-true a b (∥∥₁_elim known (Bool-set _ _) (λ e
 order-known : (old new : DiskState) (P Q : Files → Type 0) (s : Step) (c : Claims) (r : Reply)
     → ((F : Files) → Q F → ∥ P F ∥₁)
     → NoOrder old new P s c r → NoOrder old new Q s c r
-order-known old new P Q s c r known (LeavesDisk none cells) = LeavesDisk none cells
+order-known old new P Q s c r known (LeavesDisk none cells dirty) = LeavesDisk none cells dirty
 order-known old new P Q s c r known (FlushesAlone is quick f) = FlushesAlone is quick f
 order-known old new P Q s c r known (WritesAlone made w) = WritesAlone made (record {
   row = w.row;
@@ -159,16 +159,31 @@ order-sound found old new first k s r K h start stands o = record {
 -- there was no room for the entry
 pub order-unroomed : (d : DiskState) (P : Files → Type 0) (s : Step) (K : List Entry1)
     → StepOrder d d P s (reply.Refused refusal.OutOfMemory) K
-order-unroomed d P s K = record { claims = no_claims; entry = λ e. cc; order = LeavesDisk refl (KeepsCells-refl d) }
+order-unroomed d P s K =
+    record { claims = no_claims; entry = λ e. cc; order = LeavesDisk refl (KeepsCells-refl d) refl }
 
--- a step that examines an element leaves the device
+-- a step that examines an element writes nothing out
+pub see-dirty : (old new : DiskState) (P : Files → Type 0) (s : Step) (r : Reply) (K : List Entry1) → is_see s ≡ true
+    → StepOrder old new P s r K
+    → new.dirty ≡ old.dirty
+see-dirty old new P s r K e o = go s e o.order
+  where
+    go : (s : Step) → is_see s ≡ true → NoOrder old new P s o.claims r → new.dirty ≡ old.dirty
+    go s e (LeavesDisk none cells dirty) = dirty
+    go (step.SeeInode i) e (FlushesAlone is quick f) = absurd (cc is)
+    go (step.SeeInode i) e (WritesAlone made w) = absurd w.count
+    go (step.SeeBlock b) e (FlushesAlone is quick f) = absurd (cc is)
+    go (step.SeeBlock b) e (WritesAlone made w) = absurd w.count
+    go _ e _ = absurd (cc e)
+
+-- and leaves the device
 pub see-leaves : (old new : DiskState) (P : Files → Type 0) (s : Step) (r : Reply) (K : List Entry1) → is_see s ≡ true
     → StepOrder old new P s r K
     → KeepsCells old new
 see-leaves old new P s r K e o = go s e o.order
   where
     go : (s : Step) → is_see s ≡ true → NoOrder old new P s o.claims r → KeepsCells old new
-    go s e (LeavesDisk none cells) = cells
+    go s e (LeavesDisk none cells dirty) = cells
     go (step.SeeInode i) e (FlushesAlone is quick f) = absurd (cc is)
     go (step.SeeInode i) e (WritesAlone made w) = absurd w.count
     go (step.SeeBlock b) e (FlushesAlone is quick f) = absurd (cc is)

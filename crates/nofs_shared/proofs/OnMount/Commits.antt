@@ -22,6 +22,7 @@ use Rattle.nofs_state.specs.declared.books.maps.Books.{Books}
 use Rattle.nofs_state.specs.Books.Verdicts.{LearnsIt, OffersVerdict, StaysSo}
 use Rattle.nofs_scan.specs.Steps.Elements.{HasElement, is_used, learned, see_step, verdict_of}
 use Rattle.nofs_scan.specs.Steps.Commits.{Commits, WasOpen}
+use Rattle.nofs_shared.specs.Mount.Flushes.{names_whole}
 use Rattle.nofs_shared.specs.Mount.Commits.{IsCommit, SeesVerdict}
 use Rattle.nofs_shared.specs.Mount.Earlier.{IsOfBooks}
 use Rattle.nofs_shared.specs.Acts.Sees.{is_see}
@@ -79,7 +80,7 @@ module _ (found early d : DiskState) (first : ℕ) (before k l : Books) (then : 
     pub mount-commits : (h : HistoryState) → h.start ≡ l.history.start → h.entries ≡ l.history.entries ++ e ∷ []
         → IsMount found d first (record l { history = h })
     mount-commits = mount-more found d d first k l m (see_step kind item) no_claims (reply.Seen result) caller safely
-        (LeavesDisk refl (KeepsCells-refl d)) refl
+        (LeavesDisk refl (KeepsCells-refl d) refl) refl
         (λ q st. (go q st.past st.base st.serial st.now, st.sound))
       where
         go : IsSoundDisk found → (p : Past) → p.base ≡ d.was k.history.start → p.first ≡ first
@@ -190,6 +191,11 @@ fits-seen element.Block item used = tt
 pub see-is : (kind : ElementKind) (item : ℕ) → is_see (see_step kind item) ≡ true
 see-is element.Inode item = refl
 see-is element.Block item = refl
+
+-- and no Flush
+pub see-flushes-nothing : (kind : ElementKind) (item : ℕ) → names_whole (see_step kind item) ≡ true → ⊥
+see-flushes-nothing element.Inode item e = cc e
+see-flushes-nothing element.Block item e = cc e
 
 -- the number of a verdict's element is small
 pub item-small : (kind : ElementKind) (at : SuperBlock) (item : ℕ) → HasElement kind at item

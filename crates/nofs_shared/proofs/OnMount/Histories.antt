@@ -148,7 +148,7 @@ no-flushes false b e = refl
 pub calls-by : (old new : DiskState) (k : Books) (caller : ℕ) (s : Step) (c : Claims) (r : Reply)
     → NoOrder old new (MeetsOpen old k) s c r
     → Calls (entry caller old new s c r)
-calls-by old new k caller s c r (LeavesDisk none cells) = record {
+calls-by old new k caller s c r (LeavesDisk none cells dirty) = record {
   cells = 0;
   wrote = NoCell (inl none) refl;
   took = (let m = cells.moment in let f : flushes_of (entry caller old new s c r) ≡ 0 = let t = quick r none in
@@ -200,7 +200,7 @@ either-none false n e = refl
 pub entry-calls : (old new : DiskState) (k : Books) (caller : ℕ) (s : Step) (c : Claims) (r : Reply) (F : Files)
     → NoOrder old new (MeetsOpen old k) s c r → MeetsOpen old k F ⊎ (r ≡ reply.Refused refusal.Stopped)
     → EntryCalls F old.moment new.moment (entry caller old new s c r)
-entry-calls old new k caller s c r F (LeavesDisk none cells) met =
+entry-calls old new k caller s c r F (LeavesDisk none cells dirty) met =
     let m = cells.moment in
     let f : flushes_of (entry caller old new s c r) ≡ 0 = let t = quick r none in rw t refl in
     let n : entry_cells F (entry caller old new s c r) ≡ 0 = rw none refl in

@@ -35,7 +35,7 @@ flush-is _ e = absurd (cc e)
 
 pub reads-after : (old new : DiskState) (k : Books) (caller : ℕ) (s : Step) (c : Claims) (r : Reply)
     → NoOrder old new (MeetsOpen old k) s c r → ReadsAfter old.now (entry caller old new s c r) new.now
-reads-after old new k caller s c r (LeavesDisk none cells) = NothingWritten cells.moment cells.now
+reads-after old new k caller s c r (LeavesDisk none cells dirty) = NothingWritten cells.moment cells.now
 reads-after old new k caller s c r (FlushesAlone is late f) = let q = flush-is s is in OnlyFlushed q.0 q.1 q.2 f.now
 reads-after old new k caller s c r (WritesAlone made w) =
     CellsWritten w.calls w.only.moment w.only.done w.only.tried
@@ -102,7 +102,7 @@ stays-stopped W V e t (ByWrite a b c d f g h i) = absurd (cc (t, a))
 -- a Flush writes no cell
 flush-now : (old new : DiskState) (k : Books) (i g : ℕ) (c : Claims) (r : Reply)
     → NoOrder old new (MeetsOpen old k) (step.Flush i g) c r → new.now ≡ old.now
-flush-now old new k i g c r (LeavesDisk none cells) = cells.now
+flush-now old new k i g c r (LeavesDisk none cells dirty) = cells.now
 flush-now old new k i g c r (FlushesAlone is late f) = f.now
 flush-now old new k i g c r (WritesAlone made w) = absurd w.count
 

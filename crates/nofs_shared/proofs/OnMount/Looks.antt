@@ -65,7 +65,7 @@ mount-looked found old new first k l stays same learns m =
     let more = mount-knows found old first k l.agreement learns m in
     let b = with_agreement k l.agreement in
     subst (λ (q : Books). IsMount found new first q) (sym same)
-    (mount-still found old new first b b more (reads-keep old new stays)
+    (mount-still found old new first b b more stays.disk stays.past stays.cells
     (safe-keeps old new (reads-keep old new stays) b more.safe))
 
 -- the evidence is of the state before the look

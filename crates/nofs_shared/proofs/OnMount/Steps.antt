@@ -2,7 +2,7 @@
 use Rattle.std.proofs.Common.{◌≡◌, ℕ, ◌+◌, ◌-◌, ◌^◌, ◌<◌, ◌≤◌, min, Bool, true, false, ◌||◌, cond, List, [], ◌∷◌, ◌++◌}
 use Rattle.std.proofs.Common.{IsTrue, ◌⊎◌, inl, inr, refl, sym, ap, ◌∙◌, subst, subst₂, arith, le_refl}
 use Rattle.std.proofs.lemmas.Bool.{cases_lt}
-use Rattle.nofs_disk.specs.Disk.{DiskState, IsSameDisk, KeepsCells, Picks, Rose}
+use Rattle.nofs_disk.specs.Disk.{DiskState, IsSameDisk, KeepsCells, KeepsPast, Picks, Rose}
 use Rattle.nofs_disk.specs.Chains.{IsSameDisk-trans}
 use Rattle.nofs_disk.specs.declared.tag.Cell.{Cell}
 use Rattle.nofs_super.specs.declared.superblock.SuperBlock.{SuperBlock}
@@ -26,7 +26,7 @@ use Rattle.nofs_state.specs.Cores.Invariant.{IsOpen, IsStopped, Past, Sounds}
 use Rattle.nofs_state.specs.Cores.Steps.{Follows, Goes, IsSafeStep, MeetsOpen, Moves, NoOrder, entry, goes-safely}
 use Rattle.nofs_state.specs.declared.books.maps.Books.{Books}
 use Rattle.nofs_crashlaw.proofs.OnHistories.Later.{law-later}
-use Rattle.nofs_state.proofs.OnCores.Unchanged.{Keeping, open-keeps, stopped-keeps}
+use Rattle.nofs_state.proofs.OnCores.Unchanged.{Level, open-level, stopped-level}
 use Rattle.nofs_state.proofs.OnCores.Rows.{open-with, stopped-with}
 use Rattle.nofs_state.proofs.OnWrites.NoWrites.{sounds-keep}
 use Rattle.nofs_shared.proofs.OnLaws.Images.{rests-later}
@@ -139,33 +139,37 @@ module _ (found old new : DiskState) (first : ℕ) (k l : Books) (m : IsMount fo
   told q = subst (λ (b : Bool). IsTrue b) (sym m.disk.tells) q.tells
 
   -- where cells and moment stay
-  pub mount-still : Keeping old new → IsSafe new k → IsMount found new first k
-  mount-still keep safe = record {
+  pub mount-still : IsSameDisk old new → KeepsPast old new → KeepsCells old new → IsSafe new k
+      → IsMount found new first k
+  mount-still disk past cells safe = record {
     safe = safe;
-    disk = IsSameDisk-trans found old new m.disk keep.disk;
+    disk = IsSameDisk-trans found old new m.disk disk;
     mounted = record {
       begun = m.mounted.begun;
-      base = keep.past.was k.history.start low ∙ m.mounted.base;
-      before = λ n X from to left. m.mounted.before n X from to (keep.past.no_more n X (omega (arith, low, to)) left);
-      resting = λ e X p. m.mounted.resting (sym keep.cells.moment ∙ e) X (picks-back old new keep.disk keep.cells X p);
+      base = past.was k.history.start low ∙ m.mounted.base;
+      before = λ n X from to left. m.mounted.before n X from to (past.no_more n X (omega (arith, low, to)) left);
+      resting = λ e X p. m.mounted.resting (sym cells.moment ∙ e) X (picks-back old new disk cells X p);
     };
     forms = subst (λ (n : ℕ). Forms k.history.start false k.history.entries n k.stopped)
-        (sym keep.cells.moment) m.forms;
-    counted = (let q = m.counted in let f = keep.disk.faults in omega (arith, q, f));
+        (sym cells.moment) m.forms;
+    counted = (let q = m.counted in let f = disk.faults in omega (arith, q, f));
     stands = λ q. let st = m.stands q in
-        stands-still found old new first k keep.disk keep.cells (keep.past.was k.history.start low) st
-        (go st.past st.now) (sounds-keep found.moment old new keep.disk keep.past keep.cells st.sound);
+        stands-still found old new first k disk cells (past.was k.history.start low) st
+        (go st.past st.now) (sounds-keep found.moment old new disk past cells st.sound);
   }
     where
+      level : Level old new
+      level = record { blocks = disk.blocks; past = past; cells = cells }
+
       go : (p : Past) → IsOpen old k k.history.entries p ⊎ IsStopped old k k.history.entries p
           → IsOpen new k k.history.entries p ⊎ IsStopped new k k.history.entries p
-      go p (inl o) = inl (open-keeps old new keep k k.history.entries p o)
-      go p (inr o) = inr (stopped-keeps old new keep k k.history.entries p o)
+      go p (inl o) = inl (open-level old new level k k.history.entries p o)
+      go p (inr o) = inr (stopped-level old new level k k.history.entries p o)
 
   -- where memory was wanting
   pub mount-none : (r : Reply) → IsSafeStep old k new l r → is_out_of_memory r ≡ true → IsMount found new first l
   mount-none r g mem = subst (λ (b : Books). IsMount found new first b) (sym (g.cause.memory mem))
-      (mount-still (record { disk = g.disk; past = g.past; cells = cells })
+      (mount-still g.disk g.past cells
       (subst (λ (b : Books). IsSafe new b) (g.cause.memory mem) g.safe))
     where
       cells : KeepsCells old new

@@ -1,8 +1,9 @@
--- What a flush that was made leaves.
-use Rattle.std.specs.Prelude.{◌≡◌}
+-- What a flush leaves that was made, and what one of the whole disk answers.
+use Rattle.std.specs.Prelude.{◌≡◌, ◌==◌, ◌&&◌, Bool, true, false}
 use Rattle.nofs_disk.specs.Disk.{DiskState, IsSettled}
 use Rattle.nofs_history.specs.declared.machine.steps.Step.{Step}
 use Rattle.nofs_history.specs.declared.machine.steps.Step.TheVariants as step
+use Rattle.nofs_history.specs.declared.machine.replies.Refusal.TheVariants as refusal
 use Rattle.nofs_history.specs.declared.machine.replies.Reply.{Reply}
 use Rattle.nofs_history.specs.declared.machine.replies.Reply.TheVariants as reply
 
@@ -21,3 +22,16 @@ Settles (step.Resize _ _ _) r d = Unit {0}
 Settles (step.Stat _ _) r d = Unit {0}
 Settles (step.SeeInode _) r d = Unit {0}
 Settles (step.SeeBlock _) r d = Unit {0}
+
+-- it is a Flush of the whole disk
+abbrev pub names_whole : Step → Bool
+names_whole (step.Flush i g) = (i == 0) && (g == 0)
+names_whole _ = false
+
+-- over any disk such a one is made, or fails, or finds no memory, or the mount is stopped
+abbrev pub is_whole_answer : Reply → Bool
+is_whole_answer reply.Flushed = true
+is_whole_answer (reply.Refused refusal.WriteFault) = true
+is_whole_answer (reply.Refused refusal.OutOfMemory) = true
+is_whole_answer (reply.Refused refusal.Stopped) = true
+is_whole_answer _ = false

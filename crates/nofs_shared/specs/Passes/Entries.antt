@@ -1,5 +1,5 @@
 -- Entries of one caller, and what a section at the mount tells.
-use Rattle.std.specs.Prelude.{ℕ, Bool, true, ◌&&◌, List, [], ◌∷◌, map}
+use Rattle.std.specs.Prelude.{◌≡◌, ℕ, Bool, true, ◌&&◌, List, [], ◌∷◌, map}
 use Rattle.nofs_turn.specs.Lists.{entries_of}
 use Rattle.nofs_history.specs.Callers.{done_of, is_by}
 use Rattle.nofs_history.specs.Steps.{Fits, Made}
@@ -7,6 +7,7 @@ use Rattle.nofs_history.specs.declared.machine.history.Entry1.{Entry1}
 use Rattle.nofs_history.specs.declared.machine.steps.Step.{Step}
 use Rattle.nofs_history.specs.declared.machine.replies.Reply.{Reply}
 use Rattle.nofs_shared.specs.Mount.Entries.{AddsStep}
+use Rattle.nofs_shared.specs.Mount.Flushes.{is_whole_answer, names_whole}
 
 -- all entries are the caller's
 abbrev pub all_by : ℕ → List (ℕ × Entry1) → Bool
@@ -23,3 +24,5 @@ pub record TellsStep (caller : ℕ) (s : Step) (H K : List Entry1) (r : Reply) :
   pub adds : AddsStep caller s r H K
   -- the reply is one that such a step may have
   pub fits : Fits s r
+  -- a Flush of the whole disk is refused for nothing but a fault of the device or want of memory, over any disk
+  pub whole : names_whole s ≡ true → is_whole_answer r ≡ true

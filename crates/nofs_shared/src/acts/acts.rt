@@ -10,7 +10,7 @@ ghost use Rattle.nofs_state.specs.Cores.Steps.{Goes};
 ghost use Rattle.nofs_shared.specs.Acts.Contents.{reads_content};
 ghost use Rattle.nofs_shared.specs.Acts.Names.{is_on_names};
 ghost use Rattle.nofs_shared.specs.Acts.Sees.{is_see};
-ghost use Rattle.nofs_shared.specs.Mount.Flushes.{Settles};
+ghost use Rattle.nofs_shared.specs.Mount.Flushes.{Settles, is_whole_answer, names_whole};
 
 use crate::acts::acted::{
     Acted, dropped, flushed, found, got, linked, listed, made, refused, renamed, resized, seen,
@@ -122,6 +122,7 @@ pub(crate) fn act<D: Disk + Drop>(core: &mut Core<D>, alloc: Global, step: &Step
     ensures fits { Fits step.now result.reply }
     ensures sees { is_see step.now ≡ true → is_out_of_memory result.reply ≡ false }
     ensures settled { Settles step.now result.reply (D.state core.new.disk) }
+    ensures whole { names_whole step.now ≡ true → is_whole_answer result.reply ≡ true }
 {
     match step {
         Step::Look { .. } => act_on_names(core, alloc, step),

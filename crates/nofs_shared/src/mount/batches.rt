@@ -81,6 +81,7 @@ fn commit_in<D: Disk + Drop>(
     ensures goes_on { BooksGoOn (D.state core.new.disk) core.old.books core.new.books }
     ensures sees { is_out_of_memory result ≡ false }
     ensures leaves { KeepsCells (D.state core.old.disk) (D.state core.new.disk) }
+    ensures dirty { (D.state core.new.disk).dirty ≡ (D.state core.old.disk).dirty }
 {
     let item = evidence.verdicts.item(at);
     let step = step_of(evidence.kind, item);
@@ -155,6 +156,7 @@ impl<D: Disk + Drop> Mount<D> {
         ensures kept { TakesKept caller
             (see_step evidence.now.kind (verdict_at evidence.now.verdicts at).item) result self.old.kept self.new.kept }
         ensures leaves { KeepsCells (D.state self.old.core.disk) (D.state self.new.core.disk) }
+        ensures dirty { (D.state self.new.core.disk).dirty ≡ (D.state self.old.core.disk).dirty }
         ensures own { IsEarlier (D.state self.new.found.value)
             (D.state evidence.now.core.value.disk) evidence.now.core.value.books
             self.new.first self.new.core.books.history.start self.new.core.books.at

@@ -106,7 +106,8 @@ impl<D: Disk + Drop> Mount<D> {
     /// Makes one step of a caller. Each See step of the sweeps has its memory while
     /// some is kept for them. Over any disk, a read fault comes only where its count of faults rose, a
     /// write fault only where it rose and a write or a flush was made, `Stopped` exactly where one of
-    /// them failed before, and every other refusal leaves the cells. No step orders its writes: over a disk that
+    /// them failed before, and every other refusal leaves the cells. A Flush of the whole disk is refused for nothing
+    /// else but want of memory. No step orders its writes, and none writes a block out: over a disk that
     /// tells, one that is no Flush makes writes alone, one call a cell, and after a call that failed no other; where
     /// the disk was also found sound, it writes no block twice. Over a disk that does not tell, this is the number
     /// of calls that write or flush, and no more.

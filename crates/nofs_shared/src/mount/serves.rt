@@ -5,6 +5,7 @@
 ghost use Rattle.std.specs.Prelude.{◌≡◌, ◌+◌, ◌++◌, ◌<◌, ◌≤◌, ℕ, Bool, List, IfOk, get_or, length};
 ghost use Rattle.nofs_history.specs.declared.machine.history.Entry1.{Entry1};
 ghost use Rattle.nofs_history.specs.declared.machine.steps.ElementKind.{ElementKind};
+ghost use Rattle.nofs_history.specs.declared.machine.steps.Step.{Step};
 ghost use Rattle.nofs_history.specs.declared.machine.replies.Reply.{Reply};
 ghost use Rattle.nofs_scan.specs.Steps.Elements.{see_step};
 
@@ -42,7 +43,7 @@ impl<D: Disk + Drop> Kept for Mount<D> {
 
 /// A value behind a turn at which callers make steps, one entry each, and whose elements are examined in batches. Its
 /// device keeps blocks back in a step alone, not in a look or a commit: so where a write-out found none, there is none
-/// until the next step.
+/// until the next step. Neither a step nor a look nor a commit writes a block out.
 pub trait Serves: Kept<Entry = Entry1> + Drop {
     ghost use Rattle.nofs_shared.specs.Acts.Sees.{FindsRoom};
     ghost use Rattle.nofs_shared.specs.Passes.Entries.{TellsStep};
@@ -67,6 +68,12 @@ pub trait Serves: Kept<Entry = Entry1> + Drop {
     /// For how many entries of the sweeps room was taken.
     ghost room_in: { Self.Fixed → ℕ };
 
+    /// What a step did to the device, from the value before it to the value after it.
+    ghost does: { Self → Self → Step → Reply → Type 0 };
+
+    /// What a look, or a commit of what it found, leaves of the device.
+    ghost stays: { Self → Self → Type 0 };
+
     /// What a commit of the verdict at a place says, where the entries before it were these.
     ghost commits: { Self.Evidence → ℕ → Self.Fixed → List Entry1 → Reply → Type 0 };
 
@@ -74,7 +81,8 @@ pub trait Serves: Kept<Entry = Entry1> + Drop {
     fn serve(&mut self, alloc: Global, caller: u32, step: Step) -> Reply
         ensures fixed { Self.fixed self.new ≡ Self.fixed self.old }
         ensures tells { TellsStep caller step (Self.entries self.old) (Self.entries self.new) result }
-        ensures room { FindsRoom (room_in (Self.fixed self.old)) caller step (Self.entries self.old) result };
+        ensures room { FindsRoom (room_in (Self.fixed self.old)) caller step (Self.entries self.old) result }
+        ensures does { does self.old self.new step result };
 
     /// Looks at 1 to 64 elements. It makes no entry.
     fn look(
@@ -87,7 +95,8 @@ pub trait Serves: Kept<Entry = Entry1> + Drop {
         ensures fixed { Self.fixed self.new ≡ Self.fixed self.old }
         ensures entries { Self.entries self.new ≡ Self.entries self.old }
         ensures asked { IfOk result (λ e. (kind_of e ≡ kind) × (items_in e ≡ items.now)) }
-        ensures own { IfOk result (λ e. is_of e (Self.fixed self.new) (Self.entries self.new)) };
+        ensures own { IfOk result (λ e. is_of e (Self.fixed self.new) (Self.entries self.new)) }
+        ensures stays { stays self.old self.new };
 
     /// The verdict at a place, as it was found.
     fn judge(evidence: &Self::Evidence, at: u32) -> bool
@@ -111,7 +120,8 @@ pub trait Serves: Kept<Entry = Entry1> + Drop {
             (Self.entries self.old) (Self.entries self.new) result }
         ensures room { FindsRoom (room_in (Self.fixed self.old)) caller
             (see_step (kind_of evidence.now) (get_or (items_in evidence.now) at 0)) (Self.entries self.old) result }
-        ensures commits { commits evidence.now at (Self.fixed self.old) (Self.entries self.old) result };
+        ensures commits { commits evidence.now at (Self.fixed self.old) (Self.entries self.old) result }
+        ensures stays { stays self.old self.new };
 
     /// Writes out one block that the device kept back, and names it; `None` where there is none. It makes no entry.
     fn write_out(&mut self) -> Result<Option<u64>, OutFault>
@@ -121,6 +131,8 @@ pub trait Serves: Kept<Entry = Entry1> + Drop {
 
 impl<D: Disk + Drop> Serves for Mount<D> {
     ghost use Rattle.nofs_scan.specs.Steps.Elements.{items_of, verdict_at};
+    ghost use Rattle.nofs_disk.specs.Disk.{KeepsCells};
+    ghost use Rattle.nofs_shared.specs.Mount.Causes.{MeetsSound, StepOrder};
     ghost use Rattle.nofs_shared.specs.Mount.Commits.{CommitsAt};
     ghost use Rattle.nofs_shared.specs.Mount.Earlier.{IsEarlier, earlier-more};
 
@@ -138,6 +150,13 @@ impl<D: Disk + Drop> Serves for Mount<D> {
     ghost is_of_more = { λ e f xs ys h. earlier-more h ys };
 
     ghost room_in = { λ f. f.at.inodes + f.at.blocks };
+
+    ghost does = { λ old new s r. StepOrder (D.state old.core.disk) (D.state new.core.disk)
+        (MeetsSound (D.state old.found.value) (D.state old.core.disk) old.core.books) s r
+        new.core.books.history.entries };
+
+    ghost stays = { λ old new. KeepsCells (D.state old.core.disk) (D.state new.core.disk)
+        × ((D.state new.core.disk).dirty ≡ (D.state old.core.disk).dirty) };
 
     ghost commits = { λ e at f xs r. ∥ CommitsAt D.state f.found f.first xs e.kind
         (verdict_at e.verdicts at).item (verdict_at e.verdicts at).used r ∥₁ };

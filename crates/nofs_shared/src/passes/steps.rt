@@ -29,6 +29,8 @@ struct Move<'a> {
 }
 
 impl<V: Serves> Section<V> for Move<'_> {
+    ghost use mathlib.Core.List.{IsPrefix};
+    ghost use Rattle.std.specs.Prelude.{◌≡◌, ◌+◌, ◌≤◌, length};
     ghost use Rattle.nofs_shared.specs.Acts.Sees.{FindsRoom};
     ghost use Rattle.nofs_shared.specs.Passes.Entries.{TellsStep};
 
@@ -41,7 +43,14 @@ impl<V: Serves> Section<V> for Move<'_> {
 
     ghost lasts = { λ _ _ _ _ _. tt };
 
-    fn run(self, value: &mut V) -> Reply {
+    fn run(self, value: &mut V) -> Reply
+        ensures fixed { V.fixed value.new ≡ V.fixed value.old }
+        ensures keeps { IsPrefix (V.entries value.old) (V.entries value.new) }
+        ensures at_most_one { length (V.entries value.new) ≤ length (V.entries value.old) + 1 }
+        ensures tells { TellsStep self.entry.caller self.entry.step (V.entries value.old) (V.entries value.new) result
+            × FindsRoom (V.room_in (V.fixed value.old)) self.entry.caller self.entry.step (V.entries value.old) result }
+        ensures does { V.does value.old value.new self.entry.step result }
+    {
         self.clean.store(false, Ordering::SeqCst);
         value.serve(self.alloc, self.caller, self.step)
     }

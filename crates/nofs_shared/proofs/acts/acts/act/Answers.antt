@@ -1,9 +1,9 @@
-use Rattle.std.proofs.Common.{sym, subst₂}
+use Rattle.std.proofs.Common.{◌≡◌, true, sym, subst₂}
 use Rattle.nofs_disk.specs.Disk.{IsSettled}
 use Rattle.nofs_history.specs.declared.machine.steps.Step.{Step}
-use Rattle.nofs_shared.specs.Mount.Flushes.{Settles}
+use Rattle.nofs_shared.specs.Mount.Flushes.{Settles, is_whole_answer, names_whole}
 use Rattle.nofs_shared.specs.declared.acts.acted.Acted.{Acted}
-use Rattle.nofs_shared.proofs.OnActs.Contents.{flush-settles}
+use Rattle.nofs_shared.proofs.OnActs.Contents.{flush-answers, flush-settles}
 use Rattle.nofs_shared.proofs.acts.acts.act.Goals as goal
 
 pub returns-in-Flush-clause-settled : goal.returns-in-Flush-clause-settled
@@ -11,3 +11,9 @@ returns-in-Flush-clause-settled g c = subst₂ (λ (s : Step) (a : Acted). Settl
     (g.D.Disk.state c.flush.new.core.disk))
     (sym c.in-Flush.is) (sym c.flushed.ensures.is)
     (flush-settles (IsSettled (g.D.Disk.state c.flush.new.core.disk)) c.flush.result c.flush.ensures.settled)
+
+pub returns-in-Flush-clause-whole : goal.returns-in-Flush-clause-whole
+returns-in-Flush-clause-whole g c = subst₂ (λ (s : Step) (a : Acted).
+    names_whole s ≡ true → is_whole_answer a.reply ≡ true)
+    (sym c.in-Flush.is) (sym c.flushed.ensures.is)
+    (λ whole. flush-answers c.flush.result (c.flush.ensures.whole whole))

@@ -5,13 +5,14 @@ use Rattle.nofs_state.specs.Books.Maps.{IsSafe}
 use Rattle.nofs_state.specs.declared.books.maps.Books.{Books}
 use Rattle.nofs_scan.specs.Steps.Elements.{see_step, verdict_at}
 use Rattle.nofs_shared.specs.Mount.Invariant.{IsMount}
-use Rattle.nofs_shared.proofs.OnMount.Causes.{see-leaves}
+use Rattle.nofs_shared.proofs.OnMount.Causes.{see-dirty, see-leaves}
 use Rattle.nofs_shared.proofs.OnMount.Histories.{safe-history}
 use Rattle.nofs_history.specs.declared.machine.replies.Reply.TheVariants as reply
 use Rattle.nofs_shared.specs.Mount.Commits.{IsCommit}
 use Rattle.nofs_shared.specs.Acts.Sees.{is_see}
 use Rattle.nofs_shared.proofs.OnIndex.Mounts.{index-unmoved, see-unmoved}
-use Rattle.nofs_shared.proofs.OnMount.Commits.{commit-stopped, fits-seen, mount-answers, mount-kept, see-is}
+use Rattle.nofs_shared.proofs.OnMount.Commits.{commit-stopped, fits-seen, mount-answers, mount-kept, see-flushes-nothing}
+use Rattle.nofs_shared.proofs.OnMount.Commits.{see-is}
 use Rattle.nofs_shared.proofs.mount.batches.commit_in.Goals as goal
 
 pub returns-clause-keeps : goal.returns-clause-keeps
@@ -33,6 +34,8 @@ returns-clause-tells g c = record {
   adds = search rules;
   fits = fits-seen c.args.evidence.now.kind
       (verdict_at c.args.evidence.now.verdicts c.args.at).item c.commit-stands.result;
+  whole = λ e. absurd (see-flushes-nothing c.args.evidence.now.kind
+      (verdict_at c.args.evidence.now.verdicts c.args.at).item e);
 }
 
 pub returns-clause-notes : goal.returns-clause-notes
@@ -88,6 +91,18 @@ returns-clause-leaves g c = subst (λ (d : DiskState). KeepsCells (g.D.Disk.stat
 pub returns-then-core-clause-leaves : goal.returns-then-core-clause-leaves
 returns-then-core-clause-leaves g c =
     see-leaves (g.D.Disk.state c.args.core.now.disk) (g.D.Disk.state c.step_in.new.core.disk) _
+    c.step_of-step.result c.step_in.result _
+    (ap is_see (c.step_of-step.ensures ∙ ap (see_step c.args.evidence.now.kind) c.item-item.ensures)
+    ∙ see-is c.args.evidence.now.kind (verdict_at c.args.evidence.now.verdicts c.args.at).item)
+    c.step_in.ensures.order
+
+pub returns-clause-dirty : goal.returns-clause-dirty
+returns-clause-dirty g c =
+    λ i. (g.D.Disk.state ((c.keep_step.ensures.disk ∙ c.commit-stands.ensures.disk) i)).dirty
+
+pub returns-then-core-clause-dirty : goal.returns-then-core-clause-dirty
+returns-then-core-clause-dirty g c =
+    see-dirty (g.D.Disk.state c.args.core.now.disk) (g.D.Disk.state c.step_in.new.core.disk) _
     c.step_of-step.result c.step_in.result _
     (ap is_see (c.step_of-step.ensures ∙ ap (see_step c.args.evidence.now.kind) c.item-item.ensures)
     ∙ see-is c.args.evidence.now.kind (verdict_at c.args.evidence.now.verdicts c.args.at).item)

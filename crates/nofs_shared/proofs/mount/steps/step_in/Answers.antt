@@ -9,12 +9,12 @@ use Rattle.nofs_state.specs.Books.Maps.{IsSafe}
 use Rattle.nofs_state.specs.Cores.Steps.{MeetsOpen, goes-safely}
 use Rattle.nofs_state.specs.declared.books.maps.Books.{Books}
 use Rattle.nofs_shared.specs.Mount.Invariant.{IsMount}
-use Rattle.nofs_shared.specs.Mount.Flushes.{Settles}
+use Rattle.nofs_shared.specs.Mount.Flushes.{Settles, names_whole}
 use Rattle.nofs_shared.specs.Mount.Causes.{StepCauses, StepOrder}
 use Rattle.nofs_shared.proofs.OnMount.Claims.{unowned-kept, unowned-more}
 use Rattle.nofs_shared.proofs.OnMount.Causes.{causes-kept, causes-none}
 use Rattle.nofs_shared.proofs.OnActs.Contents.{goes-unmade, see-has-memory}
-use Rattle.nofs_shared.proofs.OnIndex.Hits.{told-keeps, told-order, told-unmoved}
+use Rattle.nofs_shared.proofs.OnIndex.Hits.{told-fits, told-keeps, told-order, told-unmoved}
 use Rattle.nofs_shared.proofs.OnIndex.Mounts.{index-noted, index-same, index-unmoved}
 use Rattle.nofs_shared.proofs.OnMount.Steps.{mount-none, mount-goes}
 use Rattle.nofs_shared.proofs.OnMount.Histories.{entry_at, safe-history}
@@ -83,6 +83,7 @@ returns-in-Err-clause-tells g c = record {
       c.act-reply.new.core.books.history.entries
       (ap (λ h. h.entries) c.act-reply.ensures.goes.history);
   fits = tt;
+  whole = λ e. refl;
 }
 
 pub returns-in-Err-clause-sees : goal.returns-in-Err-clause-sees
@@ -183,3 +184,17 @@ returns-in-Ok-clause-order g c = subst (λ (d : DiskState). StepOrder (g.D.Disk.
       entry = λ e. (_, _, ap (λ (l : Books). l.history.entries) c.keep_step.ensures.books, refl);
       order = c.act-reply.ensures.goes.order;
     })
+
+pub returns-in-Some-clause-tells : goal.returns-in-Some-clause-tells
+returns-in-Some-clause-tells g c = record {
+  adds = search rules;
+  fits = told-fits c.args.index.now c.args.step c.in-Some.it c.in-Some.ensures.told;
+  whole = λ e. absurd (let f = ap names_whole c.in-Some.ensures.told.is in cc (e, f));
+}
+
+pub returns-in-Ok-clause-tells : goal.returns-in-Ok-clause-tells
+returns-in-Ok-clause-tells g c = record {
+  adds = search rules;
+  fits = c.act-reply.ensures.fits;
+  whole = c.act-reply.ensures.whole;
+}

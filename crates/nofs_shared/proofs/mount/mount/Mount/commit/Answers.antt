@@ -91,6 +91,7 @@ returns-in-None-clause-tells g c = record {
       (see_step c.args.evidence.now.kind (verdict_at c.args.evidence.now.verdicts c.args.at).item)
       c.args.self.now.core.books.history.entries c.take_room.new.history.entries c.take_room.ensures.stays.0;
   fits = tt;
+  whole = λ e. refl;
 }
 
 pub returns-clause-tells : goal.returns-clause-tells

@@ -47,6 +47,7 @@ returns-in-None-clause-tells g c = record {
   adds = adds-none c.args.caller c.args.step c.args.self.now.core.books.history.entries c.take_room.new.history.entries
       c.take_room.ensures.stays.0;
   fits = tt;
+  whole = λ e. refl;
 }
 
 pub returns-in-Some-clause-tells : goal.returns-in-Some-clause-tells
