@@ -143,7 +143,7 @@ module _ (old : DiskState) (k : Books) (s : Step) (stood : Option Bool) (learned
   pub element-seen : (new : DiskState) (l : Books) (result : Result Bool Failed) (used : Bool)
       → Verifies old k new l stood learned answer Fits result
       → result ≡ Ok used → Goes old k new l s no_claims (reply.Seen used)
-  element-seen new l result used (Stood u is-stood stays same e) is-ok =
+  element-seen new l result used (Stood u is-stood stays quiet same e) is-ok =
       let su : u ≡ used = let z = sym e ∙ is-ok in cc z in
       subst (λ (m : Books). Goes old k new m s no_claims (reply.Seen used)) (sym same)
       (goes-seen old new k k s used stays going going (safe-on old new k stays safe) refl refl
@@ -163,7 +163,7 @@ module _ (old : DiskState) (k : Books) (s : Step) (stood : Option Bool) (learned
   pub element-unread : (new : DiskState) (l : Books) (result : Result Bool Failed) (x : Failed)
       → Verifies old k new l stood learned answer Fits result
       → result ≡ Err x → Goes old k new l s no_claims (reply.Refused refusal.ReadFault)
-  element-unread new l result x (Stood u is-stood stays same e) is-err = absurd (let z = sym e ∙ is-err in cc z)
+  element-unread new l result x (Stood u is-stood stays quiet same e) is-err = absurd (let z = sym e ∙ is-err in cc z)
   element-unread new l result x (Learned u none judged fits same e) is-err = absurd (let z = sym e ∙ is-err in cc z)
   element-unread new l result x (Unread y judged same e) is-err =
       subst (λ (m : Books). Goes old k new m s no_claims (reply.Refused refusal.ReadFault)) (sym same)

@@ -108,6 +108,7 @@ module _ (X : Image) (told : Bool) (at : SuperBlock) (i from to : ℕ) (bits b b
 pub record Marking (old now : DiskState) (at : SuperBlock) (i from to : ℕ) (bits b : List Bool)
     (last : LastRead) : Type 0 where
   pub stays : StaysButFaults old now
+  pub no_fault : now.faults ≡ old.faults
   pub kept : IsLast now last
   pub so_far : Marked old.now old.tells at i from to bits b
   pub order : from ≤ to
@@ -117,6 +118,7 @@ pub marking-begins : (old : DiskState) (at : SuperBlock) (i from : ℕ) (bits : 
     → Marking old old at i from from bits bits last
 marking-begins old at i from bits last kept = record {
   stays = StaysButFaults-refl old;
+  no_fault = refl;
   kept = kept;
   so_far = marked-begins old.now old.tells at i from bits;
   order = le_refl from;
@@ -130,6 +132,7 @@ marking-goes old now new at i from slot bits b b2 last next g size m =
     let (a, found, area, e) = m.marked_as in
     record {
       stays = StaysButFaults-trans old now new g.stays m.stays;
+      no_fault = m.no_fault ∙ g.no_fault;
       kept = m.kept;
       so_far = marked-goes old.now old.tells at i from slot bits b b2 a g.so_far g.order size
           (λ t. subst (λ (X : Image). a ≡ find X i (path_of slot)) g.stays.cells.now
@@ -141,6 +144,7 @@ pub marking-ends : (old now : DiskState) (at : SuperBlock) (i from to slot : ℕ
     → Marking old now at i from slot bits b last → slot ≡ to → MarksAll old now at i from to bits b last (Ok tt)
 marking-ends old now at i from to slot bits b last g e = record {
   stays = g.stays;
+  no_fault = g.no_fault;
   marked_as = subst (λ (n : ℕ). Marked old.now old.tells at i from n bits b) e g.so_far;
   kept = g.kept;
   refused = tt;
@@ -159,6 +163,7 @@ pub marking-fails : (old now new : DiskState) (at : SuperBlock) (i from to slot 
     → MarksAll old new at i from to bits c next (Err why)
 marking-fails old now new at i from to slot bits b b2 c last next why g m = record {
   stays = StaysButFaults-trans old now new g.stays m.stays;
+  no_fault = tt;
   marked_as = tt;
   kept = tt;
   refused = fails-on old now new g.stays why m.refused;

@@ -36,8 +36,9 @@ pub opened : (old mid new : DiskState) (k : Books) (i g : ℕ) (r : Record) (las
     → IfOk res (λ it. (it.found ≡ r) × (r.kind ≡ Some it.kind))
     → IfErr res (λ why. (why ≡ refusal.Stale) × (r.kind ≡ None))
     → (IsTrue mid.tells → AreTrue mid.now k.agreement → true ≡ agreed (files_in mid.now) i)
+    → new.faults ≡ old.faults
     → Opens old new k i g last res
-opened old mid new k i g r last res a b knows kept gen ok err agrees = by-result res ok err
+opened old mid new k i g r last res a b knows kept gen ok err agrees quiet = by-result res ok err
   where
     agreed-old : IsTrue old.tells → AreTrue old.now k.agreement → agreed (files_in old.now) i ≡ true
     agreed-old t all = sym (subst (λ (X : Image). true ≡ agreed (files_in X) i) a.cells.now
@@ -55,6 +56,7 @@ opened old mid new k i g r last res a b knows kept gen ok err agrees = by-result
       current = λ t all. same-current old.now i g (agreed-old t all)
           (ap (λ (q : Record). q.generation) (record-of old mid k.at i r a knows t) ∙ gen);
       kept = IsLast-on mid new last b kept;
+      no_fault = quiet;
       refused = tt;
     }
     by-result (Err why) ok err = record {
@@ -62,6 +64,7 @@ opened old mid new k i g r last res a b knows kept gen ok err agrees = by-result
       known = tt;
       current = tt;
       kept = tt;
+      no_fault = tt;
       refused = subst (λ (w : Refusal). OpenFails old new k i g w) (sym err.0)
           (λ t all. absurd (dead old.now i (agreed-old t all)
           (ap (λ (q : Record). q.kind) (record-of old mid k.at i r a knows t) ∙ err.1)));
@@ -77,6 +80,7 @@ opened-not old mid new k i g last b a c fails agrees = record {
   known = tt;
   current = tt;
   kept = tt;
+  no_fault = tt;
   refused = λ t all.
       let is : agreed (files_in old.now) i ≡ false =
       sym (subst (λ (X : Image). b ≡ agreed (files_in X) i) a.cells.now

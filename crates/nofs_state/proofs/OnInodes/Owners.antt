@@ -1,6 +1,6 @@
 -- The owner of a block is found by its tag.
 use Rattle.std.proofs.Common.{◌≡◌, ℕ, Bool, false, List, Option, Some, None, is_some, IsTrue, Result, Ok, Err, IfOk}
-use Rattle.std.proofs.Common.{OnErr, sym, ap, ◌∙◌, subst, le_refl}
+use Rattle.std.proofs.Common.{OnErr, OnOk, sym, ap, ◌∙◌, subst, le_refl}
 use Rattle.nofs_disk.specs.Disk.{DiskState, Rose, cell_at}
 use Rattle.nofs_disk.specs.Chains.{Rose-within, StaysButFaults-trans}
 use Rattle.nofs_disk.specs.declared.Failed.{Failed}
@@ -28,6 +28,7 @@ module _ (old mid : DiskState) (known : List (Option Bool)) (p : ℕ) (last : La
     stays = reads.stays;
     found = λ tells agreed. sym (ap is_some (owner-is old.now p last.cell None (reads.cell tells) (sym none ∙ tag)));
     cause = tt;
+    no_fault = reads.no_fault;
   }
 
   pub owner-tagged : (new : DiskState) (t : Option Tag) (tag : Tag) (result : Result Bool Failed)
@@ -38,6 +39,7 @@ module _ (old mid : DiskState) (known : List (Option Bool)) (p : ℕ) (last : La
     stays = StaysButFaults-trans old mid new reads.stays judged.stays;
     found = ok result judged.found;
     cause = err result judged.cause;
+    no_fault = quiet result judged.no_fault;
   }
     where
       ok : (q : Result Bool Failed)
@@ -48,6 +50,10 @@ module _ (old mid : DiskState) (known : List (Option Bool)) (p : ℕ) (last : La
           (f (told-on old mid reads.stays tells)) agreed
           ∙ sym (ap is_some (owner-is old.now p last.cell (Some tag) (reads.cell tells) (sym some ∙ is)))
       ok (Err x) f = tt
+
+      quiet : (q : Result Bool Failed) → OnOk q (new.faults ≡ mid.faults) → OnOk q (new.faults ≡ old.faults)
+      quiet (Ok a) e = e ∙ reads.no_fault
+      quiet (Err x) e = tt
 
       err : (q : Result Bool Failed) → OnErr q (Rose mid.faults new.faults) → OnErr q (Rose old.faults new.faults)
       err (Ok a) r = tt

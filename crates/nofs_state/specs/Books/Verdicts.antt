@@ -1,6 +1,6 @@
 -- Which elements are used, by the disk and by the maps, and what a map learns of one.
 use Rattle.std.specs.Prelude.{◌≡◌, ℕ, ◌+◌, ◌-◌, ◌/◌, ◌≤◌, Bool, false, not, List, Option, Some, None, if◌then◌else◌}
-use Rattle.std.specs.Prelude.{◌==◌, nat_lt, IsTrue, Result, Ok, Err, IfOk, OnErr, length, slice_set}
+use Rattle.std.specs.Prelude.{◌==◌, nat_lt, IsTrue, Result, Ok, Err, IfOk, OnErr, OnOk, length, slice_set}
 use Rattle.nofs_bits.specs.Bits.{is_set}
 use Rattle.nofs_disk.specs.declared.Failed.{Failed}
 use Rattle.nofs_disk.specs.Disk.{DiskState, StaysButFaults, Rose}
@@ -23,6 +23,7 @@ pub record Judges (old new : DiskState) (known : List (Option Bool)) (answer : I
   pub stays : StaysButFaults old new
   pub found : IfOk result (λ a. IsTrue old.tells → AreTrue old.now known → a ≡ answer old.now)
   pub cause : OnErr result (Rose old.faults new.faults)
+  pub no_fault : OnOk result (new.faults ≡ old.faults)
 
 -- a slot holds this block
 abbrev pub names_block : PathAnswer → ℕ → Bool
@@ -59,7 +60,8 @@ InData k p used = used ≡ false → 1 + k.at.inodes / 4 ≤ p
 pub data Verifies (old : DiskState) (k : Books) (new : DiskState) (l : Books) (stood : Option Bool)
     (learned : Bool → Books) (answer : Image → Bool)
     (Fits : Bool → Type 0) (result : Result Bool Failed) : Type 0 where
-  Stood : (used : Bool) → stood ≡ Some used → StaysButFaults old new → l ≡ k → result ≡ Ok used
+  Stood : (used : Bool) → stood ≡ Some used → StaysButFaults old new → new.faults ≡ old.faults → l ≡ k
+      → result ≡ Ok used
       → Verifies old k new l stood learned answer Fits result
   Learned : (used : Bool) → stood ≡ None → Judges old new k.agreement answer (Ok used) → Fits used → l ≡ learned used
       → result ≡ Ok used

@@ -39,6 +39,7 @@ pub record Marks (old new : DiskState) (at : SuperBlock) (i slot : ℕ) (bits bi
     pub marked_as : OnOk result ((a : PathAnswer) × (IsTrue old.tells → a ≡ find old.now i (path_of slot)) × InArea at a
         × (bits2 ≡ marked a bits))
     pub kept : OnOk result (IsLast new last)
+    pub no_fault : OnOk result (new.faults ≡ old.faults)
     pub refused : IfErr result (MarkFails old new)
 
 -- the block of a slot among some
@@ -60,6 +61,7 @@ pub record MarksAll (old new : DiskState) (at : SuperBlock) (i from to : ℕ) (b
   pub stays : StaysButFaults old new
   pub marked_as : OnOk result (Marked old.now old.tells at i from to bits bits2)
   pub kept : OnOk result (IsLast new last)
+  pub no_fault : OnOk result (new.faults ≡ old.faults)
   pub refused : IfErr result (MarkFails old new)
 
 -- the blocks below a bound that are freed are known and free

@@ -9,6 +9,7 @@ returns-in-Ok-true g c = opened (g.D.Disk.state c.args.disk.now) (g.D.Disk.state
     c.read_inode.ensures.stays c.check_chain.ensures.stays c.in-Ok.ensures.found c.in-Ok.ensures.kept
     c.if-found-generation.false c.with_kind.ensures.opened
     c.with_kind.ensures.refused (λ t all. sym c.in-Ok-true.field-0-test ∙ c.in-Ok-true.ensures.agreed t all)
+    (c.in-Ok-true.ensures.no_fault ∙ c.in-Ok.ensures.no_fault)
 
 pub returns-in-Ok-false : goal.returns-in-Ok-false
 returns-in-Ok-false g c =

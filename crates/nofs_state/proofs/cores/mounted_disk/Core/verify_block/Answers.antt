@@ -5,4 +5,4 @@ use Rattle.nofs_state.proofs.cores.mounted_disk.Core.verify_block.Goals as goal
 
 pub returns-in-Some : goal.returns-in-Some
 returns-in-Some g c = Stood c.in-Some.used (sym c.verdict_of_block.ensures ∙ c.in-Some.is)
-    (StaysButFaults-refl (g.D.Disk.state c.args.self.now.disk)) refl refl
+    (StaysButFaults-refl (g.D.Disk.state c.args.self.now.disk)) refl refl refl
