@@ -128,6 +128,7 @@ pub record ReadsTable (old new : DiskState) (i : ℕ) (last : LastRead)
   pub cell : OnOk result (IsTrue old.tells → last.cell ≡ cell_at old.now (1 + (i - 1) / 4))
   pub kept : OnOk result (IsLast new last)
   pub refused : IfErr result (λ why. (why ≡ refusal.ReadFault) × Rose old.faults new.faults)
+  pub no_fault : OnOk result (new.faults ≡ old.faults)
 
 -- what is claimed where one block is, and what it leaves of the books; two; and three
 abbrev pub one_claim : Books → ℕ → Claims

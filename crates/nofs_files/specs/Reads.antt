@@ -36,6 +36,7 @@ pub record CountsLinks (old new : DiskState) (known : List (Option Bool)) (i : �
   pub count : IfOk result
       (λ n. IsTrue old.tells → AreTrue old.now known → n ≡ count_by (is_agreed_link (files_in old.now) i) r.links)
   pub cause : OnErr result (Rose old.faults new.faults)
+  pub no_fault : OnOk result (new.faults ≡ old.faults)
 
 -- how many slots a file can have
 abbrev pub slots_of : SuperBlock → ℕ
@@ -66,6 +67,7 @@ pub record OpensFile (old new : DiskState) (k : Books) (i g : ℕ) (last : LastR
   pub file : IfOk result (IsFile new k.at i g)
   pub current : IfOk result (λ r. IsTrue old.tells → AreTrue old.now k.agreement → is_current old.now i g ≡ true)
   pub kept : OnOk result (IsLast new last)
+  pub no_fault : OnOk result (new.faults ≡ old.faults)
 
 abbrev pub got_answer : List ℕ → Result Got Refusal → Reply
 got_answer bytes (Ok got.Bytes) = reply.Bytes bytes

@@ -115,6 +115,7 @@ pub record CutsBlock (old new : DiskState) (at : SuperBlock) (i : ℕ) (path : P
   pub area : IfOk result (λ o. IfSome o (CellInData at))
   pub kept : OnOk result (IsLast new last)
   pub refused : IfErr result (CutFails old new i path slot)
+  pub no_fault : OnOk result (new.faults ≡ old.faults)
 
 -- the last child that stays
 abbrev pub last_child : ℕ → ℕ
@@ -169,6 +170,7 @@ pub record FindsEdgeOf (Is : Edge → Type 0) (Fails : Refusal → Type 0) (old 
   pub area : IfOk result (EdgeInData at)
   pub kept_last : OnOk result (IsLast new last)
   pub refused : IfErr result Fails
+  pub no_fault : OnOk result (new.faults ≡ old.faults)
 
 abbrev pub FindsFar : DiskState → DiskState → SuperBlock → ℕ → ℕ → LastRead → Result Edge Refusal → Type 0
 FindsFar old new at i kept last result =
@@ -198,6 +200,7 @@ pub record FindsTail (old new : DiskState) (at : SuperBlock) (i end size : ℕ) 
   pub area : IfOk result (λ o. IfSome o (CellInData at))
   pub kept : OnOk result (IsLast new last)
   pub cause : IfErr result (λ failed. Rose old.faults new.faults)
+  pub no_fault : OnOk result (new.faults ≡ old.faults)
 
 -- the blocks of the slots that go
 pub record IsCutMap (d : DiskState) (at : SuperBlock) (i kept : ℕ) (freed : List Bool) : Type 0 where
@@ -217,6 +220,7 @@ pub record MarksCut (old new : DiskState) (at : SuperBlock) (i kept : ℕ) (last
   pub map : IfOk result (IsCutMap new at i kept)
   pub kept_last : OnOk result (IsLast new last)
   pub refused : IfErr result (MarkFails old new)
+  pub no_fault : OnOk result (new.faults ≡ old.faults)
 
 -- what a change of size has read, and is to write; no row refuses the step
 pub record MayCut (d : DiskState) (k : Books) (i g size : ℕ) (r : Record) (tail : Option NewCell) (edge : Edge)

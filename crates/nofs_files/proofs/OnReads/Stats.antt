@@ -68,6 +68,7 @@ count-more p (x ∷ xs) (suc k) d low =
 pub record Counted (old now : DiskState) (known : List (Option Bool)) (i : ℕ) (r : Record) (last : LastRead)
     (place links : ℕ) : Type 0 where
   pub stays : StaysButFaults old now
+  pub no_fault : now.faults ≡ old.faults
   pub kept : IsLast now last
   pub small : links ≤ place
   pub count : IsTrue old.tells → AreTrue old.now known
@@ -77,7 +78,7 @@ pub counted-begins : (old : DiskState) (known : List (Option Bool)) (i : ℕ) (r
     → IsLast old last
     → Counted old old known i r last 0 0
 counted-begins old known i r last kept =
-    record { stays = StaysButFaults-refl old; kept = kept; small = omega arith; count = λ t a. refl }
+    record { stays = StaysButFaults-refl old; no_fault = refl; kept = kept; small = omega arith; count = λ t a. refl }
 
 four-known : {old : DiskState} {at : SuperBlock} {i : ℕ} {r : Record} → KnowsInode old at i r → IsTrue old.tells
     → length r.links ≡ 4
@@ -97,6 +98,7 @@ counted-goes old now new at known i r last next place links res pair is c low re
     (λ X. is_agreed_link (files_in X) i (get_or r.links place no_link)) next w) e reads in
     record {
       stays = StaysButFaults-trans old now new c.stays q.stays;
+      no_fault = q.no_fault ∙ c.no_fault;
       kept = q.kept;
       small = (let s = c.small in let b = one-small pair in omega (arith, s, b));
       count = λ t a.
@@ -118,6 +120,7 @@ pub counted-ends : (old now : DiskState) (at : SuperBlock) (known : List (Option
     → 4 ≤ place → CountsLinks old now known i r (Ok links)
 counted-ends old now at known i r last place links is c all = record {
   stays = c.stays;
+  no_fault = c.no_fault;
   count = λ t a.
       let four = four-known is t in
       c.count t a ∙ ap (λ (xs : List BackLink). count_by (is_agreed_link (files_in old.now) i) xs)

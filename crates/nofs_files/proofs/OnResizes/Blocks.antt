@@ -25,6 +25,7 @@ pub cut-map-ends : (old mid new : DiskState) (at : SuperBlock) (i m : ℕ) (z b 
     → MarksCut old new at i m next (Ok c)
 cut-map-ends old mid new at i m z b c last next ez first second = record {
   stays = StaysButFaults-trans old mid new first.stays second.stays;
+  no_fault = second.no_fault ∙ first.no_fault;
   map = record {
     size = two.size ∙ one.size ∙ length-replicate at.blocks false;
     in_area = λ q t. elim (two.area q t) [

@@ -1,5 +1,5 @@
 //! The content of a slot.
-ghost use Rattle.std.specs.Prelude.{◌≡◌, false};
+ghost use Rattle.std.specs.Prelude.{◌≡◌, OnOk, false};
 ghost use Rattle.nofs_history.specs.Claims.{no_claims};
 ghost use Rattle.nofs_history.specs.Steps.{is_out_of_memory};
 ghost use Rattle.nofs_history.specs.declared.machine.steps.Step.TheVariants as step;
@@ -43,6 +43,7 @@ pub fn get<D: Disk + Drop>(
         (step.Get inode generation slot) no_claims (reply.Refused refusal.OutOfMemory) }
     ensures no_memory { is_out_of_memory (got_answer into.new result) ≡ false }
     ensures kept { KeptButBytes into.old into.new result }
+    ensures no_fault { OnOk result ((D.state core.new.disk).faults ≡ (D.state core.old.disk).faults) }
 {
     if core.books.stopped {
         return Err(Refusal::Stopped);
