@@ -180,6 +180,7 @@ first-fails old new b c ws x is w = record {
   others = λ n apart. write-other old new b c (Err x) n w apart.0;
   now = tt;
   cause = w.cause;
+  no_fault = tt;
 }
 
 -- one write, whatever comes of it
@@ -196,6 +197,7 @@ one-write old new b c (Ok done) is w = record {
   others = λ n apart. write-other old new b c (Ok done) n w apart.0;
   now = w.ok;
   cause = tt;
+  no_fault = w.no_fault;
 }
 
 -- the first is done, and then the others, whatever comes of them
@@ -214,6 +216,7 @@ then-others old mid new b c ws r is_mid w v = record {
   others = λ n apart. v.others n apart.1 ∙ write-other old mid b c (Ok tt) n w apart.0;
   now = ok r v.now;
   cause = err r v.cause;
+  no_fault = quiet r v.no_fault;
 }
   where
     all : (q : Result (Unit {0}) Failed) → OnOk q (v.calls ≡ ws) → OnOk q ((b, c) ∷ v.calls ≡ (b, c) ∷ ws)
@@ -224,6 +227,10 @@ then-others old mid new b c ws r is_mid w v = record {
         → OnOk q (new.now ≡ image_after ws (slice_set old.now b c))
     ok (Ok u) s = s ∙ ap (λ (X : Image). image_after ws X) w.ok
     ok (Err x) s = tt
+
+    quiet : (q : Result (Unit {0}) Failed) → OnOk q (new.faults ≡ mid.faults) → OnOk q (new.faults ≡ old.faults)
+    quiet (Ok u) e = e ∙ w.no_fault
+    quiet (Err x) e = tt
 
     err : (q : Result (Unit {0}) Failed) → OnErr q (Rose mid.faults new.faults) → OnErr q (Rose old.faults new.faults)
     err (Ok u) s = tt

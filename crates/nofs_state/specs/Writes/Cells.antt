@@ -21,6 +21,7 @@ pub record WritesAll (old new : DiskState) (ws : List (ℕ × Cell)) (result : R
   pub others : (b : ℕ) → IsApart ws b → cell_at new.now b ≡ cell_at old.now b
   pub now : OnOk result (new.now ≡ image_after ws old.now)
   pub cause : OnErr result (Rose old.faults new.faults)
+  pub no_fault : OnOk result (new.faults ≡ old.faults)
 
 -- a mount in which a write failed
 abbrev pub stopped_books : Books → Books
