@@ -120,15 +120,20 @@ module _ (X : Image) (told : Bool) (at : SuperBlock) (i : ℕ) (b c : List Bool)
 
 pub marks-after : (old mid new : DiskState) (at : SuperBlock) (i from to : ℕ) (bits b : List Bool) (last : LastRead)
     (res : Result (Unit {0}) Refusal)
-    → StaysButFaults old mid → MarksAll mid new at i from to bits b last res
+    → StaysButFaults old mid → mid.faults ≡ old.faults → MarksAll mid new at i from to bits b last res
     → MarksAll old new at i from to bits b last res
-marks-after old mid new at i from to bits b last res stays m = record {
+marks-after old mid new at i from to bits b last res stays quiet m = record {
   stays = StaysButFaults-trans old mid new stays m.stays;
   marked_as = on-ok res m.marked_as;
   kept = m.kept;
+  no_fault = still res m.no_fault;
   refused = on-err res m.refused;
 }
   where
+    still : (r : Result (Unit {0}) Refusal) → OnOk r (new.faults ≡ mid.faults) → OnOk r (new.faults ≡ old.faults)
+    still (Err e) h = tt
+    still (Ok it) h = h ∙ quiet
+
     on-ok : (r : Result (Unit {0}) Refusal) → OnOk r (Marked mid.now mid.tells at i from to bits b)
         → OnOk r (Marked old.now old.tells at i from to bits b)
     on-ok (Err e) h = tt
@@ -161,6 +166,7 @@ marks-none old mid at i from to path bits last res a b finds e h none =
             (none old.now (sym (f.found t)) k x low high held);
       };
       kept = f.kept;
+      no_fault = f.no_fault;
       refused = tt;
     }
 
@@ -224,11 +230,12 @@ pub marks-join : (old mid new : DiskState) (at : SuperBlock) (i from cut to : �
     → MarksAll old mid at i from cut bits b last (Ok tt) → MarksAll mid new at i cut to b c next (Ok tt)
     → MarksAll old new at i from to bits c next (Ok tt)
 marks-join old mid new at i from cut to bits b c last next low high f s =
-    let q = marks-after old mid new at i cut to b c next (Ok tt) f.stays s in
+    let q = marks-after old mid new at i cut to b c next (Ok tt) f.stays f.no_fault s in
     record {
       stays = q.stays;
       marked_as = marked-join old.now old.tells at i from cut to bits b c low high f.marked_as q.marked_as;
       kept = q.kept;
+      no_fault = q.no_fault;
       refused = tt;
     }
 
@@ -277,5 +284,7 @@ inode-marks old one two new at i z b c d last later next res ez first second thi
     go : (r : Result (Unit {0}) Refusal) → MarksAll two new at i (2 ^ 32) (2 ^ 32 + 66) c d next r
         → MarksInode old new at i d next r
     go (Ok u) m = inode-marked old two new at i z c d later next ez low m
-    go (Err e) m = let q = marks-after old two new at i (2 ^ 32) (2 ^ 32 + 66) c d next (Err e) low.stays m in record
+    go (Err e) m =
+        let q = marks-after old two new at i (2 ^ 32) (2 ^ 32 + 66) c d next (Err e) low.stays low.no_fault m in
+        record
         { stays = q.stays; owned = tt; kept = tt; refused = q.refused }

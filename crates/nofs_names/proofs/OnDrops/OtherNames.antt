@@ -30,6 +30,7 @@ none-left old now known i r last place four p all = record {
       (λ k d low. ap (is_agreed_link (files_in old.now) i) (get_or_default r.links k d no_link low)
       ∙ p.none t a k (omega (arith, low, four, all))));
   kept = p.kept;
+  no_fault = p.no_fault;
   cause = tt;
 }
 
