@@ -1,7 +1,7 @@
 -- What the steps on files answer.
 use Rattle.nofs_state.specs.Writes.Cells.{stopped_books}
-use Rattle.std.specs.Prelude.{◌≡◌, ℕ, Bool, true, false, List, Option, Some, if◌then◌else◌, ◌==◌, IsTrue, Result, Ok, Err}
-use Rattle.std.specs.Prelude.{IfOk, IfErr, OnOk, OnErr, count_by}
+use Rattle.std.specs.Prelude.{◌≡◌, ℕ, Bool, true, false, List, Option, Some, if◌then◌else◌, ◌==◌, IsTrue, Result}
+use Rattle.std.specs.Prelude.{Ok, Err, IfOk, IfErr, OnOk, OnErr, count_by}
 use Rattle.nofs_ptrs.specs.Paths.{slot_limit}
 use Rattle.nofs_disk.specs.declared.Failed.{Failed}
 use Rattle.nofs_disk.specs.Disk.{DiskState, Flushes, StaysButFaults, Rose}

@@ -26,9 +26,9 @@ pub enum Got {
     Lost,
 }
 
-/// Reads a slot of a file, whatever the size. Where there are bytes, `into` has them, and else it is as it was: no bytes
-/// of a block that is lost come there. It takes no memory, and has only read, so its caller may still find none for
-/// them.
+/// Reads a slot of a file, whatever the size. Where there are bytes, `into` has them, and else it is as it was: no
+/// bytes of a block that is lost come there. It takes no memory, and has only read, so its caller may still find none
+/// for them.
 pub fn get<D: Disk + Drop>(
     core: &mut Core<D>,
     inode: u32,

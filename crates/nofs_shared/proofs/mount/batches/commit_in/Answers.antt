@@ -11,8 +11,8 @@ use Rattle.nofs_history.specs.declared.machine.replies.Reply.TheVariants as repl
 use Rattle.nofs_shared.specs.Mount.Commits.{IsCommit}
 use Rattle.nofs_shared.specs.Acts.Sees.{is_see}
 use Rattle.nofs_shared.proofs.OnIndex.Mounts.{index-unmoved, see-unmoved}
-use Rattle.nofs_shared.proofs.OnMount.Commits.{commit-stopped, fits-seen, mount-answers, mount-kept, see-flushes-nothing}
-use Rattle.nofs_shared.proofs.OnMount.Commits.{see-is}
+use Rattle.nofs_shared.proofs.OnMount.Commits.{commit-stopped, fits-seen, mount-answers, mount-kept}
+use Rattle.nofs_shared.proofs.OnMount.Commits.{see-flushes-nothing, see-is}
 use Rattle.nofs_shared.proofs.mount.batches.commit_in.Goals as goal
 
 pub returns-clause-keeps : goal.returns-clause-keeps
