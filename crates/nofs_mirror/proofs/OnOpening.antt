@@ -2,7 +2,7 @@
 use Rattle.std.proofs.Common.{ℕ, ◌≤◌, ◌&&◌, arith, inl, inr, ap, ◌∙◌, Result, Ok, Err}
 use Rattle.std.specs.Prelude.{IfErr, IfOk}
 use Rattle.nofs_disk.specs.Chains.{IsSameDisk-trans, KeepsPast-trans, Rose-within}
-use Rattle.nofs_disk.specs.Disk.{DiskState, MakesReady}
+use Rattle.nofs_disk.specs.Disk.{DiskState, IsDisk, MakesReady}
 use Rattle.nofs_mirror.specs.declared.sides.choices.MirrorCause.{MirrorCause}
 use Rattle.nofs_mirror.specs.declared.sides.choices.MirrorCause.TheVariants.{TooSmall, ReadFault, OutOfMemory}
 use Rattle.nofs_mirror.specs.declared.sides.log.Sides.{Sides}
@@ -20,7 +20,7 @@ if_err (Ok a) goes p s = tt
 if_err (Err e) goes p s = goes e p s
 
 module _ (lead other ready lead_new other_new : DiskState) (n calls : ℕ) {E : Type 0} {result : Result (Unit {0}) E}
-    (r : MakesReady other ready calls result) where
+    (is_other : IsDisk other) (is_ready : IsDisk ready) (r : MakesReady other ready calls result) where
   later : other.moment ≤ ready.moment
   later = let e = r.cells.moment in omega arith
 
@@ -43,7 +43,8 @@ module _ (lead other ready lead_new other_new : DiskState) (n calls : ℕ) {E : 
     lead = p.lead;
     other = IsSameDisk-trans other ready other_new r.disk p.other;
     other_past = KeepsPast-trans other ready other_new later r.past p.other_past;
-    other_cells = part_ready n lead other ready other_new r.cells p.other_cells;
+    other_cells = part_ready n lead other ready other_new is_other is_ready r.past r.disk.blocks r.cells p.other_past
+        p.other_cells;
   }
 
   pub refuses_ready : (cause : MirrorCause) → IsReadFault cause → Refuses cause n lead ready lead_new other_new
@@ -57,5 +58,5 @@ module _ (lead other ready lead_new other_new : DiskState) (n calls : ℕ) {E : 
     p.3,
     IsSameDisk-trans other ready other_new r.disk p.4,
     KeepsPast-trans other ready other_new later r.past p.5,
-    ends_ready n lead other ready other_new r.cells p.6,
+    ends_ready n lead other ready other_new is_other is_ready r.past r.disk.blocks r.cells p.5 p.6,
   )

@@ -1,5 +1,5 @@
 -- What copying the lead's cells onto the other does.
-use Rattle.std.specs.Prelude.{◌≡◌, ◌⊎◌, ⊤, ℕ, ◌+◌, ◌*◌, ◌<◌, ◌≤◌, Contains, IfErr, IsTrue, OnOk, Result}
+use Rattle.std.specs.Prelude.{◌≡◌, ◌⊎◌, ⊤, ℕ, ◌+◌, ◌*◌, ◌<◌, ◌≤◌, List, Contains, IfErr, IsTrue, OnOk, Result}
 use Rattle.nofs_disk.specs.Disk.{DiskState, IsSameDisk, KeepsCells, KeepsPast, Rose, StaysButFaults, cell_at}
 use Rattle.nofs_disk.specs.declared.tag.Cell.{Cell}
 use Rattle.nofs_mirror.specs.declared.copying.CopyFault.{CopyFault}
@@ -17,15 +17,21 @@ abbrev pub HasCopied : DiskState → DiskState → ℕ → Type 0
 HasCopied lead other blocks = (b : ℕ) → IsTrue lead.tells → IsTrue other.tells
     → b < blocks → cell_at other.now b ≡ cell_at lead.now b
 
+-- a crash might have left this cell of a block before, or the block is one of the first and the cell is the lead's
+abbrev pub IsOwnOrLeads : ℕ → DiskState → DiskState → ℕ → Cell → Type 0
+IsOwnOrLeads blocks lead old b c =
+    Contains (old.may b) c ⊎ ((b < blocks) × (IsTrue lead.tells → c ≡ cell_at lead.now b))
+
 -- of each of the first blocks a disk has its own cell or the lead's, and of every other its own
 pub record IsPartCopy (blocks : ℕ) (lead old new : DiskState) : Type 0 where
   pub first : (b : ℕ) → IsTrue lead.tells → b < blocks
       → (cell_at new.now b ≡ cell_at old.now b) ⊎ (cell_at new.now b ≡ cell_at lead.now b)
   pub rest : (b : ℕ) → blocks ≤ b → cell_at new.now b ≡ cell_at old.now b
-  -- and so does a crash that comes now
-  pub may_first : (b : ℕ) (c : Cell) → IsTrue lead.tells → b < blocks
-      → Contains (new.may b) c → Contains (old.may b) c ⊎ (c ≡ cell_at lead.now b)
-  pub may_rest : (b : ℕ) (c : Cell) → blocks ≤ b → Contains (new.may b) c → Contains (old.may b) c
+  -- so does a crash that comes now
+  pub may : (b : ℕ) (c : Cell) → Contains (new.may b) c → IsOwnOrLeads blocks lead old b c
+  -- and so did one at each moment since
+  pub during : (m : ℕ) (image : List Cell) → old.moment ≤ m → m ≤ new.moment → new.left m image
+      → (b : ℕ) → b < old.blocks → IsOwnOrLeads blocks lead old b (cell_at image b)
 
 -- the lead could not be read: the blocks before that one were copied, and nothing else was touched
 pub record EndsAtRead (blocks : ℕ) (lead old new : DiskState) : Type 0 where

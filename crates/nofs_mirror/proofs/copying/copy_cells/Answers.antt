@@ -16,7 +16,7 @@ loop-block-init g c =
       },
       λ b lead_tells other_tells low. absurd (omega arith),
       omega arith,
-      to_none lead other,
+      to_none lead other (g.met.B.Disk.is_disk c.args.other.now),
     )
 
 pub loop-block-preserved : goal.loop-block-preserved
@@ -29,7 +29,8 @@ loop-block-preserved g c =
           (g.B.Disk.state c.loop-block.other)
           (g.B.Disk.state c.copy_cell.new.other) c.loop-block.block before.0.lead c.in-Ok.ensures.copied before.1,
       omega arith,
-      to_next c.loop-block.block _ _ _ _ _ before.0.lead before.3 c.copy_cell.ensures.part c.in-Ok.ensures.moment,
+      to_next c.loop-block.block _ _ _ _ _ before.0.lead c.copy_cell.ensures.copies.past before.0.disk.blocks before.3
+          c.copy_cell.ensures.part c.in-Ok.ensures.moment,
     )
 
 pub returns-in-Err-clause-copies : goal.returns-in-Err-clause-copies
@@ -40,7 +41,8 @@ returns-in-Err-clause-copies g c =
     let failed = c.in-Err.ensures in record {
       copies = Copies-trans _ _ _ _ _ _ before.0 did.copies;
       part = part_more (c.loop-block.block + 1) c.args.blocks _ _ _ (omega arith)
-          (part_next c.loop-block.block _ _ _ _ _ before.0.lead before.3.part did.part);
+          (part_next c.loop-block.block _ _ _ _ _ before.0.lead did.copies.past before.0.disk.blocks before.3.part
+          did.part);
       copied = tt;
       ends = ends_at g.B.Disk.state c.in-Err.fault c.args.blocks (g.A.Disk.state c.args.lead.now)
           (g.B.Disk.state c.args.other.now) c.loop-block.other c.copy_cell.new.other failed.untouched
