@@ -6,7 +6,26 @@ use Rattle.nofs_turn.specs.declared.rule.view.View.{View}
 use Rattle.nofs_turn.specs.Lists.{numbered}
 use Rattle.nofs_turn.specs.Rule.Views.{gave}
 
--- A section ran once between the views v and w, and answered out. It met the list `before` and left `after`
+-- A section met a value of this part and this list, and left one of that list: what it did to the value
+pub record Did {
+    T E F Out : Type 0
+    } (entries : T → List E) (fixed : T → F) (does : T → T → Out → Type 0) (f : F) (before after : List E) (out : Out)
+    : Type 0 where
+  pub met : T
+  pub left : T
+  pub met_part : fixed met ≡ f
+  pub left_part : fixed left ≡ f
+  pub met_list : entries met ≡ before
+  pub left_list : entries left ≡ after
+  pub did : does met left out
+
+-- what a section tells of the part and of the lists, and what it did to the value
+abbrev pub TellsDone : {T E F Out : Type 0} → (T → List E) → (T → F) → (F → List E → List E → Out → Type 0)
+    → (T → T → Out → Type 0) → F → List E → List E → Out → Type 0
+TellsDone entries fixed tells does f before after out =
+    tells f before after out × Did entries fixed does f before after out
+
+-- One section ran between the views v and w, and no other. It answered out, met the list `before` and left `after`
 pub record Ran {
     E F Out : Type 0
     } (tells : F → List E → List E → Out → Type 0) (v w : View E F) (out : Out) : Type 0 where
@@ -25,17 +44,19 @@ pub record Ran {
     mine = v.mine ++ numbered (length before) (drop (length before) after);
     looks = looks_now;
     last = 2 * length before;
+    runs = v.runs + 1;
   }
 
 -- A section ran on the value x, and y is what it left. Beside its answer stands the number of entries
 pub record RanOnce {
     T E F Out : Type 0
-    } (entries : T → List E) (fixed : T → F) (tells : F → List E → List E → Out → Type 0) (x y : T) (answer : Out × ℕ)
-    : Type 0 where
+    } (entries : T → List E) (fixed : T → F) (tells : F → List E → List E → Out → Type 0)
+    (does : T → T → Out → Type 0) (x y : T) (answer : Out × ℕ) : Type 0 where
   pub same_part : fixed y ≡ fixed x
   pub keeps : IsPrefix (entries x) (entries y)
   pub at_most_one : length (entries y) ≤ length (entries x) + 1
   pub told : tells (fixed x) (entries x) (entries y) answer.0
+  pub did : does x y answer.0
   pub kept : answer.1 ≡ length (entries y)
   pub small : answer.1 < 2 ^ 63
 
@@ -47,12 +68,13 @@ Carries {T = T} entries fixed asks me = (x : T) × (me.1 ≡ (0, Some x) ∷ [])
     × asks (fixed x) (entries x)
 
 -- the section ran on the value whose list the view v had seen, and what it left was given back
-abbrev pub HasRun : {T E F Out : Type 0} → (T → List E) → (T → F) → (F → List E → List E → Out → Type 0) → View E F
-    → Out → Me (Option T) (View E F)
+abbrev pub HasRun : {T E F Out : Type 0} → (T → List E) → (T → F) → (F → List E → List E → Out → Type 0)
+    → (T → T → Out → Type 0) → View E F → Out → Me (Option T) (View E F)
     → Type 0
-HasRun {T = T} entries fixed tells v out after = (x y : T) × (entries x ≡ v.seen) × (v.fixed ≡ Some (fixed x))
+HasRun {T = T} entries fixed tells does v out after = (x y : T) × (entries x ≡ v.seen) × (v.fixed ≡ Some (fixed x))
     × IsPrefix (entries x) (entries y)
     × (length (entries y) ≤ length (entries x) + 1) × tells (fixed x) (entries x) (entries y) out
+    × Did entries fixed does (fixed x) (entries x) (entries y) out
     × (after ≡ (gave v (entries y), []))
 
 -- what the pass v knows lets the section run

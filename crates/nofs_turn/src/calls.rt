@@ -37,7 +37,7 @@ const NAP: u64 = 1;
 
 impl<V: Kept> Turn<V> {
     ghost use Rattle.nofs_turn.specs.Rule.Views.{looked, joined};
-    ghost use Rattle.nofs_turn.specs.Passes.{Ran, RanOnce, Carries, HasRun, MayRun, Closes, Waited};
+    ghost use Rattle.nofs_turn.specs.Passes.{Ran, RanOnce, Carries, HasRun, MayRun, Closes, TellsDone, Waited};
     ghost use Rattle.nofs_turn.specs.Rule.Steps.{TakesFree, TakesBusy};
     ghost use Rattle.nofs_turn.specs.Turn.{view_of, IsPassOf};
     ghost use Rattle.nofs_turn.specs.Lists.{rises};
@@ -84,7 +84,7 @@ impl<V: Kept> Turn<V> {
         requires has { seat.old.me.0.has ≡ true }
         requires carries { Carries V.entries V.fixed (S.asks section) seat.old.me }
         ensures same { (seat.new.table_id ≡ seat.old.table_id) × (seat.new.id ≡ seat.old.id) }
-        ensures ran { HasRun V.entries V.fixed (S.tells section) seat.old.me.0 result seat.new.me }
+        ensures ran { HasRun V.entries V.fixed (S.tells section) (S.does section) seat.old.me.0 result seat.new.me }
         ensures rising { rises 0 seat.new.me.0.mine ≡ true }
     {
         let (out, kept) = self.run_in_place(seat, section);
@@ -104,7 +104,7 @@ impl<V: Kept> Turn<V> {
         ensures same { (seat.new.table_id ≡ seat.old.table_id) × (seat.new.id ≡ seat.old.id)
             × (seat.new.me.0 ≡ seat.old.me.0) }
         ensures ran { (x y : V) × (seat.old.me.1 ≡ (0, Some x) ∷ []) × (seat.new.me.1 ≡ (0, Some y) ∷ [])
-            × RanOnce V.entries V.fixed (S.tells section) x y result }
+            × RanOnce V.entries V.fixed (S.tells section) (S.does section) x y result }
     {
         match seat.slot_mut(&self.table.shared, 0) {
             Some(value) => {
@@ -172,7 +172,8 @@ impl<V: Kept> Turn<V> {
         requires of { IsPassOf self.now pass.old }
         requires may { MayRun (S.asks section) (view_of pass.old) }
         ensures of { IsPassOf self.now pass.new }
-        ensures ran { IfOk result (λ out. Ran (S.tells section) (view_of pass.old) (view_of pass.new) out) }
+        ensures ran { IfOk result (Ran (TellsDone V.entries V.fixed (S.tells section) (S.does section))
+            (view_of pass.old) (view_of pass.new)) }
         ensures one_look { (view_of pass.new).looks ≡ (view_of pass.old).looks + 1 }
         ensures busy { IfErr result
             (λ b. (b.section ≡ section) × (b.word % 2 ≡ 1) × (view_of pass.new ≡ looked (view_of pass.old) b.word)) }
@@ -193,7 +194,8 @@ impl<V: Kept> Turn<V> {
         requires of { IsPassOf self.now pass.old }
         requires may { MayRun (S.asks section) (view_of pass.old) }
         ensures of { IsPassOf self.now pass.new }
-        ensures ran { Ran (S.tells section) (view_of pass.old) (view_of pass.new) result }
+        ensures ran { Ran (TellsDone V.entries V.fixed (S.tells section) (S.does section))
+            (view_of pass.old) (view_of pass.new) result }
     {
         let mut waiting = section;
         for _ in rt.forever() {

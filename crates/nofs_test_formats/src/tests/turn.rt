@@ -43,6 +43,8 @@ impl Section<Log> for Add {
 
     ghost tells = { λ add _ before after _. (after ≡ before) ⊎ (after ≡ before ++ add.0 ∷ []) };
 
+    ghost does = { λ _ _ _ _. Unit {0} };
+
     ghost lasts = { λ _ _ _ _ _. tt };
 
     fn run(self, value: &mut Log) {
@@ -67,6 +69,8 @@ impl Section<Log> for Tries<'_> {
     ghost asks = { λ _ _ _. Unit {0} };
 
     ghost tells = { λ tries _ before after out. (after ≡ before) × IsPassOf tries.turn.now out.1 };
+
+    ghost does = { λ _ _ _ _. Unit {0} };
 
     ghost lasts = { λ _ _ _ _ _. tt };
 

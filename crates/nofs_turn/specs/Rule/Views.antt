@@ -18,6 +18,7 @@ module _ {E F : Type 0} where
     stands = 0;
     looks = 0;
     last = 0;
+    runs = 0;
   }
 
   -- a seat of a turn that was made over the list xs, with the part f
@@ -36,9 +37,14 @@ module _ {E F : Type 0} where
   abbrev pub took : View E F → ℕ → List E → View E F
   took v n xs = record v { seen = xs; has = true; looks = v.looks + 1; last = n }
 
-  -- the list that went home is ys
+  -- a section was run, and the list that went home is ys
   abbrev pub gave : View E F → List E → View E F
-  gave v ys = record v { seen = ys; has = false; mine = v.mine ++ numbered (length v.seen) (drop (length v.seen) ys) }
+  gave v ys = record v {
+    seen = ys;
+    has = false;
+    mine = v.mine ++ numbered (length v.seen) (drop (length v.seen) ys);
+    runs = v.runs + 1;
+  }
 
   -- a seat was split from it
   abbrev pub dealt : View E F → View E F
@@ -46,7 +52,7 @@ module _ {E F : Type 0} where
 
   -- a seat split from v
   abbrev pub newcomer : View E F → View E F
-  newcomer v = record v { mine = []; has = false; splits = 0; stands = 1; looks = 0; last = 0 }
+  newcomer v = record v { mine = []; has = false; splits = 0; stands = 1; looks = 0; last = 0; runs = 0 }
 
   -- v has heard what w had seen, and stands for both
   abbrev pub united : View E F → View E F → View E F
@@ -63,4 +69,4 @@ module _ {E F : Type 0} where
   -- the maker's seat, which has n still to split
   abbrev pub Deals : View E F → ℕ → ℕ → Type 0
   Deals v n seats = (v.splits ≡ n) × (v.stands ≡ 1) × (v.has ≡ false) × (v.mine ≡ []) × (v.looks ≡ 0) × (v.last ≡ 0)
-      × (v.seats ≡ seats) × (v.heard ≡ [])
+      × (v.seats ≡ seats) × (v.heard ≡ []) × (v.runs ≡ 0)

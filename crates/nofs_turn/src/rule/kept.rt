@@ -34,13 +34,17 @@ pub trait Section<V: Kept> {
     /// What it tells: of the fixed part, the list before, the list after, and its answer.
     ghost tells: { Self → V.Fixed → List V.Entry → List V.Entry → Self.Out → Type 0 };
 
+    /// What it does to the value: from the value before it to the one after it, with its answer.
+    ghost does: { Self → V → V → Self.Out → Type 0 };
+
     /// Does it, once.
     fn run(self, value: &mut V) -> Self::Out
         requires { asks self (V.fixed value.old) (V.entries value.old) }
         ensures fixed { V.fixed value.new ≡ V.fixed value.old }
         ensures keeps { IsPrefix (V.entries value.old) (V.entries value.new) }
         ensures at_most_one { length (V.entries value.new) ≤ length (V.entries value.old) + 1 }
-        ensures tells { tells self (V.fixed value.old) (V.entries value.old) (V.entries value.new) result };
+        ensures tells { tells self (V.fixed value.old) (V.entries value.old) (V.entries value.new) result }
+        ensures does { does self value.old value.new result };
 
     /// What it asks stays true of each list that begins with that one.
     ghost lasts: { (s : Self) (f : V.Fixed) (xs ys : List V.Entry) → asks s f xs → asks s f (xs ++ ys) };

@@ -27,6 +27,8 @@ pub struct View<E, F> {
     pub looks: u64,
     /// The word that the last look found.
     pub last: u64,
+    /// How many sections it has run.
+    pub runs: u64,
 }
 
 /// The value as it was when the turn was made, and the number of seats.
