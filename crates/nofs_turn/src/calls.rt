@@ -116,17 +116,19 @@ impl<V: Kept> Turn<V> {
     }
 
     // Wakes one thread that is counted, and takes it off the count: the gives that come before it is up send no
-    // wake for it. Where the exchange fails, another thread gave or counted itself meanwhile. That one is up and
+    // wake for it. Nor do they send one for another thread: while one is on its way up, a second would only find the
+    // turn taken. Where the exchange fails, another thread gave or counted itself meanwhile. That one is up and
     // comes to the word after this give, so it sends the next wake itself.
     fn wake(&self) {
         let parked = self.parked.load(Ordering::SeqCst);
-        if parked == 0 {
+        if parked == 0 || self.waking.load(Ordering::SeqCst) {
             return;
         }
         let claim = self
             .parked
             .compare_exchange(parked, parked - 1, Ordering::SeqCst, Ordering::SeqCst);
         if claim.is_ok() {
+            self.waking.store(true, Ordering::SeqCst);
             self.table.shared.wake_one(0);
         }
     }
@@ -164,6 +166,7 @@ impl<V: Kept> Turn<V> {
         self.parked.fetch_add(1, Ordering::SeqCst);
         let (low, nap) = ((last % (1 << 32)) as u32, Duration::from_millis(NAP));
         self.table.shared.park_timeout(rt, 0, low, nap);
+        self.waking.store(false, Ordering::SeqCst);
     }
 
     /// Runs the section where the turn is free, and else answers `Busy` with the section and the odd word found. It
@@ -246,6 +249,7 @@ impl<V: Kept> Turn<V> {
             table,
             seats: _,
             parked: _,
+            waking: _,
         } = self;
         let Pass { seat, stands: _ } = pass;
         let mut closed = table.close_with(seat);

@@ -10,7 +10,7 @@ use crate::turn::{Pass, Turn, TurnFault};
 use atomic_table::{Refused, Seat, Table};
 use std::alloc::Global;
 use std::snapshot::Snapshot;
-use std::sync::atomic::AtomicU64;
+use std::sync::atomic::{AtomicBool, AtomicU64};
 
 impl<V: Kept> Turn<V> {
     ghost use Rattle.nofs_turn.specs.Rule.Views.{maker, newcomer, Deals};
@@ -45,6 +45,7 @@ impl<V: Kept> Turn<V> {
                     table,
                     seats: count,
                     parked: AtomicU64::new(0),
+                    waking: AtomicBool::new(false),
                 };
                 let passes = turn.deal(maker, passes);
                 Ok((turn, passes))

@@ -23,7 +23,7 @@ use crate::rule::steps::Counted;
 use crate::rule::view::{Opening, View};
 use atomic_table::{Seat, Table};
 use std::alloc::Global;
-use std::sync::atomic::AtomicU64;
+use std::sync::atomic::{AtomicBool, AtomicU64};
 
 /// A value that one pass at a time gets hold of. Its word is 2n while the turn is free and n entries are kept,
 /// and 2n + 1 while it is taken.
@@ -33,6 +33,8 @@ pub struct Turn<V: Kept> {
     pub(crate) seats: u64,
     // How many threads sleep or are about to, and were sent no wake; at times more, never for long.
     pub(crate) parked: AtomicU64,
+    // Whether a wake was sent, and no sleeper has come up since.
+    pub(crate) waking: AtomicBool,
     ghost words: { table.shared.table_id.words ≡ 1 },
     ghost slots: { table.shared.table_id.slots ≡ 1 },
     ghost seats_are: { (seats ≡ table.shared.key.seats) × (seats ≤ 64) },
