@@ -100,6 +100,9 @@ pub record IsUpgradeStopped (old new : DiskState) : Type 0 where
   pub began : old.moment < new.moment
   pub most : new.moment ≤ old.moment + 4
   pub now : (new.now ≡ old.now) ⊎ (new.now ≡ slice_set old.now 0 (super_cell (second before)))
+  -- nothing was made durable: what a block might hold before it may still hold, and only block 0 holds more
+  pub kept : (b : ℕ) (c : Cell) → Contains (old.may b) c → Contains (new.may b) c
+  pub others : (b : ℕ) → b ≢ 0 → new.may b ≡ old.may b
   -- a crash leaves what it might before, but in block 0 perhaps version 2
   pub cells : (b : ℕ) (c : Cell) → Contains (new.may b) c → WasOr (IsSuperCell (second before)) old b c
 
