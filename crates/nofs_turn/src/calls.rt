@@ -30,9 +30,9 @@ use std::time::Duration;
 // How often a thread looks at the word before it sleeps.
 const LOOKS: u32 = 50;
 
-// The longest sleep, in milliseconds. It is for one race: the wake for a thread is sent after it counted itself and
-// before it sleeps, and the word comes back to the same odd number, since the section between made no entry.
-// Then it sleeps and no give knows of it.
+// The longest sleep, in milliseconds. It is for two races. The wake for a thread is sent after it counted itself and
+// before it sleeps, and the word comes back to the same odd number, since the section between made no entry: then it
+// sleeps and no give knows of it. And a wake that finds nobody asleep leaves `waking` set until a sleeper comes up.
 const NAP: u64 = 1;
 
 impl<V: Kept> Turn<V> {
