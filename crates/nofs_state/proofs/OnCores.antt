@@ -13,4 +13,5 @@ pub mod Sees
 pub mod SeenInodes
 pub mod Beginning
 pub mod Done
+pub mod FirstRows
 pub mod WriteOuts

@@ -47,6 +47,7 @@ use Rattle.nofs_state.proofs.OnCores.NoWrites.{run-more, takes-none}
 use Rattle.nofs_state.proofs.OnCores.Replies.{open-files}
 use Rattle.nofs_state.proofs.OnCores.Runs.{faults-append}
 use Rattle.nofs_state.proofs.OnCores.SafeSteps.{accepted-fault, accepted-memory, safely-done, safely-goes}
+use Rattle.nofs_state.proofs.OnCores.SafeSteps.{accepted-given}
 use Rattle.nofs_state.proofs.OnWrites.Numbered.{sounds-adds}
 
 -- weaker cells
@@ -234,12 +235,14 @@ pub goes-done : (old new : DiskState) (k l : Books) (s : Step) (c : Claims) (r :
     → IsDisk old → IsDisk new → k.stopped ≡ false
     → l.at ≡ k.at → l.history ≡ k.history → l.stopped ≡ false → IsSafe new l → is_refused r ≡ false
     → IsSameDisk old new → KeepsPast old new
-    → old.moment < new.moment → NoOrder old new (MeetsOpen old k) s c r → IsSafe old k
+    → old.moment < new.moment → new.faults ≡ old.faults → NoOrder old new (MeetsOpen old k) s c r → IsSafe old k
     → (IsTrue old.tells → (H : List Entry1) (p : Past) → IsOpen old k H p → IsDone old new k l H p s c r ws)
     → Goes old k new l s c r
-goes-done old new k l s c r ws is_old is_new going at history runs safe accepted disk past later order safe_old done =
+goes-done old new k l s c r ws is_old is_new going at history runs safe accepted disk past later same order safe_old
+    done =
     safely-goes old new k l s c r
-    (safely-done old new k l r going at history runs safe accepted disk past later) order sounds
+    (safely-done old new k l r going at history runs safe accepted disk past later same)
+    (accepted-given k.at s r accepted) order sounds
     (λ tells caller H p o. record {
       none = λ t. absurd (let z = accepted-memory r accepted in cc (t, z));
       done = λ n f. (

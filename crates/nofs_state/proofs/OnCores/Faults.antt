@@ -20,7 +20,7 @@ use Rattle.nofs_state.specs.Cores.Steps.{Goes, MeetsOpen, NoOrder, entry}
 use Rattle.nofs_state.specs.declared.books.maps.Books.{Books}
 use Rattle.nofs_state.proofs.OnCores.NoWrites.{run-more}
 use Rattle.nofs_state.proofs.OnCores.Replies.{nothing-learned}
-use Rattle.nofs_state.proofs.OnCores.SafeSteps.{safely-fault, safely-goes}
+use Rattle.nofs_state.proofs.OnCores.SafeSteps.{safely-fault, safely-goes, after-read}
 use Rattle.nofs_state.proofs.OnWrites.Numbered.{AddsNumbered, sounds-adds}
 
 -- a world that is stopped
@@ -73,7 +73,8 @@ pub goes-fault : (old new : DiskState) (k l : Books) (s : Step) (c : Claims) →
     → Goes old k new l s c (reply.Refused refusal.WriteFault)
 goes-fault old new k l s c is going at history stopped disk past rose later order safe_old safe numbered proper =
     safely-goes old new k l s c (reply.Refused refusal.WriteFault)
-    (safely-fault old new k l going at history stopped safe disk past rose later) order sounds
+    (safely-fault old new k l going at history stopped safe disk past rose later)
+    (after-read k.at s refusal.WriteFault refl) order sounds
     (λ tells caller H p o.
     let q = proper tells caller H p o in
     record {

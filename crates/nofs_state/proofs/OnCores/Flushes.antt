@@ -31,7 +31,7 @@ use Rattle.nofs_state.specs.Cores.Steps.{FlushesAlone, Goes, entry}
 use Rattle.nofs_disk.specs.Order.{OnlyFlushes, has_failed}
 use Rattle.nofs_state.specs.declared.books.maps.Books.{Books}
 use Rattle.nofs_state.proofs.OnBooks.Safe.{safe-over}
-use Rattle.nofs_state.proofs.OnCores.SafeSteps.{safely-done, safely-goes}
+use Rattle.nofs_state.proofs.OnCores.SafeSteps.{safely-done, safely-goes, accepted-given}
 use Rattle.nofs_state.proofs.OnWrites.NoWrites.{sounds-flush}
 use Rattle.nofs_state.proofs.OnCores.Faults.{goes-fault, stopped_books, stopped_world}
 use Rattle.nofs_state.proofs.OnCores.NoWrites.{run-more}
@@ -108,7 +108,8 @@ module _ (old new : DiskState) (k : Books) (i g : ℕ) (is_old : IsDisk old) (is
       let later : old.moment < new.moment = (let m = f.moment in omega (arith, m)) in
       safely-goes old new k k (step.Flush i g) no_claims reply.Flushed
       (safely-done old new k k reply.Flushed going refl refl going
-      (safe-flushed old new k k.stopped f safe) refl f.disk f.past later)
+      (safe-flushed old new k k.stopped f safe) refl f.disk f.past later f.no_fault)
+      (accepted-given k.at (step.Flush i g) reply.Flushed refl)
       (FlushesAlone refl refl (only-flushes old new (Ok tt) f))
       (λ tells H p o from q. sounds-flush from old new is_new f q)
       (λ tells caller H p o. record {

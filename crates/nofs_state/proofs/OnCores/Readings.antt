@@ -50,10 +50,12 @@ flush-reads i g = reading (step.Flush i g) refl (λ F. refl) (λ F. refl) (λ F.
 
 -- a step that found no memory after one row of reads, or after two
 module _ {old : DiskState} {k : Books} {s : Step} (safe : IsSafe old k) where
-  pub read-memory : {new : DiskState} → StaysButFaults old new
+  pub read-memory : {new : DiskState} → StaysButFaults old new → new.faults ≡ old.faults
       → Goes old k new k s no_claims (reply.Refused refusal.OutOfMemory)
-  read-memory {new} stays = goes-memory old new (reads-keep old new stays) k s no_claims safe
+  read-memory {new} stays same = goes-memory old new (reads-keep old new stays) same k s no_claims safe
 
   pub read-memory-found : {mid new : DiskState} → StaysButFaults old mid → StaysButFaults mid new
+      → new.faults ≡ old.faults
       → Goes old k new k s no_claims (reply.Refused refusal.OutOfMemory)
-  read-memory-found {mid} {new} opened found = read-memory (StaysButFaults-trans old mid new opened found)
+  read-memory-found {mid} {new} opened found same =
+      read-memory (StaysButFaults-trans old mid new opened found) same

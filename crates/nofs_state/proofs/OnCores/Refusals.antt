@@ -1,6 +1,6 @@
 -- Rows of refusals: which of them come after the first read, and a file that is not opened.
 use Rattle.std.proofs.Common.{◌≡◌, ℕ, Bool, true, false, List, [], ◌∷◌, Option, Some, None, Result, Err, IfErr, refl}
-use Rattle.std.proofs.Common.{subst}
+use Rattle.std.proofs.Common.{ap, subst}
 use Rattle.nofs_disk.specs.Disk.{DiskState, IsDisk}
 use Rattle.nofs_history.specs.Search.{first_of}
 use Rattle.nofs_history.specs.World.{World}
@@ -13,7 +13,7 @@ use Rattle.nofs_history.specs.declared.machine.replies.Refusal.TheVariants as re
 use Rattle.nofs_agree.specs.declared.reads.LastRead.{LastRead}
 use Rattle.nofs_state.specs.Books.Maps.{IsSafe}
 use Rattle.nofs_state.specs.Cores.Steps.{Goes}
-use Rattle.nofs_state.specs.Inodes.Opened.{Opens, OpenFails}
+use Rattle.nofs_state.specs.Inodes.Opened.{Opens, OpenFails, met_fault}
 use Rattle.nofs_state.specs.declared.books.maps.Books.{Books}
 use Rattle.nofs_state.specs.declared.inodes.opened.Opened.{Opened}
 use Rattle.nofs_state.proofs.OnCores.Replies.{goes-row, goes-read, open-files}
@@ -44,11 +44,12 @@ pub goes-unopened : (old new : DiskState) (k : Books) (s : Step) (i g : ℕ) (la
     → ((W : World) → IsLate (first_of (rows W W s)))
     → Goes old k new k s no_claims (reply.Refused why)
 goes-unopened old new k s i g last res why is safe going opens e comes late =
-    go why (subst (λ (q : Result Opened Refusal). IfErr q (OpenFails old new k i g)) e opens.refused)
+    go why e (subst (λ (q : Result Opened Refusal). IfErr q (OpenFails old new k i g)) e opens.refused)
   where
-    go : (w : Refusal) → OpenFails old new k i g w → Goes old k new k s no_claims (reply.Refused w)
-    go refusal.Stale fails = goes-row old new k s is safe opens.stays refusal.Stale refl tt going
+    go : (w : Refusal) → res ≡ Err w → OpenFails old new k i g w → Goes old k new k s no_claims (reply.Refused w)
+    go refusal.Stale e fails =
+        goes-row old new k s is safe opens.stays (opens.no_fault (ap met_fault e)) refusal.Stale refl tt going
         (λ tells H p o. comes p.world
         (stale-some p.world old.now i g (open-files old k H p o) (fails tells (are-agreed old k H p safe o))))
-    go refusal.ReadFault fails = goes-read old new k s is safe opens.stays going fails (λ tells H p o. late p.world)
-    go _ fails = absurd fails
+    go refusal.ReadFault e fails = goes-read old new k s is safe opens.stays going fails (λ tells H p o. late p.world)
+    go _ e fails = absurd fails

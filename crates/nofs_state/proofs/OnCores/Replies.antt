@@ -32,12 +32,15 @@ use Rattle.nofs_crashlaw.proofs.OnMaps.Homes.{holds-has}
 use Rattle.nofs_crashlaw.proofs.OnHistories.FlushStage.{files-stay}
 use Rattle.nofs_state.specs.Books.Maps.{IsSafe}
 use Rattle.nofs_state.specs.Cores.Invariant.{IsOpen, IsStopped, Past, Sounds}
-use Rattle.nofs_state.specs.Cores.Steps.{Goes, IsReading, IsSafeStep, LeavesDisk, entry, is_plain}
+use Rattle.nofs_state.specs.Cores.Steps.{Goes, IsReading, IsSafeStep, LeavesDisk, entry, is_late, is_plain}
 use Rattle.nofs_history.specs.Writes.{makes_calls}
 use Rattle.nofs_state.specs.declared.books.maps.Books.{Books}
 use Rattle.nofs_state.proofs.OnCores.NoWrites.{IsIdle, follows-idle, stopped-idle}
 use Rattle.nofs_state.proofs.OnBooks.Safe.{reads-keep, safe-keeps}
-use Rattle.nofs_state.proofs.OnCores.SafeSteps.{accepted-fault, accepted-memory, plain-fault, plain-memory}
+use Rattle.nofs_state.proofs.OnCores.SafeSteps.{accepted-fault, accepted-given, accepted-memory, after-read}
+use Rattle.nofs_state.proofs.OnCores.SafeSteps.{plain-fault, plain-memory}
+use Rattle.nofs_state.proofs.OnCores.SafeSteps.{late-given, late-plain, row-given}
+use Rattle.nofs_state.specs.Cores.Early.{IsByGiven, refused_early}
 use Rattle.nofs_state.proofs.OnCores.SafeSteps.{safely-answer, safely-goes, safely-read, safely-row, safely-stopped}
 use Rattle.nofs_state.proofs.OnWrites.NoWrites.{sounds-keep}
 
@@ -184,9 +187,11 @@ module _ (old new : DiskState) (k : Books) (s : Step) (is : IsDisk old) (safe : 
   sound tells H p o from q = sounds-keep from old new stays.disk stays.past stays.cells q
 
   -- the mount is stopped
-  pub goes-stopped : k.stopped ≡ true → Goes old k new k s no_claims (reply.Refused refusal.Stopped)
-  goes-stopped stopped =
-      safely-goes old new k k s no_claims (reply.Refused refusal.Stopped) (safely-stopped old new k safe stays stopped)
+  pub goes-stopped : new.faults ≡ old.faults → k.stopped ≡ true
+      → Goes old k new k s no_claims (reply.Refused refusal.Stopped)
+  goes-stopped same stopped =
+      safely-goes old new k k s no_claims (reply.Refused refusal.Stopped)
+      (safely-stopped old new k safe stays same stopped) (after-read k.at s refusal.Stopped refl)
       (LeavesDisk refl stays.cells stays.dirty) sound
       (λ tells caller H p o. absurd (let g = o.going in cc (g, stopped)))
       (λ tells caller H p o. record {
@@ -200,12 +205,13 @@ module _ (old new : DiskState) (k : Books) (s : Step) (is : IsDisk old) (safe : 
   -- the mount goes on, with an entry that changes nothing
   goes-idle : (r : Reply)
       → is_out_of_memory r ≡ false → makes_calls r ≡ false → k.stopped ≡ false → IsSafeStep old k new k r
+      → IsByGiven k.at s r
       → (IsTrue old.tells → (H : List Entry1) (p : Past) → IsOpen old k H p → p.world.stopped ≡ false → (caller : ℕ)
       → IsIdle p.world.files (entry caller old new s no_claims r)
       × Next p.world (entry caller old new s no_claims r) p.world)
       → Goes old k new k s no_claims r
-  goes-idle r memory quick going safely idle =
-      safely-goes old new k k s no_claims r safely (LeavesDisk quick stays.cells stays.dirty) sound
+  goes-idle r memory quick going safely early idle =
+      safely-goes old new k k s no_claims r safely early (LeavesDisk quick stays.cells stays.dirty) sound
       (λ tells caller H p o.
       let e : Entry1 = entry caller old new s no_claims r in
       let i = idle tells H p o (o.says.stopped ∙ going) caller in
@@ -213,19 +219,37 @@ module _ (old new : DiskState) (k : Books) (s : Step) (is : IsDisk old) (safe : 
       (keeps-all p.world) o.says refl going memory)
       (λ tells caller H p o. absurd (let t = o.stopped in cc (t, going)))
 
-  -- a refusal by a row of the machine
-  pub goes-row : (why : Refusal) → is_plain why ≡ true → InRange why → k.stopped ≡ false
+  -- a refusal by a row of the machine, before any read or after one
+  goes-refused : new.faults ≡ old.faults → (why : Refusal) → is_plain why ≡ true → InRange why
+      → IsByGiven k.at s (reply.Refused why) → k.stopped ≡ false
       → (IsTrue old.tells → (H : List Entry1) (p : Past) → IsOpen old k H p
       → first_of (rows p.world p.world s) ≡ Some why)
       → Goes old k new k s no_claims (reply.Refused why)
-  goes-row why plain range going comes = goes-idle (reply.Refused why) (plain-memory why plain)
-      (plain-fault why plain) going (safely-row old new k safe stays why plain range going)
+  goes-refused same why plain range early going comes = goes-idle (reply.Refused why) (plain-memory why plain)
+      (plain-fault why plain) going (safely-row old new k safe stays same why plain range going) early
       (λ tells H p o runs caller. (
         refused-idle p.world.files (entry caller old new s no_claims (reply.Refused why)) why refl
             (plain-fault why plain),
         ByRow why runs (comes tells H p o) (inl refl) refl (keeps-all p.world) runs
             (nothing-learned p.world s p.world.stopped),
       ))
+
+  -- by a row that comes after a read
+  pub goes-row : new.faults ≡ old.faults → (why : Refusal) → is_late why ≡ true → InRange why → k.stopped ≡ false
+      → (IsTrue old.tells → (H : List Entry1) (p : Past) → IsOpen old k H p
+      → first_of (rows p.world p.world s) ≡ Some why)
+      → Goes old k new k s no_claims (reply.Refused why)
+  goes-row same why late range going comes =
+      goes-refused same why (late-plain why late) range (late-given k.at s why late) going comes
+
+  -- by one that needs no disk
+  pub goes-early : new.faults ≡ old.faults → (why : Refusal) → is_plain why ≡ true → InRange why → k.stopped ≡ false
+      → refused_early k.at s ≡ Some why
+      → (IsTrue old.tells → (H : List Entry1) (p : Past) → IsOpen old k H p
+      → first_of (rows p.world p.world s) ≡ Some why)
+      → Goes old k new k s no_claims (reply.Refused why)
+  goes-early same why plain range going early comes =
+      goes-refused same why plain range (row-given k.at s why early) going comes
 
   -- a read failed
   pub goes-read : k.stopped ≡ false → Rose old.faults new.faults
@@ -235,17 +259,20 @@ module _ (old new : DiskState) (k : Books) (s : Step) (is : IsDisk old) (safe : 
       → Goes old k new k s no_claims (reply.Refused refusal.ReadFault)
   goes-read going rose late =
       goes-idle (reply.Refused refusal.ReadFault) refl refl going (safely-read old new k safe stays going rose)
+      (after-read k.at s refusal.ReadFault refl)
       (λ tells H p o runs caller.
       let e : Entry1 = entry caller old new s no_claims (reply.Refused refusal.ReadFault) in
       (refused-idle p.world.files e refusal.ReadFault refl refl, by-read p.world e runs (late tells H p o) refl refl))
 
   -- an answer
-  pub goes-answer : (r : Reply) → is_refused r ≡ false → makes_calls r ≡ false → IsReading s → k.stopped ≡ false
+  pub goes-answer : new.faults ≡ old.faults → (r : Reply) → is_refused r ≡ false → makes_calls r ≡ false → IsReading s
+      → k.stopped ≡ false
       → (IsTrue old.tells → (H : List Entry1) (p : Past) → IsOpen old k H p
       → (first_of (rows p.world p.world s) ≡ None) × (r ≡ reply_of p.world s no_claims))
       → Goes old k new k s no_claims r
-  goes-answer r accepted none reads going comes = goes-idle r (accepted-memory r accepted) none going
-      (safely-answer old new k safe stays r accepted (no-flush r none) going)
+  goes-answer same r accepted none reads going comes = goes-idle r (accepted-memory r accepted) none going
+      (safely-answer old new k safe stays same r accepted (no-flush r none) going)
+      (accepted-given k.at s r accepted)
       (λ tells H p o runs caller.
       let e : Entry1 = entry caller old new s no_claims r in
       let c = comes tells H p o in (

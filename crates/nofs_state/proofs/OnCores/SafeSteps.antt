@@ -1,7 +1,12 @@
 -- The exits of a step over any disk: no world is named.
-use Rattle.std.proofs.Common.{◌≡◌, ℕ, ◌<◌, ◌⊎◌, true, false, List, IsTrue, refl, sym, ap, ◌∙◌, arith}
+use Rattle.std.proofs.Common.{◌≡◌, ℕ, ◌<◌, ◌⊎◌, Bool, true, false, ◌&&◌, not, List, Some, IsTrue, refl, sym, ap, ◌∙◌}
+use Rattle.std.proofs.Common.{arith}
 use Rattle.nofs_disk.specs.Disk.{DiskState, IsSameDisk, KeepsCells, KeepsPast, StaysButFaults, Rose}
 use Rattle.nofs_disk.specs.Chains.{IsSameDisk-trans, KeepsPast-trans, KeepsCells-trans}
+use Rattle.nofs_super.specs.declared.superblock.SuperBlock.{SuperBlock}
+use Rattle.nofs_history.specs.Refusals.{reads_nothing}
+use Rattle.nofs_state.specs.Cores.Early.{IsByGiven, refused_early}
+use Rattle.nofs_history.specs.Faults.{is_fault}
 use Rattle.nofs_history.specs.Machine.{is_refused, is_write_fault}
 use Rattle.nofs_history.specs.Since.{is_flushed}
 use Rattle.nofs_history.specs.Steps.{InRange, is_out_of_memory}
@@ -15,11 +20,11 @@ use Rattle.nofs_history.specs.declared.machine.replies.Refusal.TheVariants as re
 use Rattle.nofs_state.specs.Books.Maps.{IsSafe}
 use Rattle.nofs_state.specs.Cores.Invariant.{IsOpen, IsStopped, Past, Sounds}
 use Rattle.nofs_state.specs.Cores.Steps.{Causes, Follows, Goes, IsSafeStep, HasRange, MeetsOpen, NoOrder}
-use Rattle.nofs_state.specs.Cores.Steps.{StaysStopped, entry, is_plain}
+use Rattle.nofs_state.specs.Cores.Steps.{StaysStopped, entry, is_late, is_plain}
 use Rattle.nofs_state.specs.declared.books.maps.Books.{Books}
 use Rattle.nofs_state.proofs.OnBooks.Safe.{Keeping, reads-keep, safe-keeps}
 
--- A plain refusal is no want of memory and no write fault
+-- A plain refusal is no want of memory, no write fault, and no fault at all
 
 pub plain-memory : (why : Refusal) → is_plain why ≡ true → is_out_of_memory (reply.Refused why) ≡ false
 plain-memory refusal.OutOfMemory e = cc
@@ -28,6 +33,26 @@ plain-memory _ e = refl
 pub plain-fault : (why : Refusal) → is_plain why ≡ true → is_write_fault (reply.Refused why) ≡ false
 plain-fault refusal.WriteFault e = cc
 plain-fault _ e = refl
+
+pub plain-no-fault : (why : Refusal) → is_plain why ≡ true → is_fault (reply.Refused why) ≡ false
+plain-no-fault refusal.ReadFault e = cc
+plain-no-fault refusal.WriteFault e = cc
+plain-no-fault _ e = refl
+
+pub late-plain : (why : Refusal) → is_late why ≡ true → is_plain why ≡ true
+late-plain why e = go (is_plain why) (not (reads_nothing why)) e
+  where
+    go : (a b : Bool) → (a && b) ≡ true → a ≡ true
+    go true b h = refl
+    go false b h = h
+
+late-reads : (why : Refusal) → is_late why ≡ true → reads_nothing why ≡ false
+late-reads why e = go (is_plain why) (reads_nothing why) e
+  where
+    go : (a b : Bool) → (a && not b) ≡ true → b ≡ false
+    go true false h = refl
+    go true true h = cc h
+    go false b h = cc h
 
 -- No more is an answer that accepts, and it has no numbers that could be out of range
 
@@ -43,6 +68,23 @@ accepted-range : (r : Reply) → is_refused r ≡ false → HasRange r
 accepted-range (reply.Refused w) e = cc
 accepted-range _ e = tt
 
+-- Which answers are none that need no disk
+
+pub after-read : (at : SuperBlock) (s : Step) (why : Refusal) → reads_nothing why ≡ false
+    → IsByGiven at s (reply.Refused why)
+after-read at s why late w e t =
+    absurd (let q : why ≡ w = cc e in let z = ap reads_nothing q in cc (z, late, t))
+
+pub late-given : (at : SuperBlock) (s : Step) (why : Refusal) → is_late why ≡ true → IsByGiven at s (reply.Refused why)
+late-given at s why late = after-read at s why (late-reads why late)
+
+pub accepted-given : (at : SuperBlock) (s : Step) (r : Reply) → is_refused r ≡ false → IsByGiven at s r
+accepted-given at s r accepted w e t = absurd (let z = ap is_refused e in cc (z, accepted))
+
+pub row-given : (at : SuperBlock) (s : Step) (why : Refusal) → refused_early at s ≡ Some why
+    → IsByGiven at s (reply.Refused why)
+row-given at s why early w e t = let q : why ≡ w = cc e in early ∙ ap Some q
+
 -- an answer with which nothing is written
 pub record IsQuiet (old new : DiskState) (k : Books) (r : Reply) : Type 0 where
   pub stopped : k.stopped ≡ true → is_out_of_memory r ≡ false → r ≡ reply.Refused refusal.Stopped
@@ -50,17 +92,19 @@ pub record IsQuiet (old new : DiskState) (k : Books) (r : Reply) : Type 0 where
   pub read : r ≡ reply.Refused refusal.ReadFault → Rose old.faults new.faults
   pub no_fault : is_write_fault r ≡ false
   pub no_flush : is_flushed r ≡ false
+  pub same : is_fault r ≡ false → new.faults ≡ old.faults
   pub range : HasRange r
 
 -- one that accepts
 pub quiet-answer : (old new : DiskState) (k : Books) (r : Reply)
-    → is_refused r ≡ false → is_flushed r ≡ false → k.stopped ≡ false → IsQuiet old new k r
-quiet-answer old new k r accepted plain going = record {
+    → is_refused r ≡ false → is_flushed r ≡ false → k.stopped ≡ false → new.faults ≡ old.faults → IsQuiet old new k r
+quiet-answer old new k r accepted plain going same = record {
   stopped = λ t n. absurd (cc (t, going));
   not_stopped = λ e. absurd (let z = ap is_refused e in cc (z, accepted));
   read = λ e. absurd (let z = ap is_refused e in cc (z, accepted));
   no_fault = accepted-fault r accepted;
   no_flush = plain;
+  same = λ e. same;
   range = accepted-range r accepted;
 }
 
@@ -73,6 +117,7 @@ quiet-causes old new k l r cells quiet same memory = record {
   not_stopped = quiet.not_stopped;
   read = quiet.read;
   write = λ e. absurd (no-fault e);
+  no_fault = quiet.same;
   stops = λ going t. absurd (cc (same, going, t));
   fault = λ e. absurd (no-fault e);
   keeps = λ t. same ∙ t;
@@ -101,30 +146,35 @@ quietly old new keep k r safe quiet = record {
 
 module _ (old new : DiskState) (k : Books) (safe : IsSafe old k) (stays : StaysButFaults old new) where
   -- the mount is stopped
-  pub safely-stopped : k.stopped ≡ true → IsSafeStep old k new k (reply.Refused refusal.Stopped)
-  safely-stopped stopped = quietly old new (reads-keep old new stays) k (reply.Refused refusal.Stopped) safe
+  pub safely-stopped : new.faults ≡ old.faults → k.stopped ≡ true
+      → IsSafeStep old k new k (reply.Refused refusal.Stopped)
+  safely-stopped same stopped = quietly old new (reads-keep old new stays) k (reply.Refused refusal.Stopped) safe
       (record {
         stopped = λ t n. refl;
         not_stopped = λ e. stopped;
         read = λ e. absurd (cc);
         no_fault = refl;
         no_flush = refl;
+        same = λ e. same;
         range = tt;
       })
 
   -- a refusal by a row
-  pub safely-row : (why : Refusal) → is_plain why ≡ true → InRange why
+  pub safely-row : new.faults ≡ old.faults → (why : Refusal) → is_plain why ≡ true → InRange why
       → k.stopped ≡ false → IsSafeStep old k new k (reply.Refused why)
-  safely-row why plain range going = quietly old new (reads-keep old new stays) k (reply.Refused why) safe (record {
-    stopped = λ t n. absurd (cc (t, going));
-    not_stopped = λ e.
-        absurd (let f : why ≡ refusal.Stopped = cc in let z : is_plain why ≡ false = ap is_plain f in cc (z, plain));
-    read = λ e. absurd (let f : why ≡ refusal.ReadFault = cc in
-        let z : is_plain why ≡ false = ap is_plain f in cc (z, plain));
-    no_fault = plain-fault why plain;
-    no_flush = refl;
-    range = range;
-  })
+  safely-row same why plain range going =
+      quietly old new (reads-keep old new stays) k (reply.Refused why) safe (record {
+        stopped = λ t n. absurd (cc (t, going));
+        not_stopped = λ e.
+            absurd (let f : why ≡ refusal.Stopped = cc in
+            let z : is_plain why ≡ false = ap is_plain f in cc (z, plain));
+        read = λ e. absurd (let f : why ≡ refusal.ReadFault = cc in
+            let z : is_plain why ≡ false = ap is_plain f in cc (z, plain));
+        no_fault = plain-fault why plain;
+        no_flush = refl;
+        same = λ e. same;
+        range = range;
+      })
 
   -- a read failed
   pub safely-read : k.stopped ≡ false → Rose old.faults new.faults
@@ -136,33 +186,37 @@ module _ (old new : DiskState) (k : Books) (safe : IsSafe old k) (stays : StaysB
         read = λ e. rose;
         no_fault = refl;
         no_flush = refl;
+        same = λ e. absurd (cc e);
         range = tt;
       })
 
   -- an answer
-  pub safely-answer : (r : Reply)
+  pub safely-answer : new.faults ≡ old.faults → (r : Reply)
       → is_refused r ≡ false → is_flushed r ≡ false → k.stopped ≡ false → IsSafeStep old k new k r
-  safely-answer r accepted plain going =
-      quietly old new (reads-keep old new stays) k r safe (quiet-answer old new k r accepted plain going)
+  safely-answer same r accepted plain going =
+      quietly old new (reads-keep old new stays) k r safe (quiet-answer old new k r accepted plain going same)
 
 -- no memory
-pub safely-memory : (old new : DiskState) (keep : Keeping old new) (k : Books) → IsSafe old k
+pub safely-memory : (old new : DiskState) (keep : Keeping old new)
+    → new.faults ≡ old.faults → (k : Books) → IsSafe old k
     → IsSafeStep old k new k (reply.Refused refusal.OutOfMemory)
-safely-memory old new keep k safe = quietly old new keep k (reply.Refused refusal.OutOfMemory) safe
+safely-memory old new keep same k safe = quietly old new keep k (reply.Refused refusal.OutOfMemory) safe
     (record {
       stopped = λ t n. absurd (cc);
       not_stopped = λ e. absurd (cc);
       read = λ e. absurd (cc);
       no_fault = refl;
       no_flush = refl;
+      same = λ e. same;
       range = tt;
     })
 
 -- a step from there on is one from here on
-pub safely-after : (old new : DiskState) (keep : Keeping old new) (end : DiskState) (k l : Books) (r : Reply)
+pub safely-after : (old new : DiskState) (keep : Keeping old new) → new.faults ≡ old.faults
+    → (end : DiskState) (k l : Books) (r : Reply)
     → IsSafeStep new k end l r
     → IsSafeStep old k end l r
-safely-after old new keep end k l r g = record {
+safely-after old new keep same end k l r g = record {
   disk = IsSameDisk-trans old new end keep.disk g.disk;
   past = KeepsPast-trans old new end (let m = keep.cells.moment in omega (arith, m)) keep.past g.past;
   later = (let m = keep.cells.moment in let q = g.later in omega (arith, m, q));
@@ -174,6 +228,7 @@ safely-after old new keep end k l r g = record {
       (let f = keep.disk.faults in let q = h.0 in omega (arith, f, q)),
       (let m = keep.cells.moment in let q = h.1 in omega (arith, m, q)),
     );
+    no_fault = λ e. g.cause.no_fault e ∙ same;
     stops = g.cause.stops;
     fault = g.cause.fault;
     keeps = g.cause.keeps;
@@ -192,8 +247,8 @@ safely-after old new keep end k l r g = record {
 pub safely-done : (old new : DiskState) (k l : Books) (r : Reply)
     → k.stopped ≡ false → l.at ≡ k.at → l.history ≡ k.history → l.stopped ≡ false
     → IsSafe new l → is_refused r ≡ false → IsSameDisk old new → KeepsPast old new
-    → old.moment < new.moment → IsSafeStep old k new l r
-safely-done old new k l r going at history runs safe accepted disk past later = record {
+    → old.moment < new.moment → new.faults ≡ old.faults → IsSafeStep old k new l r
+safely-done old new k l r going at history runs safe accepted disk past later same = record {
   disk = disk;
   past = past;
   later = omega (arith, later);
@@ -202,6 +257,7 @@ safely-done old new k l r going at history runs safe accepted disk past later = 
     not_stopped = λ e. absurd (let z = ap is_refused e in cc (z, accepted));
     read = λ e. absurd (let z = ap is_refused e in cc (z, accepted));
     write = λ e. absurd (let z = ap is_refused e in cc (z, accepted));
+    no_fault = λ e. same;
     stops = λ a t. absurd (cc (t, runs));
     fault = λ e. absurd (let z = ap is_refused e in cc (z, accepted));
     keeps = λ t. absurd (cc (t, going));
@@ -230,6 +286,7 @@ safely-fault old new k l going at history stopped safe disk past rose later = re
     not_stopped = λ e. absurd (cc);
     read = λ e. absurd (cc);
     write = λ e. (rose, later);
+    no_fault = λ e. absurd (cc e);
     stops = λ a b. refl;
     fault = λ e. stopped;
     keeps = λ t. stopped;
@@ -246,7 +303,7 @@ safely-fault old new k l going at history stopped safe disk past rose later = re
 
 -- a safe step goes as the machine's, where it leads from what stands over a disk that tells to what stands
 pub safely-goes : (old new : DiskState) (k l : Books) (s : Step) (c : Claims) (r : Reply) → IsSafeStep old k new l r
-    → NoOrder old new (MeetsOpen old k) s c r
+    → IsByGiven k.at s r → NoOrder old new (MeetsOpen old k) s c r
     → (IsTrue old.tells → (H : List Entry1) (p : Past) → IsOpen old k H p ⊎ IsStopped old k H p
     → (from : ℕ) → Sounds from old → Sounds from new)
     → (IsTrue old.tells → (caller : ℕ) (H : List Entry1) (p : Past) → IsOpen old k H p
@@ -254,12 +311,13 @@ pub safely-goes : (old new : DiskState) (k l : Books) (s : Step) (c : Claims) (r
     → (IsTrue old.tells → (caller : ℕ) (H : List Entry1) (p : Past) → IsStopped old k H p
     → StaysStopped old new l H p (entry caller old new s c r))
     → Goes old k new l s c r
-safely-goes old new k l s c r safely order sound from_open from_stopped = record {
+safely-goes old new k l s c r safely early order sound from_open from_stopped = record {
   disk = safely.disk;
   past = safely.past;
   later = safely.later;
   cause = safely.cause;
   order = order;
+  early = early;
   sound = λ tells H p o from q. sound tells H p o from q;
   safe = safely.safe;
   at = safely.at;

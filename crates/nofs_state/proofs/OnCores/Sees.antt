@@ -127,11 +127,11 @@ follows-stood old new k s used is stays going caller H p tells o seeing row answ
     follows-seen old new k k s used is stays refl refl going going caller H p p.world.known_inodes
     p.world.known_blocks o seeing tells (record { rows = row; reply = answer; learns = learned }) o.says
 
-pub seen-causes : (old new : DiskState) (k l : Books) (used : Bool) → KeepsCells old new
+pub seen-causes : (old new : DiskState) (k l : Books) (used : Bool) → KeepsCells old new → new.faults ≡ old.faults
     → k.stopped ≡ false → l.stopped ≡ false
     → Causes old new k l (reply.Seen used)
-seen-causes old new k l used cells going still =
-    quiet-causes old new k l (reply.Seen used) cells (quiet-answer old new k (reply.Seen used) refl refl going)
+seen-causes old new k l used cells same going still =
+    quiet-causes old new k l (reply.Seen used) cells (quiet-answer old new k (reply.Seen used) refl refl going same)
     (still ∙ sym going) (λ t. absurd (cc t))
 
 -- what a See step examines becomes known

@@ -28,7 +28,7 @@ use Rattle.nofs_state.specs.Cores.Steps.{WritesAlone, entry, goes-safely}
 use Rattle.nofs_disk.specs.Order.{IsTried, OneOf, image_after}
 use Rattle.nofs_state.specs.declared.books.maps.Books.{Books}
 pub use Rattle.nofs_state.proofs.OnBooks.Safe.{Keeping, reads-keep, ready-keeps, safe-keeps}
-use Rattle.nofs_state.proofs.OnCores.SafeSteps.{safely-after, safely-goes, safely-memory}
+use Rattle.nofs_state.proofs.OnCores.SafeSteps.{safely-after, safely-goes, safely-memory, after-read}
 use Rattle.nofs_state.proofs.OnWrites.NoWrites.{sounds-keep}
 
 -- the same without the faults: so it also leads back
@@ -171,9 +171,11 @@ module _ (old new : DiskState) (keep : Keeping old new) where
   })
 
   -- a step from there on is one from here on
-  pub goes-after : (end : DiskState) (k l : Books) (s : Step) (c : Claims) (r : Reply) → Goes new k end l s c r
+  pub goes-after : new.faults ≡ old.faults → (end : DiskState) (k l : Books) (s : Step) (c : Claims) (r : Reply)
+      → Goes new k end l s c r
       → Goes old k end l s c r
-  goes-after end k l s c r g = safely-goes old end k l s c r (safely-after old new keep end k l r (goes-safely g))
+  goes-after same end k l s c r g =
+      safely-goes old end k l s c r (safely-after old new keep same end k l r (goes-safely g)) g.early
       (order-after end k s c r g.order)
       (λ tells H p o from q. g.sound (told tells) H p (either H p o) from
       (sounds-keep from old new keep.disk keep.past keep.cells q))
@@ -201,10 +203,11 @@ module _ (old new : DiskState) (keep : Keeping old new) where
       still H p caller f = record { none = f.none; done = f.done; next = f.next }
 
   -- no memory
-  pub goes-memory : (k : Books) (s : Step) (c : Claims) → IsSafe old k
+  pub goes-memory : new.faults ≡ old.faults → (k : Books) (s : Step) (c : Claims) → IsSafe old k
       → Goes old k new k s c (reply.Refused refusal.OutOfMemory)
-  goes-memory k s c safe =
-      safely-goes old new k k s c (reply.Refused refusal.OutOfMemory) (safely-memory old new keep k safe)
+  goes-memory same k s c safe =
+      safely-goes old new k k s c (reply.Refused refusal.OutOfMemory) (safely-memory old new keep same k safe)
+      (after-read k.at s refusal.OutOfMemory refl)
       (LeavesDisk refl keep.cells keep.dirty)
       (λ tells H p o from q. sounds-keep from old new keep.disk keep.past keep.cells q)
       (λ tells caller H p o.

@@ -132,7 +132,7 @@ marking-goes old now new at i from slot bits b b2 last next g size m =
     let (a, found, area, e) = m.marked_as in
     record {
       stays = StaysButFaults-trans old now new g.stays m.stays;
-      no_fault = m.no_fault ∙ g.no_fault;
+      no_fault = m.no_fault refl ∙ g.no_fault;
       kept = m.kept;
       so_far = marked-goes old.now old.tells at i from slot bits b b2 a g.so_far g.order size
           (λ t. subst (λ (X : Image). a ≡ find X i (path_of slot)) g.stays.cells.now
@@ -144,7 +144,7 @@ pub marking-ends : (old now : DiskState) (at : SuperBlock) (i from to slot : ℕ
     → Marking old now at i from slot bits b last → slot ≡ to → MarksAll old now at i from to bits b last (Ok tt)
 marking-ends old now at i from to slot bits b last g e = record {
   stays = g.stays;
-  no_fault = g.no_fault;
+  no_fault = λ e. g.no_fault;
   marked_as = subst (λ (n : ℕ). Marked old.now old.tells at i from n bits b) e g.so_far;
   kept = g.kept;
   refused = tt;
@@ -163,7 +163,7 @@ pub marking-fails : (old now new : DiskState) (at : SuperBlock) (i from to slot 
     → MarksAll old new at i from to bits c next (Err why)
 marking-fails old now new at i from to slot bits b b2 c last next why g m = record {
   stays = StaysButFaults-trans old now new g.stays m.stays;
-  no_fault = tt;
+  no_fault = λ e. m.no_fault e ∙ g.no_fault;
   marked_as = tt;
   kept = tt;
   refused = fails-on old now new g.stays why m.refused;

@@ -56,7 +56,7 @@ opened old mid new k i g r last res a b knows kept gen ok err agrees quiet = by-
       current = λ t all. same-current old.now i g (agreed-old t all)
           (ap (λ (q : Record). q.generation) (record-of old mid k.at i r a knows t) ∙ gen);
       kept = IsLast-on mid new last b kept;
-      no_fault = quiet;
+      no_fault = λ e. quiet;
       refused = tt;
     }
     by-result (Err why) ok err = record {
@@ -64,7 +64,7 @@ opened old mid new k i g r last res a b knows kept gen ok err agrees quiet = by-
       known = tt;
       current = tt;
       kept = tt;
-      no_fault = tt;
+      no_fault = λ e. quiet;
       refused = subst (λ (w : Refusal). OpenFails old new k i g w) (sym err.0)
           (λ t all. absurd (dead old.now i (agreed-old t all)
           (ap (λ (q : Record). q.kind) (record-of old mid k.at i r a knows t) ∙ err.1)));
@@ -74,13 +74,14 @@ opened old mid new k i g r last res a b knows kept gen ok err agrees quiet = by-
 pub opened-not : (old mid new : DiskState) (k : Books) (i g : ℕ) (last : LastRead) (b : Bool) → StaysButFaults old mid
     → StaysButFaults mid new → b ≡ false
     → (IsTrue mid.tells → AreTrue mid.now k.agreement → b ≡ agreed (files_in mid.now) i)
+    → new.faults ≡ old.faults
     → Opens old new k i g last (Err refusal.Stale)
-opened-not old mid new k i g last b a c fails agrees = record {
+opened-not old mid new k i g last b a c fails agrees quiet = record {
   stays = StaysButFaults-trans old mid new a c;
   known = tt;
   current = tt;
   kept = tt;
-  no_fault = tt;
+  no_fault = λ e. quiet;
   refused = λ t all.
       let is : agreed (files_in old.now) i ≡ false =
       sym (subst (λ (X : Image). b ≡ agreed (files_in X) i) a.cells.now

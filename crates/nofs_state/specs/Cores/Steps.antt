@@ -1,10 +1,12 @@
 -- What a step leaves: the contract of each step function.
-use Rattle.std.specs.Prelude.{◌≡◌, ◌⊎◌, ℕ, ◌+◌, ◌<◌, ◌≤◌, true, false, List, [], ◌∷◌, ◌++◌, length, Bool}
+use Rattle.std.specs.Prelude.{◌≡◌, ◌⊎◌, ℕ, ◌+◌, ◌<◌, ◌≤◌, true, false, List, [], ◌∷◌, ◌++◌, length, Bool, ◌&&◌, not}
 use Rattle.std.specs.Prelude.{IsTrue, None}
 use mathlib.Core.List.{IsPrefix}
 use Rattle.nofs_disk.specs.Disk.{DiskState, IsSameDisk, KeepsCells, KeepsPast, Rose}
 use Rattle.nofs_model.specs.Files.{Files}
+use Rattle.nofs_history.specs.Faults.{is_fault}
 use Rattle.nofs_history.specs.Machine.{gives, nothing, is_write_fault, is_refused}
+use Rattle.nofs_history.specs.Refusals.{reads_nothing}
 use Rattle.nofs_history.specs.Steps.{is_out_of_memory, InRange}
 use Rattle.nofs_history.specs.World.{inodes_needed, blocks_needed}
 use Rattle.nofs_history.specs.Next.{Next, sees_inode, sees_block, takes_time}
@@ -18,6 +20,7 @@ use Rattle.nofs_history.specs.declared.machine.replies.Reply.{Reply}
 use Rattle.nofs_history.specs.declared.machine.replies.Reply.TheVariants as reply
 use Rattle.nofs_history.specs.declared.machine.replies.Refusal.TheVariants as refusal
 use Rattle.nofs_state.specs.Books.Maps.{IsSafe}
+use Rattle.nofs_state.specs.Cores.Early.{IsByGiven}
 use Rattle.nofs_state.specs.Cores.Invariant.{IsOpen, IsStopped, Past, Sounds}
 use Rattle.nofs_disk.specs.Order.{OnlyFlushes, OnlyWrites, WritesOnce}
 use Rattle.nofs_disk.specs.declared.tag.Cell.{Cell}
@@ -64,6 +67,8 @@ pub record Causes (old new : DiskState) (k l : Books) (r : Reply) : Type 0 where
   pub not_stopped : r ≡ reply.Refused refusal.Stopped → k.stopped ≡ true
   pub read : r ≡ reply.Refused refusal.ReadFault → Rose old.faults new.faults
   pub write : r ≡ reply.Refused refusal.WriteFault → Rose old.faults new.faults × (old.moment < new.moment)
+  -- no other answer comes where a call has failed: it was not made again in silence
+  pub no_fault : is_fault r ≡ false → new.faults ≡ old.faults
   -- a write fault alone stops the mount
   pub stops : k.stopped ≡ false → l.stopped ≡ true → r ≡ reply.Refused refusal.WriteFault
   pub fault : r ≡ reply.Refused refusal.WriteFault → l.stopped ≡ true
@@ -116,6 +121,8 @@ pub record Goes (old : DiskState) (k : Books) (new : DiskState) (l : Books) (s :
   pub later : old.moment ≤ new.moment
   pub cause : Causes old new k l r
   pub order : NoOrder old new (MeetsOpen old k) s c r
+  -- BadName, BadRange and TooLarge come only by what the step was given and by the superblock
+  pub early : IsByGiven k.at s r
   pub safe : IsSafe new l
   pub at : l.at ≡ k.at
   pub history : l.history ≡ k.history
@@ -156,6 +163,10 @@ is_plain refusal.ReadFault = false
 is_plain refusal.WriteFault = false
 is_plain refusal.OutOfMemory = false
 is_plain _ = true
+
+-- one that comes after a read
+abbrev pub is_late : Refusal → Bool
+is_late why = is_plain why && not (reads_nothing why)
 
 -- a step that reads alone
 pub record IsReading (s : Step) : Type 0 where

@@ -1,5 +1,6 @@
 -- Which blocks stand in some slots of an inode, read slot by slot, and what is known of them once they are free.
-use Rattle.std.specs.Prelude.{◌≡◌, ℕ, ◌+◌, ◌/◌, ◌<◌, ◌≤◌, ◌⊎◌, Bool, true, ◌&&◌, ◌||◌, not, List, [], ◌∷◌, length}
+use Rattle.std.specs.Prelude.{◌≡◌, ℕ, ◌+◌, ◌/◌, ◌<◌, ◌≤◌, ◌⊎◌, Bool, true, false, ◌&&◌, ◌||◌, not, List, [], ◌∷◌}
+use Rattle.std.specs.Prelude.{length}
 use Rattle.std.specs.Prelude.{IsTrue, Result, IfErr, OnOk, slice_set}
 use Rattle.nofs_bits.specs.Bits.{is_set}
 use Rattle.nofs_disk.specs.Disk.{DiskState, StaysButFaults, Rose}
@@ -16,6 +17,7 @@ use Rattle.nofs_history.specs.declared.machine.replies.Refusal.TheVariants as re
 use Rattle.nofs_agree.specs.Reads.{IsLast}
 use Rattle.nofs_agree.specs.declared.reads.LastRead.{LastRead}
 use Rattle.nofs_state.specs.declared.books.maps.Books.{Books}
+use Rattle.nofs_state.specs.Inodes.Opened.{met_fault}
 
 -- the map with the block of a slot in which this stands
 abbrev pub marked : PathAnswer → List Bool → List Bool
@@ -39,7 +41,7 @@ pub record Marks (old new : DiskState) (at : SuperBlock) (i slot : ℕ) (bits bi
     pub marked_as : OnOk result ((a : PathAnswer) × (IsTrue old.tells → a ≡ find old.now i (path_of slot)) × InArea at a
         × (bits2 ≡ marked a bits))
     pub kept : OnOk result (IsLast new last)
-    pub no_fault : OnOk result (new.faults ≡ old.faults)
+    pub no_fault : met_fault result ≡ false → new.faults ≡ old.faults
     pub refused : IfErr result (MarkFails old new)
 
 -- the block of a slot among some
@@ -61,7 +63,7 @@ pub record MarksAll (old new : DiskState) (at : SuperBlock) (i from to : ℕ) (b
   pub stays : StaysButFaults old new
   pub marked_as : OnOk result (Marked old.now old.tells at i from to bits bits2)
   pub kept : OnOk result (IsLast new last)
-  pub no_fault : OnOk result (new.faults ≡ old.faults)
+  pub no_fault : met_fault result ≡ false → new.faults ≡ old.faults
   pub refused : IfErr result (MarkFails old new)
 
 -- the blocks below a bound that are freed are known and free

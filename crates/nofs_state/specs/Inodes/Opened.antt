@@ -1,16 +1,23 @@
 -- What opening a file answers, over any disk.
-use Rattle.std.specs.Prelude.{◌≡◌, ℕ, Bool, true, false, ◌&&◌, ◌==◌, Some, IsTrue, Result, IfOk, IfErr, OnOk}
+use Rattle.std.specs.Prelude.{◌≡◌, ℕ, Bool, true, false, ◌&&◌, ◌==◌, Some, IsTrue, Result, IfOk, IfErr, Ok, Err, OnOk}
 use Rattle.nofs_disk.specs.Disk.{DiskState, StaysButFaults, Rose}
 use Rattle.nofs_super.specs.declared.superblock.SuperBlock.{SuperBlock}
 use Rattle.nofs_model.specs.Geometry.{Image, inode}
 use Rattle.nofs_model.specs.Files.{files_in, agreed}
+use Rattle.nofs_history.specs.Faults.{is_fault}
 use Rattle.nofs_history.specs.declared.machine.replies.Refusal.{Refusal}
 use Rattle.nofs_history.specs.declared.machine.replies.Refusal.TheVariants as refusal
+use Rattle.nofs_history.specs.declared.machine.replies.Reply.TheVariants as reply
 use Rattle.nofs_agree.specs.Reads.{IsLast, KnowsInode}
 use Rattle.nofs_agree.specs.Chain.{AreTrue}
 use Rattle.nofs_agree.specs.declared.reads.LastRead.{LastRead}
 use Rattle.nofs_state.specs.declared.books.maps.Books.{Books}
 use Rattle.nofs_state.specs.declared.inodes.opened.Opened.{Opened}
+
+-- a part of a step ended by a fault: a call of the device failed
+abbrev pub met_fault : {T : Type 0} → Result T Refusal → Bool
+met_fault (Ok it) = false
+met_fault (Err why) = is_fault (reply.Refused why)
 
 -- the inode is agreed with this generation
 abbrev pub is_current : Image → ℕ → ℕ → Bool
@@ -35,4 +42,5 @@ pub record Opens (old new : DiskState) (k : Books) (i g : ℕ) (last : LastRead)
   pub current : IfOk result (λ it. IsTrue old.tells → AreTrue old.now k.agreement → is_current old.now i g ≡ true)
   pub refused : IfErr result (OpenFails old new k i g)
   pub kept : OnOk result (IsLast new last)
-  pub no_fault : OnOk result (new.faults ≡ old.faults)
+  -- no other answer comes where a call has failed
+  pub no_fault : met_fault result ≡ false → new.faults ≡ old.faults

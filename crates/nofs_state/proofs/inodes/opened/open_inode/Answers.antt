@@ -17,3 +17,4 @@ returns-in-Ok-false g c =
     (g.D.Disk.state c.check_chain.new.disk)
     c.args.books.now c.args.inode c.args.generation c.read_inode.new.last c.in-Ok-false.field-0
     c.read_inode.ensures.stays c.check_chain.ensures.stays c.in-Ok-false.field-0-test c.in-Ok-false.ensures.agreed
+    (c.in-Ok-false.ensures.no_fault ∙ c.in-Ok.ensures.no_fault)
