@@ -15,8 +15,8 @@ use Rattle.nofs_history.specs.Steps.{InRange}
 use Rattle.nofs_history.specs.declared.machine.replies.Refusal.TheVariants as refusal
 use Rattle.nofs_agree.specs.Reads.{IsLast, KnowsInode}
 use Rattle.nofs_agree.specs.declared.reads.LastRead.{LastRead}
-use Rattle.nofs_state.specs.Inodes.Opened.{is_current}
-use Rattle.nofs_state.specs.Cores.Steps.{is_plain}
+use Rattle.nofs_state.specs.Inodes.Opened.{is_current, met_fault}
+use Rattle.nofs_state.specs.Cores.Steps.{is_late}
 use Rattle.nofs_state.specs.declared.books.maps.Books.{Books}
 use Rattle.nofs_files.specs.declared.reads.gets.Got.{Got}
 use Rattle.nofs_files.specs.declared.reads.gets.Got.TheVariants as got
@@ -49,7 +49,7 @@ file_row X i g = if is_current X i g then row (is_kind kind.Directory (inode X i
 
 -- why a file was not opened: by its row, or by a failed read
 pub data FileFails (old new : DiskState) (k : Books) (i g : ℕ) (why : Refusal) : Type 0 where
-  FailsByRow : is_plain why ≡ true → InRange why
+  FailsByRow : is_late why ≡ true → InRange why
       → (IsTrue old.tells → AreTrue old.now k.agreement → file_row old.now i g ≡ Some why)
       → FileFails old new k i g why
   FailsByRead : why ≡ refusal.ReadFault → Rose old.faults new.faults → FileFails old new k i g why
@@ -67,7 +67,7 @@ pub record OpensFile (old new : DiskState) (k : Books) (i g : ℕ) (last : LastR
   pub file : IfOk result (IsFile new k.at i g)
   pub current : IfOk result (λ r. IsTrue old.tells → AreTrue old.now k.agreement → is_current old.now i g ≡ true)
   pub kept : OnOk result (IsLast new last)
-  pub no_fault : OnOk result (new.faults ≡ old.faults)
+  pub no_fault : met_fault result ≡ false → new.faults ≡ old.faults
 
 abbrev pub got_answer : List ℕ → Result Got Refusal → Reply
 got_answer bytes (Ok got.Bytes) = reply.Bytes bytes

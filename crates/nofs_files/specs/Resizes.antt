@@ -29,7 +29,7 @@ use Rattle.nofs_agree.specs.Chain.{AreTrue}
 use Rattle.nofs_agree.specs.Reads.{IsLast}
 use Rattle.nofs_agree.specs.declared.reads.LastRead.{LastRead}
 use Rattle.nofs_state.specs.Books.Maps.{IsSafe}
-use Rattle.nofs_state.specs.Inodes.Opened.{is_current}
+use Rattle.nofs_state.specs.Inodes.Opened.{is_current, met_fault}
 use Rattle.nofs_state.specs.Cores.Steps.{Goes}
 use Rattle.nofs_state.specs.Inodes.Blocks.{IsBlockAmong, MarkFails}
 use Rattle.nofs_state.specs.declared.books.maps.Books.{Books}
@@ -115,7 +115,7 @@ pub record CutsBlock (old new : DiskState) (at : SuperBlock) (i : ℕ) (path : P
   pub area : IfOk result (λ o. IfSome o (CellInData at))
   pub kept : OnOk result (IsLast new last)
   pub refused : IfErr result (CutFails old new i path slot)
-  pub no_fault : OnOk result (new.faults ≡ old.faults)
+  pub no_fault : met_fault result ≡ false → new.faults ≡ old.faults
 
 -- the last child that stays
 abbrev pub last_child : ℕ → ℕ
@@ -170,7 +170,7 @@ pub record FindsEdgeOf (Is : Edge → Type 0) (Fails : Refusal → Type 0) (old 
   pub area : IfOk result (EdgeInData at)
   pub kept_last : OnOk result (IsLast new last)
   pub refused : IfErr result Fails
-  pub no_fault : OnOk result (new.faults ≡ old.faults)
+  pub no_fault : met_fault result ≡ false → new.faults ≡ old.faults
 
 abbrev pub FindsFar : DiskState → DiskState → SuperBlock → ℕ → ℕ → LastRead → Result Edge Refusal → Type 0
 FindsFar old new at i kept last result =
@@ -220,7 +220,7 @@ pub record MarksCut (old new : DiskState) (at : SuperBlock) (i kept : ℕ) (last
   pub map : IfOk result (IsCutMap new at i kept)
   pub kept_last : OnOk result (IsLast new last)
   pub refused : IfErr result (MarkFails old new)
-  pub no_fault : OnOk result (new.faults ≡ old.faults)
+  pub no_fault : met_fault result ≡ false → new.faults ≡ old.faults
 
 -- what a change of size has read, and is to write; no row refuses the step
 pub record MayCut (d : DiskState) (k : Books) (i g size : ℕ) (r : Record) (tail : Option NewCell) (edge : Edge)

@@ -117,7 +117,7 @@ climb-goes d new k l' l i g slot at bytes r r' m way places cells c c2 result is
         l-going
         (safe-writes d new l' (way_writes places cells (table_block i, c2) m way)
         (Ok tt) l'.stopped writes apart claimed) refl writes.adds.disk
-        writes.adds.past writes.later
+        writes.adds.past writes.later writes.no_fault
         (WritesAlone refl (writes-cells k (step.Put i g slot at bytes) c writes count owes)) safe
         (λ tells H p o. climb-done (shown-of (climbing new is_d tells safe o (facts tells H p o) takes)) writes
         (pass tells H p o)))
@@ -142,7 +142,7 @@ climb-goes d new k l' l i g slot at bytes r r' m way places cells c c2 result is
 pub ways-end : (old mid new : DiskState) (k l' l : Books) (i g slot at : ℕ) (bytes : List ℕ) (r r' : Record) (m : ℕ)
     (way : Path) (places : Path → Pointer)
     (cells : Path → Cell) (c : Claims) (c2 : Cell) (result : Result (Unit {0}) Refusal) → IsDisk mid → IsDisk new
-    → StaysButFaults old mid
+    → StaysButFaults old mid → mid.faults ≡ old.faults
     → IsSafe old k → (IsSafe mid k → IsSafe mid l')
     → k.stopped ≡ false → IsApart (way_writes places cells (table_block i, c2) m way) 0 → Takes k l' c m
     → path_of slot ≡ way → length (claimed_blocks c) ≡ m
@@ -151,10 +151,11 @@ pub ways-end : (old mid new : DiskState) (k l' l : Books) (i g slot at : ℕ) (b
     → RowsPass old k (step.Put i g slot at bytes)
     → Stores mid l' new l (way_writes places cells (table_block i, c2) m way) result
     → Goes old k new l (step.Put i g slot at bytes) c (put_answer result)
-ways-end old mid new k l' l i g slot at bytes r r' m way places cells c c2 result is_mid is_new stays safe claimed going
+ways-end old mid new k l' l i g slot at bytes r r' m way places cells c c2 result is_mid is_new stays same
+    safe claimed going
     apart takes path number facts pass
     stores =
-    goes-after old mid keep new k l (step.Put i g slot at bytes) c (put_answer result)
+    goes-after old mid keep same new k l (step.Put i g slot at bytes) c (put_answer result)
     (climb-goes mid new k l' l i g slot at bytes r r' m way places cells c c2 result is_mid is_new
     (safe-keeps old mid keep k safe)
     (claimed (safe-keeps old mid keep k safe)) going apart takes path number
@@ -177,7 +178,7 @@ pub asked-ends : {old mid new : DiskState} {k l' l : Books} {p : Put} {r r' : Re
     {result : Result (Unit {0}) Refusal}
     (way : Path) (places : Path → Pointer) (cells : Path → Cell) → IsAsked old k p r m → HasRoom k m
     → IsTaking old mid k l' p c m
-    → IsDisk mid → IsDisk new → StaysButFaults old mid
+    → IsDisk mid → IsDisk new → StaysButFaults old mid → mid.faults ≡ old.faults
     → path_of p.slot ≡ way → IsApart (way_writes places cells (table_block p.inode, c2) m way) 0
     → (IsTrue old.tells → agreed (files_in old.now) p.inode ≡ true
     → Climbs old.now p.inode p.generation p.slot p.at p.bytes.now r r' m way places cells c c2)
@@ -185,9 +186,9 @@ pub asked-ends : {old mid new : DiskState} {k l' l : Books} {p : Put} {r r' : Re
     → Goes old k new l (step_of_put p) c (put_answer result)
 asked-ends {old} {mid} {new} {k} {l'} {l} {p} {r} {r'} {m} {c} {c2} {result} way places cells a room
     taking is_mid is_new
-    stays path apart climbs {t} at-table stores =
+    stays same path apart climbs {t} at-table stores =
     ways-end old mid new k l' l p.inode p.generation p.slot p.at p.bytes.now r r' m way places cells c c2 result is_mid
-    is_new stays a.safe taking.safe
+    is_new stays same a.safe taking.safe
     a.going apart taking.takes path taking.number
     (λ t H q o. record {
       climbs = climbs t (current-agreed old.now p.inode p.generation (a.current t (are-agreed old k H q a.safe o)));

@@ -171,7 +171,7 @@ claim-none W i g slot at bytes needs = record {
 pub place-ends : {old mid new : DiskState} {k l : Books} {p : Put} {r : Record} {last : LastRead} {writes t : ℕ}
     {x : Pointer} {before c1 c20 c2 : Cell}
     {result : Result (Unit {0}) Refusal} → IsDisk mid → IsDisk new → StaysButFaults old mid
-    → MayPut old k p r last writes → p.slot < slot_limit
+    → mid.faults ≡ old.faults → MayPut old k p r last writes → p.slot < slot_limit
     → HeldAt old k p.inode (path_of p.slot) x → (IsTrue old.tells → before ≡ cell_at old.now x.block)
     → c1.payload ≡ put_content (Bytes before.payload) r.size p.slot p.at p.bytes.now → c1.tag ≡ before.tag
     → (IsTrue old.tells → c20 ≡ cell_at old.now (table_block p.inode))
@@ -180,11 +180,11 @@ pub place-ends : {old mid new : DiskState} {k l : Books} {p : Put} {r : Record} 
     → Stores mid k new l ((x.block, c1) ∷ (t, c2) ∷ []) result
     → Goes old k new l (step_of_put p) no_claims (put_answer result)
 place-ends {old} {mid} {new} {k} {l} {p} {r} {last} {writes} {t} {x} {before} {c1} {c20} {c2} {result} is_mid is_new
-    stays may low held cell payload tag read
+    stays same may low held cell payload tag read
     table pass at-table stores =
     ways-end old mid new k k l p.inode p.generation p.slot p.at p.bytes.now r (sized r (size_after p r.size)) 0
     (path_of p.slot)
-    (place_at old.now p.inode (path_of p.slot) x) (λ q. c1) no_claims c2 result is_mid is_new stays may.safe
+    (place_at old.now p.inode (path_of p.slot) x) (λ q. c1) no_claims c2 result is_mid is_new stays same may.safe
     (λ s. s) may.going
     (subst (λ (ws : List (ℕ × Cell)). IsApart ws 0) (sym same-writes)
     ((λ e. let q = held.positive in omega (arith, e, q)), ((λ e. omega (arith, e)), tt)))
@@ -217,16 +217,17 @@ place-ends {old} {mid} {new} {k} {l} {p} {r} {last} {writes} {t} {x} {before} {c
 pub direct-ends : {old mid new : DiskState} {k l' l : Books} {p : Put} {r : Record} {c : Claims} {t : ℕ}
     {c1 c20 c2 : Cell} {result : Result (Unit {0}) Refusal}
     → IsAsked old k p r 1 → HasRoom k 1 → IsTaking old mid k l' p c 1 × NamesOne c → IsDisk mid → IsDisk new
-    → StaysButFaults old mid → p.slot < 8
+    → StaysButFaults old mid → mid.faults ≡ old.faults → p.slot < 8
     → length r.direct ≡ 8 → IsContent p r.size c.cell.stamp c1
     → (IsTrue old.tells → c20 ≡ cell_at old.now (table_block p.inode))
     → IsRecordCell c20 p.inode (pointed r (size_after p r.size) p.slot c.cell) c2 → t ≡ table_block p.inode
     → Stores mid l' new l ((c.cell.block, c1) ∷ (t, c2) ∷ []) result
     → Goes old k new l (step_of_put p) c (put_answer result)
-direct-ends {old} {mid} {new} {k} {l'} {l} {p} {r} {c} {t} {c1} {c20} {c2} a room taking is_mid is_new stays low eight
-    content read table at-table stores =
+direct-ends {old} {mid} {new} {k} {l'} {l} {p} {r} {c} {t} {c1} {c20} {c2} a room taking is_mid is_new stays same low
+    eight content read table at-table stores =
     let names = taking.1 in
-    asked-ends (InRecord p.slot) (λ q. c.cell) (λ q. c1) a room taking.0 is_mid is_new stays (path-direct p.slot low)
+    asked-ends (InRecord p.slot) (λ q. c.cell) (λ q. c1) a room taking.0 is_mid is_new stays same
+    (path-direct p.slot low)
     ((λ e. claimed-not-zero c.cell names.cell (sym e)), ((λ e. omega (arith, e)), tt))
     (λ t agrees. direct-climbs old.now p.inode p.generation p.slot p.at p.bytes.now r p.slot c c1 c2 low eight
     (content-facts a (path-direct p.slot low) content read table t agrees) names) at-table stores

@@ -105,9 +105,9 @@ ended {old} {new} {k} {l} {s} e goes =
 
 -- a step after reads
 pub after-reads : {old new end : DiskState} {k l : Books} {s : Step} {c : Claims} {r : Reply} → StaysButFaults old new
-    → Goes new k end l s c r → Goes old k end l s c r
-after-reads {old} {new} {end} {k} {l} {s} {c} {r} stays goes =
-    goes-after old new (reads-keep old new stays) end k l s c r goes
+    → new.faults ≡ old.faults → Goes new k end l s c r → Goes old k end l s c r
+after-reads {old} {new} {end} {k} {l} {s} {c} {r} stays same goes =
+    goes-after old new (reads-keep old new stays) same end k l s c r goes
 
 -- a Put that has passed all rows before that of lost blocks above
 pub record IsReached (d : DiskState) (k : Books) (i g slot at : ℕ) (bytes : List ℕ) : Type 0 where
@@ -145,9 +145,10 @@ module _ {old : DiskState} {k : Books} {i g slot at : ℕ} {bytes : List ℕ} (f
   goes-unread-above {new} stays rose = goes-read old new k put f.disk f.safe stays f.going rose late
 
   -- one is lost
-  pub goes-lost-above : {new : DiskState} → StaysButFaults old new → DamageIs old k i (path_of slot) true
-      → Goes old k new k put no_claims (reply.Refused (refusal.LostSlot slot))
-  goes-lost-above {new} stays lost = goes-row old new k put f.disk f.safe stays (refusal.LostSlot slot) refl tt f.going
+  pub goes-lost-above : {new : DiskState} → StaysButFaults old new → new.faults ≡ old.faults
+      → DamageIs old k i (path_of slot) true → Goes old k new k put no_claims (reply.Refused (refusal.LostSlot slot))
+  goes-lost-above {new} stays same lost =
+      goes-row old new k put f.disk f.safe stays same (refusal.LostSlot slot) refl tt f.going
       (λ tells H p o. let d = lost tells H p o in f.reach tells H p o p.world ∙ rw d refl)
 
   -- none is
@@ -178,10 +179,10 @@ module _ {old new : DiskState} {k : Books} {p : Put} {r : Record} {read : LastRe
   unread-ends is disk may rows stays rose = ended is (goes-unread-above (reached disk may rows) stays rose)
 
   pub lost-ends : e ≡ record { claims = no_claims; result = Err (refusal.LostSlot p.slot) } → IsDisk old
-      → MayPut old k p r read writes → RowsReachOf old k p → StaysButFaults old new
+      → MayPut old k p r read writes → RowsReachOf old k p → StaysButFaults old new → new.faults ≡ old.faults
       → DamageIs old k p.inode (path_of p.slot) true
       → Goes old k new k (step.Put p.inode p.generation p.slot p.at p.bytes.now) e.claims (put_answer e.result)
-  lost-ends is disk may rows stays lost = ended is (goes-lost-above (reached disk may rows) stays lost)
+  lost-ends is disk may rows stays same lost = ended is (goes-lost-above (reached disk may rows) stays same lost)
 
 -- the file of a Put is there
 pub record IsThere (d : DiskState) (k : Books) (i g : ℕ) : Type 0 where

@@ -138,7 +138,8 @@ pub below-ends : {old mid new : DiskState} {k l' l : Books} {p : Put} {r : Recor
     {y : Pointer} {c1 cu0 cu c20 c2 : Cell}
     {result : Result (Unit {0}) Refusal} → IsAsked old k p r 1 → HasRoom k 1 → IsTaking old mid k l' p c 1 × NamesOne c
     → IsDisk mid → IsDisk new
-    → StaysButFaults old mid → HeldAt old k p.inode a y → IsUnder p.slot a n → IsContent p r.size c.cell.stamp c1
+    → StaysButFaults old mid → mid.faults ≡ old.faults → HeldAt old k p.inode a y → IsUnder p.slot a n
+    → IsContent p r.size c.cell.stamp c1
     → (IsTrue old.tells → cu0 ≡ cell_at old.now y.block) → OtherPointer cu0 cu n c.cell
     → (IsTrue old.tells → c20 ≡ cell_at old.now (table_block p.inode))
     → IsRecordCell c20 p.inode (sized r (size_after p r.size)) c2 → t ≡ table_block p.inode
@@ -146,10 +147,10 @@ pub below-ends : {old mid new : DiskState} {k l' l : Books} {p : Put} {r : Recor
     → Goes old k new l (step_of_put p) c (put_answer result)
 below-ends {old} {mid} {new} {k} {l'} {l} {p} {r} {c} {a} {n} {t} {y} {c1} {cu0} {cu} {c20} {c2} {result}
     asked room taking
-    is_mid is_new stays held path content
+    is_mid is_new stays same held path content
     upper-read upper read table at-table stores =
     asked-ends (Under a n) (below_at old.now p.inode a n c.cell y)
-    (below_cells a n c1 cu) asked room taking.0 is_mid is_new stays path.path
+    (below_cells a n c1 cu) asked room taking.0 is_mid is_new stays same path.path
     (subst (λ (ws : List (ℕ × Cell)). IsApart ws 0) (sym (same-writes (table_block p.inode))) (
       (λ e. claimed-not-zero c.cell names.cell (sym e)),
       ((λ e. let q = held.positive in omega (arith, e, q)), ((λ e. omega (arith, e)), tt)),

@@ -258,7 +258,7 @@ child-climbs X i g slot at bytes r j n z c c1 cc1 ct c2 f held hole child top na
 
 module _ {old mid new : DiskState} {k l' l : Books} {p : Put} {r : Record} {c : Claims} {c20 c2 : Cell} {t : ℕ}
     {result : Result (Unit {0}) Refusal}
-    (is_mid : IsDisk mid) (is_new : IsDisk new) (stays : StaysButFaults old mid)
+    (is_mid : IsDisk mid) (is_new : IsDisk new) (stays : StaysButFaults old mid) (same : mid.faults ≡ old.faults)
     (read : IsTrue old.tells → c20 ≡ cell_at old.now (table_block p.inode))
     (at-table : t ≡ table_block p.inode) where
   pub leaf-ends : {n : ℕ} {c1 cl : Cell} → IsAsked old k p r 2 → HasRoom k 2 → IsTaking old mid k l' p c 2 × NamesTwo c
@@ -271,7 +271,7 @@ module _ {old mid new : DiskState} {k l' l : Books} {p : Put} {r : Record} {c : 
   leaf-ends {n} {c1} {cl} a room taking path hole content leaf table stores =
       let names = taking.1 in
       asked-ends (Under (InRecord 8) n) (two_at c.cell c.leaf)
-      (two_of c1 cl) a room taking.0 is_mid is_new stays path.path (
+      (two_of c1 cl) a room taking.0 is_mid is_new stays same path.path (
         (λ e. claimed-not-zero c.cell names.cell (sym e)),
         ((λ e. claimed-not-zero c.leaf names.leaf (sym e)), ((λ e. omega (arith, e)), tt)),
       )
@@ -291,7 +291,7 @@ module _ {old mid new : DiskState} {k l' l : Books} {p : Put} {r : Record} {c : 
   child-ends {j} {n} {z} {c1} {cc1} {ct0} {ct} a room taking path held hole content child top-read top table stores =
       let names = taking.1 in
       asked-ends (Under (Under (InRecord 9) j) n) (three_at c.cell c.leaf z)
-      (three_of c1 cc1 ct) a room taking.0 is_mid is_new stays path.path (
+      (three_of c1 cc1 ct) a room taking.0 is_mid is_new stays same path.path (
         (λ e. claimed-not-zero c.cell names.cell (sym e)),
         (
           (λ e. claimed-not-zero c.leaf names.leaf (sym e)),
@@ -313,7 +313,7 @@ module _ {old mid new : DiskState} {k l' l : Books} {p : Put} {r : Record} {c : 
   top-ends {j} {n} {c1} {cc1} {ct} a room taking path hole content child top table stores =
       let names = taking.1 in
       asked-ends (Under (Under (InRecord 9) j) n) (three_at c.cell c.leaf c.top)
-      (three_of c1 cc1 ct) a room taking.0 is_mid is_new stays path.path (
+      (three_of c1 cc1 ct) a room taking.0 is_mid is_new stays same path.path (
         (λ e. claimed-not-zero c.cell names.cell (sym e)),
         (
           (λ e. claimed-not-zero c.leaf names.leaf (sym e)),

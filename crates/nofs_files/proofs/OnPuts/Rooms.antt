@@ -89,7 +89,7 @@ module _ {d : DiskState} {k : Books} {p : Put} {r : Record} {m : ℕ} (a : IsAsk
   pub goes-no-room : {why : Refusal} → NoRoom k m why → Goes d k d k put no_claims (reply.Refused why)
   goes-no-room {why} (TooFull lt full) =
       subst (λ (w : Refusal). Goes d k d k put no_claims (reply.Refused w)) (sym full.same)
-      (goes-row d d k put a.disk a.safe (StaysButFaults-refl d)
+      (goes-row d d k put a.disk a.safe (StaysButFaults-refl d) refl
       (refusal.Full m (count_set k.free_blocks) (count_set k.unknown_blocks) full.next) refl
       (few-unknown d k a.safe) a.going
       (λ tells H q o.
@@ -102,7 +102,7 @@ module _ {d : DiskState} {k : Books} {p : Put} {r : Record} {m : ℕ} (a : IsAsk
       (sym (full.is_next q.world o.says a.safe.unknown_blocks) j)))))
   goes-no-room {why} (StampsSpent le spent same) =
       subst (λ (w : Refusal). Goes d k d k put no_claims (reply.Refused w)) (sym same)
-      (goes-row d d k put a.disk a.safe (StaysButFaults-refl d) refusal.SerialsSpent refl tt a.going
+      (goes-row d d k put a.disk a.safe (StaysButFaults-refl d) refl refusal.SerialsSpent refl tt a.going
       (λ tells H q o.
       let n = a.needs tells H q o in
       let e = enough le tells H q o in

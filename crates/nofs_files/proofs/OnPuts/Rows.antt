@@ -43,12 +43,12 @@ use Rattle.nofs_state.specs.declared.books.maps.Books.{Books}
 use Rattle.nofs_state.specs.Writes.Premises.{RowsPass}
 use Rattle.nofs_state.proofs.OnCores.Unchanged.{Keeping, reads-keep, open-back, goes-after}
 use Rattle.nofs_state.proofs.OnBooks.Machine.{are-agreed, agreed-live, stale-none}
-use Rattle.nofs_state.proofs.OnCores.Replies.{goes-row, goes-read, open-files}
+use Rattle.nofs_state.proofs.OnCores.Replies.{goes-row, goes-read, open-files, goes-early}
 use Rattle.nofs_state.proofs.OnCores.Refusals.{IsLate, first-late, late-row}
 use Rattle.nofs_files.specs.Reads.{OpensFile, slots_of}
 use Rattle.nofs_files.specs.Puts.{RowsReach, is_bad_range, is_past_end, is_lost_under}
 use Rattle.nofs_files.proofs.OnPuts.LostBlocks.{held-sound}
-use Rattle.nofs_files.proofs.OnReads.Rows.{folder-is, goes-unfiled, large-none, large-some}
+use Rattle.nofs_files.proofs.OnReads.Rows.{folder-is, goes-unfiled, large-none, large-some, large-early}
 use Rattle.nofs_state.proofs.OnBooks.CurrentFiles.{current-agreed}
 use Rattle.nofs_files.proofs.OnReads.Rows.{slots-most, value-is}
 use Rattle.nofs_ptrs.specs.PathLaws.{path_of-slot}
@@ -82,13 +82,16 @@ module _ {old : DiskState} {k : Books} {i g slot at : ℕ} {bytes : List ℕ} (f
   tail W V = stale W i g ∷ is_directory W i ∷ last_rows W V
 
   pub goes-bad : is_bad_range at (length bytes) ≡ true → Goes old k old k put no_claims (reply.Refused refusal.BadRange)
-  goes-bad bad = goes-row old old k put f.disk f.safe (StaysButFaults-refl old) refusal.BadRange refl tt f.going
+  goes-bad bad =
+      goes-early old old k put f.disk f.safe (StaysButFaults-refl old) refl refusal.BadRange refl tt f.going
+      (rw bad refl)
       (λ tells H p o. rw bad refl)
 
   pub goes-too-large : is_bad_range at (length bytes) ≡ false → slots_of k.at ≤ slot
       → Goes old k old k put no_claims (reply.Refused refusal.TooLarge)
   goes-too-large good high =
-      goes-row old old k put f.disk f.safe (StaysButFaults-refl old) refusal.TooLarge refl tt f.going
+      goes-early old old k put f.disk f.safe (StaysButFaults-refl old) refl refusal.TooLarge refl tt f.going
+      (rw (good, large-early slot k.at high) refl)
       (λ tells H p o. rw (good, large-some p.world slot k.at o.says.version high) refl)
 
   module _ (good : is_bad_range at (length bytes) ≡ false) {slots : ℕ} (all : slots ≡ slots_of k.at)
@@ -170,7 +173,8 @@ module _ {old : DiskState} {k : Books} {i g slot at : ℕ} {bytes : List ℕ} (f
 
       pub goes-past-end : is_past_end r.size slot ≡ true
           → Goes old k mid k put no_claims (reply.Refused refusal.PastEnd)
-      goes-past-end past = goes-row old mid k put f.disk f.safe opens.stays refusal.PastEnd refl tt f.going
+      goes-past-end past =
+          goes-row old mid k put f.disk f.safe opens.stays (opens.no_fault refl) refusal.PastEnd refl tt f.going
           (λ tells H p o. opened H p tells o p.world ∙ (let t = past-is true past H p tells o in rw t refl))
 
       pub goes-unread : {new : DiskState} {next : LastRead} {e : Failed}
@@ -210,7 +214,8 @@ module _ {old : DiskState} {k : Books} {i g slot at : ℕ} {bytes : List ℕ} (f
 
         pub goes-lost : a ≡ answer.Lost → is_lost_under r.size slot at (length bytes) ≡ true
             → Goes old k new k put no_claims (reply.Refused (refusal.LostSlot slot))
-        goes-lost lost under = goes-row old new k put f.disk f.safe stays (refusal.LostSlot slot) refl tt f.going
+        goes-lost lost under = goes-row old new k put f.disk f.safe stays (finds.no_fault ∙ opens.no_fault refl)
+            (refusal.LostSlot slot) refl tt f.going
             (λ tells H p o.
             let v : is_lost (value_of p.world.files i slot) ≡ true =
             ap is_lost (value-found H p tells o ∙ ap (value_in old.now) lost) in
@@ -260,6 +265,6 @@ module _ {old : DiskState} {k : Books} {i g slot at : ℕ} {bytes : List ℕ} (f
 
 -- a step after two rows of reads
 pub after : {old mid new end : DiskState} {k l : Books} {s : Step} {c : Claims} {r : Reply} → StaysButFaults old mid
-    → StaysButFaults mid new → Goes new k end l s c r → Goes old k end l s c r
-after {old} {mid} {new} {end} {k} {l} {s} {c} {r} opened found goes =
-    goes-after old new (reads-keep old new (StaysButFaults-trans old mid new opened found)) end k l s c r goes
+    → StaysButFaults mid new → new.faults ≡ old.faults → Goes new k end l s c r → Goes old k end l s c r
+after {old} {mid} {new} {end} {k} {l} {s} {c} {r} opened found same goes =
+    goes-after old new (reads-keep old new (StaysButFaults-trans old mid new opened found)) same end k l s c r goes

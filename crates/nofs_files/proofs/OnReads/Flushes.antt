@@ -93,7 +93,7 @@ module _ (old mid : DiskState) (k : Books) (i g : ℕ) (last : LastRead) (is_old
       → Goes old k new l (step.Flush i g) no_claims (flush_answer result)
   opened-flush new l it result is_mid is_new opens ends =
       let keep = reads-keep old mid opens.stays in
-      goes-after old mid keep new k l (step.Flush i g) no_claims (flush_answer result)
+      goes-after old mid keep (opens.no_fault refl) new k l (step.Flush i g) no_claims (flush_answer result)
       (ends-flush mid new k l i g result is_mid is_new (safe-keeps old mid keep k safe) going
       (λ tells H p o V. there-row p.world V i g (stale-none p.world mid.now i g (open-files mid k H p o)
       (subst (λ (X : Image). is_current X i g ≡ true) (sym opens.stays.cells.now)

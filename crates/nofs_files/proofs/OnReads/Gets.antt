@@ -35,11 +35,11 @@ use Rattle.nofs_history.specs.Writes.{makes_calls}
 use Rattle.nofs_state.specs.Cores.Steps.{Goes}
 use Rattle.nofs_state.specs.declared.books.maps.Books.{Books}
 use Rattle.nofs_state.proofs.OnCores.Readings.{get-reads}
-use Rattle.nofs_state.proofs.OnCores.Replies.{goes-row, goes-read, goes-answer, open-files}
+use Rattle.nofs_state.proofs.OnCores.Replies.{goes-early, goes-read, goes-answer, open-files}
 use Rattle.nofs_state.proofs.OnCores.Refusals.{IsLate, first-late, late-row}
 use Rattle.nofs_state.proofs.OnBooks.Machine.{are-agreed, stale-none}
 use Rattle.nofs_files.specs.Reads.{OpensFile, slots_of}
-use Rattle.nofs_files.proofs.OnReads.Rows.{folder-is, goes-unfiled, large-none, large-some}
+use Rattle.nofs_files.proofs.OnReads.Rows.{folder-is, goes-unfiled, large-none, large-some, large-early}
 use Rattle.nofs_state.proofs.OnBooks.CurrentFiles.{current-agreed}
 use Rattle.nofs_files.proofs.OnReads.Rows.{slots-most, value-is}
 
@@ -47,7 +47,8 @@ module _ {old : DiskState} {k : Books} (i g slot : ℕ) (is : IsDisk old) (safe 
     (going : k.stopped ≡ false) where
   pub get-large : slots_of k.at ≤ slot → Goes old k old k (step.Get i g slot) no_claims (reply.Refused refusal.TooLarge)
   get-large high =
-      goes-row old old k (step.Get i g slot) is safe (StaysButFaults-refl old) refusal.TooLarge refl tt going
+      goes-early old old k (step.Get i g slot) is safe (StaysButFaults-refl old) refl refusal.TooLarge refl tt going
+      (rw (large-early slot k.at high) refl)
       (λ tells H p o. rw (large-some p.world slot k.at o.says.version high) refl)
 
   rows-are : slot < slots_of k.at → (H : List Entry1) (p : Past) → IsOpen old k H p
@@ -83,7 +84,8 @@ module _ {old : DiskState} {k : Books} (i g slot : ℕ) (is : IsDisk old) (safe 
         → (IsTrue old.tells → reply ≡ got_reply (value_in old.now a))
         → Goes old k new k (step.Get i g slot) no_claims reply
     get-found {a} reply accepted plain finds gives-it = goes-answer old new k (step.Get i g slot) is safe
-        (StaysButFaults-trans old mid new opens.stays finds.stays) reply accepted plain (get-reads i g slot) going
+        (StaysButFaults-trans old mid new opens.stays finds.stays) (finds.no_fault ∙ opens.no_fault refl) reply
+        accepted plain (get-reads i g slot) going
         (λ tells H p o.
         let low : slot < slots_of k.at = subst (λ (n : ℕ). slot < n) all under in
         let match = open-files old k H p o in

@@ -8,6 +8,7 @@ use Rattle.nofs_history.specs.declared.machine.replies.Reply.TheVariants as repl
 use Rattle.nofs_state.specs.Cores.Steps.{is_plain}
 use Rattle.nofs_state.specs.Inodes.Opened.{OpenFails}
 use Rattle.nofs_state.specs.declared.books.maps.Books.{Books}
+use Rattle.nofs_state.proofs.OnCores.SafeSteps.{late-plain}
 use Rattle.nofs_files.specs.Reads.{FailsByRead, FailsByRow, FileFails}
 
 plain-memory : (why : Refusal) → is_plain why ≡ true → is_out_of_memory (reply.Refused why) ≡ false
@@ -26,5 +27,5 @@ open-memory old new k i g _ fails = refl
 -- a file that was not opened
 pub file-memory : (old new : DiskState) (k : Books) (i g : ℕ) (why : Refusal) → FileFails old new k i g why
     → is_out_of_memory (reply.Refused why) ≡ false
-file-memory old new k i g why (FailsByRow plain range told) = plain-memory why plain
+file-memory old new k i g why (FailsByRow late range told) = plain-memory why (late-plain why late)
 file-memory old new k i g why (FailsByRead is rose) = read-memory why is

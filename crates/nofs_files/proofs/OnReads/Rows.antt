@@ -28,9 +28,10 @@ use Rattle.nofs_crashlaw.proofs.OnUntouched.Matches.{matched-agreed}
 use Rattle.nofs_state.specs.Books.Maps.{IsSafe}
 use Rattle.nofs_state.specs.Cores.Invariant.{IsOpen, Past}
 use Rattle.nofs_state.specs.Cores.Steps.{Goes}
-use Rattle.nofs_state.specs.Inodes.Opened.{is_current}
+use Rattle.nofs_state.specs.Inodes.Opened.{is_current, met_fault}
 use Rattle.nofs_state.specs.declared.books.maps.Books.{Books}
 use Rattle.nofs_state.proofs.OnCores.Replies.{goes-row, goes-read, open-files}
+use Rattle.nofs_state.proofs.OnCores.SafeSteps.{late-plain, plain-no-fault}
 use Rattle.nofs_state.proofs.OnCores.Refusals.{IsLate}
 use Rattle.nofs_state.proofs.OnBooks.Machine.{are-agreed, stale-none, stale-some, agreed-live}
 use Rattle.nofs_state.proofs.OnBooks.CurrentFiles.{current-agreed}
@@ -85,6 +86,13 @@ large-some W k at v h =
     le-is : (a b : ℕ) → a ≤ b → leb a b ≡ true
     le-is a b h = grind (arith, nat_tests)
 
+-- the same by the superblock
+pub large-early : (k : ℕ) (at : SuperBlock) → slots_of at ≤ k → leb (slots_of at) k ≡ true
+large-early k at h = le-is (slots_of at) k h
+  where
+    le-is : (a b : ℕ) → a ≤ b → leb a b ≡ true
+    le-is a b h = grind (arith, nat_tests)
+
 pub large-none : (W : World) (k : ℕ) (at : SuperBlock) → W.version ≡ at.version → k < slots_of at → too_large W k ≡ None
 large-none W k at v h =
     let s : slots W ≡ slots_of at = ap (λ (n : ℕ). cond (eqb n 1) 72 slot_limit) v in
@@ -113,7 +121,8 @@ goes-unfiled old new k s i g last res why is safe going opens e comes late = go
     (subst (λ (q : Result Record Refusal). IfErr q (FileFails old new k i g)) e opens.refused)
   where
     go : FileFails old new k i g why → Goes old k new k s no_claims (reply.Refused why)
-    go (FailsByRow plain range comes-row) = goes-row old new k s is safe opens.stays why plain range going
+    go (FailsByRow late-row range comes-row) = goes-row old new k s is safe opens.stays
+        (opens.no_fault (ap met_fault e ∙ plain-no-fault why (late-plain why late-row))) why late-row range going
         (λ tells H p o. comes H p o
         (file-row-is p.world old.now i g (open-files old k H p o) ∙ comes-row tells (are-agreed old k H p safe o)))
     go (FailsByRead same rose) = subst (λ (w : Refusal). Goes old k new k s no_claims (reply.Refused w)) (sym same)

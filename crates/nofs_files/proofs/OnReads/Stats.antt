@@ -177,6 +177,7 @@ module _ (old mid new : DiskState) (k : Books) (i g : ℕ) (last : LastRead) (it
       (reply.Stat (record { kind = it.kind; size = it.found.size; links = links }))
   goes-counted links counts =
       goes-answer old new k (step.Stat i g) is safe (StaysButFaults-trans old mid new opens.stays counts.stays)
+      (counts.no_fault ∙ opens.no_fault refl)
       (reply.Stat (record { kind = it.kind; size = it.found.size; links = links })) refl refl (stat-reads i g) going
       (λ tells H p o.
       let match = open-files old k H p o in

@@ -1,6 +1,6 @@
 -- The blocks of what is cut, and the writes that may come.
 use Rattle.std.proofs.Common.{◌≡◌, ℕ, ◌+◌, ◌^◌, inl, inr, Bool, true, false, List, replicate, Option, Some, Result, Ok}
-use Rattle.std.proofs.Common.{Err, sym, ◌∙◌, subst, subst₂}
+use Rattle.std.proofs.Common.{Err, refl, sym, ◌∙◌, subst, subst₂}
 use Rattle.std.proofs.lemmas.List.{length-replicate}
 use Rattle.nofs_ptrs.specs.Paths.{slot_limit}
 use Rattle.nofs_bits.specs.Bits.{is_set}
@@ -25,7 +25,7 @@ pub cut-map-ends : (old mid new : DiskState) (at : SuperBlock) (i m : ℕ) (z b 
     → MarksCut old new at i m next (Ok c)
 cut-map-ends old mid new at i m z b c last next ez first second = record {
   stays = StaysButFaults-trans old mid new first.stays second.stays;
-  no_fault = second.no_fault ∙ first.no_fault;
+  no_fault = λ e. second.no_fault refl ∙ first.no_fault refl;
   map = record {
     size = two.size ∙ one.size ∙ length-replicate at.blocks false;
     in_area = λ q t. elim (two.area q t) [

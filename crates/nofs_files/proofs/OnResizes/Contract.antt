@@ -132,7 +132,7 @@ module _ (d new : DiskState) (k : Books) (i g size : ℕ) (r : Record) (tail : O
       (ap (λ (b : Books). b.at) a.same) (ap (λ (b : Books). b.history) a.same) going
       (safe-freed new k l freed (safe-writes d new k (cut_writes tail edge (table_block i) c2)
       (Ok tt) k.stopped writes apart ready.safe) a ready.map.size
-      ready.map.in_area) refl writes.adds.disk writes.adds.past writes.later
+      ready.map.in_area) refl writes.adds.disk writes.adds.past writes.later writes.no_fault
       (WritesAlone refl (writes-cells k (step.Resize i g size) no_claims writes
       (cut-count tail edge (table_block i) c2) owes)) ready.safe
       (λ tells H p o. resize-done (resizing H p tells o) new l freed ready.map a writes (ready.rows tells H p o)))
@@ -209,7 +209,7 @@ ready-after old mid k i g size r tail edge freed stays q = record {
 pub resize-ends : {old mid new : DiskState} {k l m : Books} {i g size t : ℕ} {r : Record} {tail : Option NewCell}
     {edge : Edge} {freed : List Bool}
     {before c2 : Cell} {result : Result (Unit {0}) Refusal} → IsDisk mid → IsDisk new → StaysButFaults old mid
-    → MayCut old k i g size r tail edge freed
+    → mid.faults ≡ old.faults → MayCut old k i g size r tail edge freed
     → (IsTrue old.tells → before ≡ cell_at old.now (table_block i))
     → IsRecordCell before i (cut_record r size (kept_slots r.size size)) c2
     → t ≡ table_block i → Stores mid k new m (cut_writes tail edge t c2) result
@@ -217,9 +217,9 @@ pub resize-ends : {old mid new : DiskState} {k l m : Books} {i g size t : ℕ} {
     → ((why : Refusal) → result ≡ Err why → l ≡ m)
     → Goes old k new l (step.Resize i g size) no_claims (resize_answer result)
 resize-ends {old} {mid} {new} {k} {l} {m} {i} {g} {size} {t} {r} {tail} {edge} {freed} {before} {c2} {result} is_mid
-    is_new stays may read table at-table stores
+    is_new stays same may read table at-table stores
     ok err =
-    goes-after old mid (reads-keep old mid stays) new k l (step.Resize i g size) no_claims (resize_answer result)
+    goes-after old mid (reads-keep old mid stays) same new k l (step.Resize i g size) no_claims (resize_answer result)
     (resized-goes mid new k i g size r tail edge freed c2 is_mid is_new
     (ready-after old mid k i g size r tail edge freed stays may)
     (λ t. subst (λ (c : Cell). RecordIn c i (cut_record r size (kept_slots r.size size)) c2)

@@ -1,6 +1,6 @@
 -- A Resize reads all that it asks: what is known of the disk stays over each read, and each read that fails ends it.
 use Rattle.std.proofs.Common.{◌≡◌, ℕ, ◌*◌, ◌≤◌, inl, inr, Bool, true, false, List, length, Option, None, IsTrue, Result}
-use Rattle.std.proofs.Common.{Ok, Err, refl, sym, subst, le_refl}
+use Rattle.std.proofs.Common.{Ok, Err, refl, sym, ap, ◌∙◌, subst, le_refl}
 use Rattle.nofs_ptrs.specs.Paths.{slot_limit}
 use Rattle.nofs_inode.specs.InodeRecords.{largest_size}
 use Rattle.nofs_disk.specs.Disk.{DiskState, IsDisk, StaysButFaults}
@@ -9,6 +9,7 @@ use Rattle.nofs_disk.specs.declared.Failed.{Failed}
 use Rattle.nofs_inode.specs.declared.inode.Record.{Record}
 use Rattle.nofs_super.specs.declared.superblock.SuperBlock.{SuperBlock}
 use Rattle.nofs_model.specs.Geometry.{Image}
+use Rattle.nofs_history.specs.Faults.{is_fault}
 use Rattle.nofs_history.specs.Claims.{no_claims}
 use Rattle.nofs_history.specs.declared.machine.steps.Step.TheVariants as step
 use Rattle.nofs_history.specs.declared.machine.replies.Reply.TheVariants as reply
@@ -69,7 +70,7 @@ module _ (old mid : DiskState) (k : Books) (i g size : ℕ) (last : LastRead) (r
   pub opened-goes : (new : DiskState) (l : Books) (result : Result (Unit {0}) Refusal)
       → Goes mid k new l (step.Resize i r.generation size) no_claims (resize_answer result)
       → Goes old k new l (step.Resize i g size) no_claims (resize_answer result)
-  opened-goes new l result goes = goes-after old mid (reads-keep old mid opens.stays) new k l
+  opened-goes new l result goes = goes-after old mid (reads-keep old mid opens.stays) (opens.no_fault refl) new k l
       (step.Resize i g size) no_claims (resize_answer result)
       (subst (λ (n : ℕ). Goes mid k new l (step.Resize i n size) no_claims (resize_answer result))
       opens.file.generation goes)
@@ -92,7 +93,7 @@ module _ {d a : DiskState} {k : Books} {i size kk : ℕ} {r : Record} {one : Las
       (subst (λ (n : ℕ). FindsEdge d a k.at i n one result) ek finds)
       in
       goes-unedged d k i r.generation size r is may.safe may.going may.file may.current may.fits
-      (most-kept kk r size most ek) a why f.stays f.refused
+      (most-kept kk r size most ek) a why f.stays f.no_fault f.refused
 
   module _ {edge : Edge} (finds : FindsEdge d a k.at i kk one (Ok edge)) where
     is-edge : IsTrue d.tells → IsEdge d.now i (kept_slots r.size size) edge
@@ -111,7 +112,8 @@ module _ {d a : DiskState} {k : Books} {i size kk : ℕ} {r : Record} {one : Las
         go m = elim m.refused [
           | inl memory ↦ subst
               (λ (w : Refusal). Goes d k b k (step.Resize i r.generation size) no_claims (reply.Refused w)) (sym memory)
-              (goes-memory d b (reads-keep d b (StaysButFaults-trans d a b finds.stays m.stays)) k
+              (goes-memory d b (reads-keep d b (StaysButFaults-trans d a b finds.stays m.stays))
+              (m.no_fault (ap (λ (w : Refusal). is_fault (reply.Refused w)) memory) ∙ finds.no_fault refl) k
               (step.Resize i r.generation size) no_claims may.safe)
           | inr (unread, rose) ↦ subst
               (λ (w : Refusal). Goes d k b k (step.Resize i r.generation size) no_claims (reply.Refused w)) (sym unread)
@@ -191,6 +193,7 @@ module _ {d a : DiskState} {k : Books} {i size kk : ℕ} {r : Record} {one : Las
         pub cut-goes : {new : DiskState} {l : Books} (result : Result (Unit {0}) Refusal)
             → Goes mid k new l (step.Resize i r.generation size) no_claims (resize_answer result)
             → Goes d k new l (step.Resize i r.generation size) no_claims (resize_answer result)
-        cut-goes {new} {l} result goes = goes-after d mid (reads-keep d mid all-reads) new k l
+        cut-goes {new} {l} result goes = goes-after d mid (reads-keep d mid all-reads)
+            (finds-tail.no_fault ∙ (marks.no_fault refl ∙ finds.no_fault refl)) new k l
             (step.Resize i r.generation size) no_claims (resize_answer result)
             goes

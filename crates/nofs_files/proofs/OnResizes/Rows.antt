@@ -9,6 +9,7 @@ use Rattle.nofs_inode.specs.declared.inode.FileKind.TheVariants.{Directory}
 use Rattle.nofs_inode.specs.declared.inode.Record.{Record}
 use Rattle.nofs_super.specs.declared.superblock.SuperBlock.{SuperBlock}
 use Rattle.nofs_model.specs.Geometry.{Image}
+use Rattle.nofs_history.specs.Faults.{is_fault}
 use Rattle.nofs_model.specs.Slots.{find}
 use Rattle.nofs_model.specs.Files.{node_in, files_in, agreed, Files, is_kind}
 use Rattle.nofs_model.specs.declared.image.path.PathAnswer.{PathAnswer}
@@ -27,7 +28,7 @@ use Rattle.nofs_history.specs.declared.machine.replies.Refusal.TheVariants as re
 use Rattle.nofs_crashlaw.proofs.OnFiles.Given.{size-of}
 use Rattle.nofs_crashlaw.proofs.OnUntouched.Matches.{Matched, matched-agreed}
 use Rattle.nofs_crashlaw.proofs.OnUntouched.Agreement.{file-in}
-use Rattle.nofs_state.proofs.OnCores.Replies.{goes-row, goes-read, open-files}
+use Rattle.nofs_state.proofs.OnCores.Replies.{goes-early, goes-row, goes-read, open-files}
 use Rattle.nofs_state.proofs.OnCores.Refusals.{IsLate, AreLate, first-late, late-row}
 use Rattle.nofs_state.proofs.OnBooks.Machine.{agreed-live, are-agreed, stale-none}
 use Rattle.nofs_files.proofs.OnReads.Rows.{folder-is, goes-unfiled}
@@ -226,31 +227,36 @@ module _ (d : DiskState) (k : Books) (i g size : ℕ) (r : Record) (is : IsDisk 
   late tells H p o why e = lost-late p.world.files i (kept_slots (size_of p.world.files i) size) why
       (sym (rows-are tells H p o p.world ∙ lost-at p.world i size) ∙ e)
 
+  abbrev no-fault : Refusal → Bool
+  no-fault w = is_fault (reply.Refused w)
+
   -- what is cut inside is lost, or a read failed
   pub goes-unedged : (new : DiskState) (why : Refusal) → StaysButFaults d new
-      → EdgeFails d new i (kept_slots r.size size) why
+      → (is_fault (reply.Refused why) ≡ false → new.faults ≡ d.faults) → EdgeFails d new i (kept_slots r.size size) why
       → Goes d k new k (step.Resize i g size) no_claims (reply.Refused why)
-  goes-unedged new why stays (LostLeaf e lost) =
+  goes-unedged new why stays quiet (LostLeaf e lost) =
       subst (λ (w : Refusal). Goes d k new k (step.Resize i g size) no_claims (reply.Refused w)) (sym e)
-      (goes-row d new k (step.Resize i g size) is safe stays (refusal.LostSlot 8) refl tt going (λ tells H p o.
+      (goes-row d new k (step.Resize i g size) is safe stays (quiet (ap no-fault e))
+      (refusal.LostSlot 8) refl tt going (λ tells H p o.
       let q = lost tells in
       rows-are tells H p o p.world ∙ lost-rows tells H p o
       ∙ ap (λ (b : Bool). lost_by (kept_slots r.size size) b (is_lost_in (find d.now i (InRecord 9)))
       (is_lost_in (find d.now i (Under (InRecord 9) (last_child (kept_slots r.size size))))))
       (lost-is (find d.now i (InRecord 8)) q.1)
       ∙ by-leaf (kept_slots r.size size) _ _ q.0))
-  goes-unedged new why stays (LostTop e lost) =
+  goes-unedged new why stays quiet (LostTop e lost) =
       subst (λ (w : Refusal). Goes d k new k (step.Resize i g size) no_claims (reply.Refused w)) (sym e)
-      (goes-row d new k (step.Resize i g size) is safe stays (refusal.LostSlot 72) refl tt going (λ tells H p o.
+      (goes-row d new k (step.Resize i g size) is safe stays (quiet (ap no-fault e))
+      (refusal.LostSlot 72) refl tt going (λ tells H p o.
       let q = lost tells in
       rows-are tells H p o p.world ∙ lost-rows tells H p o
       ∙ (λ j. lost_by (kept_slots r.size size) (not-lost (find d.now i (InRecord 8)) q.1 j)
       (lost-is (find d.now i (InRecord 9)) q.2 j)
       (is_lost_in (find d.now i (Under (InRecord 9) (last_child (kept_slots r.size size))))))
       ∙ by-top (kept_slots r.size size) _ q.0))
-  goes-unedged new why stays (LostChild e lost) =
+  goes-unedged new why stays quiet (LostChild e lost) =
       subst (λ (w : Refusal). Goes d k new k (step.Resize i g size) no_claims (reply.Refused w)) (sym e)
-      (goes-row d new k (step.Resize i g size) is safe stays
+      (goes-row d new k (step.Resize i g size) is safe stays (quiet (ap no-fault e))
       (refusal.LostSlot (72 + 64 * last_child (kept_slots r.size size))) refl tt going (λ tells H p o.
       let q = lost tells in
       rows-are tells H p o p.world ∙ lost-rows tells H p o
@@ -258,7 +264,7 @@ module _ (d : DiskState) (k : Books) (i g size : ℕ) (r : Record) (is : IsDisk 
       (not-lost (find d.now i (InRecord 9)) q.2 j)
       (lost-is (find d.now i (Under (InRecord 9) (last_child (kept_slots r.size size)))) q.3 j))
       ∙ by-child (kept_slots r.size size) q.0))
-  goes-unedged new why stays (EdgeUnread e rose) =
+  goes-unedged new why stays quiet (EdgeUnread e rose) =
       subst (λ (w : Refusal). Goes d k new k (step.Resize i g size) no_claims (reply.Refused w)) (sym e)
       (goes-read d new k (step.Resize i g size) is safe stays going rose (λ tells H p o. late tells H p o))
 
@@ -266,9 +272,11 @@ module _ (d : DiskState) (k : Books) (i g size : ℕ) (r : Record) (is : IsDisk 
 
 module _ (old : DiskState) (k : Books) (i g size : ℕ) (is : IsDisk old) (safe : IsSafe old k)
     (going : k.stopped ≡ false) where
-  pub goes-too-big : (new : DiskState) → StaysButFaults old new → 1024 * slots_of k.at < size
+  pub goes-too-big : (new : DiskState) → StaysButFaults old new → new.faults ≡ old.faults → 1024 * slots_of k.at < size
       → Goes old k new k (step.Resize i g size) no_claims (reply.Refused refusal.TooLarge)
-  goes-too-big new stays h = goes-row old new k (step.Resize i g size) is safe stays refusal.TooLarge refl tt going
+  goes-too-big new stays same h =
+      goes-early old new k (step.Resize i g size) is safe stays same refusal.TooLarge refl tt going
+      (rw (lt-ltb (1024 * slots_of k.at) size h) refl)
       (λ tells H p o. rw (big-some p.world size k.at o.says.version h) refl)
 
   rows-start : (H : List Entry1) (p : Past) → IsOpen old k H p → size ≤ 1024 * slots_of k.at

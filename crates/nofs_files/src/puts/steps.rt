@@ -5,10 +5,11 @@ ghost use Rattle.nofs_inode.specs.InodeRecords.{largest_size};
 ghost use Rattle.nofs_ptrs.specs.Paths as paths;
 ghost use Rattle.nofs_history.specs.declared.machine.steps.Step.TheVariants as step;
 ghost use Rattle.nofs_state.specs.Books.Maps.{IsSafe};
+ghost use Rattle.nofs_state.specs.Cores.FirstRows.{RefusesEarly};
 ghost use Rattle.nofs_state.specs.Cores.Steps.{Goes};
 ghost use Rattle.nofs_files.specs.Puts.{HeldAt, IsEmptySlot, IsFar, MayPut, PutGoes, RowsReachOf, is_bad_range};
 ghost use Rattle.nofs_files.specs.Puts.{is_past_end, is_lost_under};
-ghost use Rattle.nofs_files.specs.Puts.{put_answer};
+ghost use Rattle.nofs_files.specs.Puts.{put_answer, step_of_put};
 
 use crate::puts::cells::put_in_place;
 use crate::puts::content::cut_of;
@@ -46,7 +47,8 @@ fn is_lost_under(size: u64, slot: u64, at: u32, len: usize) -> bool
 }
 
 /// Puts bytes into a slot of a file. A slot that has bytes keeps its block; any other gets a new
-/// one, with the blocks of pointers above it that are missing.
+/// one, with the blocks of pointers above it that are missing. Bytes that are none, or that do not lie in one slot, are
+/// `BadRange`, and a slot that no file has is `TooLarge`: so it is over any disk, and nothing else is.
 pub fn put<D: Disk + Drop>(
     core: &mut Core<D>,
     inode: u32,
@@ -56,8 +58,10 @@ pub fn put<D: Disk + Drop>(
     bytes: &[u8],
 ) -> Ended
     requires { IsSafe (D.state core.old.disk) core.old.books }
-    ensures { Goes (D.state core.old.disk) core.old.books (D.state core.new.disk) core.new.books
+    ensures goes { Goes (D.state core.old.disk) core.old.books (D.state core.new.disk) core.new.books
         (step.Put inode generation slot at bytes.now) result.claims (put_answer result.result) }
+    ensures early { RefusesEarly core.old.books (step.Put inode generation slot at bytes.now)
+        (put_answer result.result) }
 {
     let put = Put {
         inode,
@@ -75,7 +79,9 @@ pub fn put<D: Disk + Drop>(
 fn put_with_room<D: Disk + Drop>(core: &mut Core<D>, put: &Put<'_>) -> Ended
     requires safe { IsSafe (D.state core.old.disk) core.old.books }
     requires spare { 4 ≤ (D.state core.old.disk).spare }
-    ensures { PutGoes (D.state core.old.disk) core.old.books (D.state core.new.disk) core.new.books put.now result }
+    ensures goes { PutGoes (D.state core.old.disk) core.old.books
+        (D.state core.new.disk) core.new.books put.now result }
+    ensures early { RefusesEarly core.old.books (step_of_put put.now) (put_answer result.result) }
 {
     if core.books.stopped {
         return refused(Refusal::Stopped);

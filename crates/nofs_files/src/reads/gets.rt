@@ -1,11 +1,13 @@
 //! The content of a slot.
-ghost use Rattle.std.specs.Prelude.{◌≡◌, OnOk, false};
+ghost use Rattle.std.specs.Prelude.{◌≡◌, false};
+ghost use Rattle.nofs_history.specs.Faults.{is_fault};
 ghost use Rattle.nofs_history.specs.Claims.{no_claims};
 ghost use Rattle.nofs_history.specs.Steps.{is_out_of_memory};
 ghost use Rattle.nofs_history.specs.declared.machine.steps.Step.TheVariants as step;
 ghost use Rattle.nofs_history.specs.declared.machine.replies.Refusal.TheVariants as refusal;
 ghost use Rattle.nofs_history.specs.declared.machine.replies.Reply.TheVariants as reply;
 ghost use Rattle.nofs_state.specs.Books.Maps.{IsSafe};
+ghost use Rattle.nofs_state.specs.Cores.FirstRows.{RefusesEarly};
 ghost use Rattle.nofs_state.specs.Cores.Steps.{Goes};
 ghost use Rattle.nofs_files.specs.Reads.{KeptButBytes, got_answer};
 
@@ -28,7 +30,7 @@ pub enum Got {
 
 /// Reads a slot of a file, whatever the size. Where there are bytes, `into` has them, and else it is as it was: no
 /// bytes of a block that is lost come there. It takes no memory, and has only read, so its caller may still find none
-/// for them.
+/// for them. A slot that no file has is `TooLarge`, and nothing else is, over any disk.
 pub fn get<D: Disk + Drop>(
     core: &mut Core<D>,
     inode: u32,
@@ -39,11 +41,12 @@ pub fn get<D: Disk + Drop>(
     requires { IsSafe (D.state core.old.disk) core.old.books }
     ensures goes { Goes (D.state core.old.disk) core.old.books (D.state core.new.disk) core.new.books
         (step.Get inode generation slot) no_claims (got_answer into.new result) }
-    ensures memory { Goes (D.state core.old.disk) core.old.books (D.state core.new.disk) core.new.books
+    ensures memory { is_fault (got_answer into.new result) ≡ false
+        → Goes (D.state core.old.disk) core.old.books (D.state core.new.disk) core.new.books
         (step.Get inode generation slot) no_claims (reply.Refused refusal.OutOfMemory) }
     ensures no_memory { is_out_of_memory (got_answer into.new result) ≡ false }
     ensures kept { KeptButBytes into.old into.new result }
-    ensures no_fault { OnOk result ((D.state core.new.disk).faults ≡ (D.state core.old.disk).faults) }
+    ensures early { RefusesEarly core.old.books (step.Get inode generation slot) (got_answer into.new result) }
 {
     if core.books.stopped {
         return Err(Refusal::Stopped);

@@ -1,5 +1,5 @@
 //! Kind, size and number of names of a file or directory.
-ghost use Rattle.std.specs.Prelude.{◌≡◌, OnOk, false, length};
+ghost use Rattle.std.specs.Prelude.{◌≡◌, false, length};
 ghost use Rattle.nofs_history.specs.Claims.{no_claims};
 ghost use Rattle.nofs_history.specs.Steps.{is_out_of_memory};
 ghost use Rattle.nofs_history.specs.declared.machine.steps.Step.TheVariants as step;
@@ -24,7 +24,6 @@ pub fn stat<D: Disk + Drop>(
     ensures goes { Goes (D.state core.old.disk) core.old.books (D.state core.new.disk) core.new.books
         (step.Stat inode generation) no_claims (stat_answer result) }
     ensures no_memory { is_out_of_memory (stat_answer result) ≡ false }
-    ensures no_fault { OnOk result ((D.state core.new.disk).faults ≡ (D.state core.old.disk).faults) }
 {
     if core.books.stopped {
         return Err(Refusal::Stopped);

@@ -2,8 +2,10 @@
 ghost use Rattle.std.specs.Prelude.{◌*◌, ◌<◌, ◌≤◌, ◌∷◌, [], true, IfSome};
 ghost use Rattle.nofs_agree.specs.Reads.{IsLast};
 ghost use Rattle.nofs_state.specs.Books.Maps.{IsSafe};
+ghost use Rattle.nofs_state.specs.Cores.FirstRows.{RefusesEarly};
+ghost use Rattle.nofs_history.specs.declared.machine.steps.Step.TheVariants as step;
 ghost use Rattle.nofs_state.specs.Writes.Cells.{Stores, WritesAll};
-ghost use Rattle.nofs_files.specs.Resizes.{MayCut, MayResize, ResizeGoes, cut_writes, maybe};
+ghost use Rattle.nofs_files.specs.Resizes.{MayCut, MayResize, ResizeGoes, cut_writes, maybe, resize_answer};
 
 use crate::puts::cells::{read_table, record_cell};
 use crate::reads::files::{note_file, open_file, slots_of};
@@ -191,8 +193,10 @@ fn resize_with_room<D: Disk + Drop>(
 ) -> Result<(), Refusal>
     requires spare { 4 ≤ (D.state core.old.disk).spare }
     requires safe { IsSafe (D.state core.old.disk) core.old.books }
-    ensures { ResizeGoes (D.state core.old.disk) core.old.books
+    ensures goes { ResizeGoes (D.state core.old.disk) core.old.books
         (D.state core.new.disk) core.new.books ask.inode ask.generation ask.size result }
+    ensures early { RefusesEarly core.old.books (step.Resize ask.inode ask.generation ask.size)
+        (resize_answer result) }
 {
     if core.books.stopped {
         return Err(Refusal::Stopped);
@@ -217,7 +221,7 @@ fn resize_with_room<D: Disk + Drop>(
 ///
 /// # Errors
 ///
-/// `TooLarge` for a size that no file has, `Stale` and `IsDirectory` where no file is there,
+/// `TooLarge` for a size that no file has, over any disk, `Stale` and `IsDirectory` where no file is there,
 /// `LostSlot` where a block of pointers that is cut inside is lost, and the faults of every step.
 pub fn resize<D: Disk + Drop>(
     core: &mut Core<D>,
@@ -227,8 +231,9 @@ pub fn resize<D: Disk + Drop>(
     size: u64,
 ) -> Result<(), Refusal>
     requires { IsSafe (D.state core.old.disk) core.old.books }
-    ensures { ResizeGoes (D.state core.old.disk) core.old.books
+    ensures goes { ResizeGoes (D.state core.old.disk) core.old.books
         (D.state core.new.disk) core.new.books inode generation size result }
+    ensures early { RefusesEarly core.old.books (step.Resize inode generation size) (resize_answer result) }
 {
     match core.disk.ready(4) {
         Ok(()) => {

@@ -13,7 +13,7 @@ returns-in-Err g c = ended c.refused.ensures
 
 pub returns : goal.returns
 returns g c = place-ends (g.met.D.Disk.is_disk c.read_table.new.disk)
-    (g.met.D.Disk.is_disk c.write_two.new.core.disk) c.read_table.ensures.stays
+    (g.met.D.Disk.is_disk c.write_two.new.core.disk) c.read_table.ensures.stays c.in-Ok.ensures.no_fault
     c.requires.may c.requires.slot c.requires.held c.requires.cell c.put_content.ensures refl c.in-Ok.ensures.cell
     (recorded (c.sized.ensures ∙ ap (sized c.args.it.now) c.size_after.ensures) c.record_cell-table.ensures)
     c.requires.rows c.table_block.ensures

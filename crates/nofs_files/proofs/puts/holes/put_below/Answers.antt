@@ -38,6 +38,7 @@ returns g c = below-ends
     (StaysButFaults-trans (g.D.Disk.state c.args.core.now.disk) (g.D.Disk.state c.read_block.new.disk)
     (g.D.Disk.state c.read_table.new.disk)
     c.read_block.ensures.stays c.read_table.ensures.stays)
+    (c.in-Ok-read_table.ensures.no_fault ∙ c.in-Ok-read_block.ensures.no_fault)
     c.requires.upper c.requires.path (c.content_cell-cell.ensures c.args.it.now.size) c.in-Ok-read_block.ensures.cell
     (record {
       here = c.write_pointer.ensures.written;

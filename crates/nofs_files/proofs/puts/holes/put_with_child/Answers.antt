@@ -33,6 +33,7 @@ returns g c = child-ends (g.met.D.Disk.is_disk c.read_table.new.disk) (g.met.D.D
     (StaysButFaults-trans (g.D.Disk.state c.args.core.now.disk) (g.D.Disk.state c.read_block.new.disk)
     (g.D.Disk.state c.read_table.new.disk)
     c.read_block.ensures.stays c.read_table.ensures.stays)
+    (c.in-Ok-read_table.ensures.no_fault ∙ c.in-Ok-read_block.ensures.no_fault)
     (later-cell (g.D.Disk.state c.args.core.now.disk) (g.D.Disk.state c.read_block.new.disk) c.read_table.new.last.cell
     (1 + (c.args.put.now.inode - 1) / 4)
     c.read_block.ensures.stays c.in-Ok-read_table.ensures.cell) c.table_block-number.ensures

@@ -22,7 +22,7 @@ returns-in-Err-read_table g c = ended c.refused-in-Err-read_table.ensures (goes-
 pub returns : goal.returns
 returns g c = leaf-ends (g.met.D.Disk.is_disk c.read_table.new.disk)
     (g.met.D.Disk.is_disk c.write_three.new.core.disk) c.read_table.ensures.stays
-    c.in-Ok-read_table.ensures.cell c.table_block-number.ensures
+    c.in-Ok-read_table.ensures.no_fault c.in-Ok-read_table.ensures.cell c.table_block-number.ensures
     (leaf-asked (g.met.D.Disk.is_disk c.args.core.now.disk)
     c.requires.may c.requires.empty c.requires.rows c.requires.path c.requires.hole) c.in-Ok.ensures.room
     (takes-two c.requires.may.safe c.in-Ok.ensures.found c.in-Ok.ensures.room c.claim_two-claims.ensures.claims

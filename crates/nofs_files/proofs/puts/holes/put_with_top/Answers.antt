@@ -12,7 +12,7 @@ use Rattle.nofs_files.proofs.puts.holes.put_with_top.Goals as goal
 pub returns : goal.returns
 returns g c = top-ends (g.met.D.Disk.is_disk c.read_table.new.disk)
     (g.met.D.Disk.is_disk c.write_four.new.core.disk) c.read_table.ensures.stays
-    c.in-Ok-read_table.ensures.cell c.table_block-number.ensures
+    c.in-Ok-read_table.ensures.no_fault c.in-Ok-read_table.ensures.cell c.table_block-number.ensures
     (top-asked (g.met.D.Disk.is_disk c.args.core.now.disk) c.requires.may c.requires.empty c.requires.rows
     c.requires.path c.requires.hole)
     c.in-Ok.ensures.room

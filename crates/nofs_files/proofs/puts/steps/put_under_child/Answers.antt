@@ -11,7 +11,7 @@ returns-in-Err g c = unread-ends c.refused.ensures (g.met.D.Disk.is_disk c.args.
 
 pub returns-in-Lost : goal.returns-in-Lost
 returns-in-Lost g c = lost-ends c.refused-in-Lost.ensures (g.met.D.Disk.is_disk c.args.core.now.disk)
-    c.requires.may c.requires.rows c.find_slot.ensures.stays
+    c.requires.may c.requires.rows c.find_slot.ensures.stays c.in-Ok.ensures.no_fault
     (child-ruin c.requires.may c.requires.empty c.requires.path c.requires.top
     (ap (λ (q : PathAnswer). is_ruined (node_in q)) c.in-Lost.is) c.in-Ok.ensures.found)
 
@@ -28,7 +28,7 @@ put_below-requires-clause-rows g c =
     (ap (λ (q : PathAnswer). is_ruined (node_in q)) c.in-Holds.is) c.in-Ok.ensures.found)
 
 pub returns-in-Hole : goal.returns-in-Hole
-returns-in-Hole g c = after-reads c.find_slot.ensures.stays c.put_with_child.ensures
+returns-in-Hole g c = after-reads c.find_slot.ensures.stays c.in-Ok.ensures.no_fault c.put_with_child.ensures
 
 pub returns-in-Holds : goal.returns-in-Holds
-returns-in-Holds g c = after-reads c.find_slot.ensures.stays c.put_below.ensures
+returns-in-Holds g c = after-reads c.find_slot.ensures.stays c.in-Ok.ensures.no_fault c.put_below.ensures

@@ -10,7 +10,8 @@ returns-in-Err g c = unread-ends c.refused.ensures (g.met.D.Disk.is_disk c.args.
 
 pub returns-in-Lost : goal.returns-in-Lost
 returns-in-Lost g c = lost-ends c.refused-in-Lost.ensures (g.met.D.Disk.is_disk c.args.core.now.disk)
-    c.requires.may c.requires.rows c.find_slot.ensures.stays (top-ruins (there c.requires.may) c.args.put.now.slot
+    c.requires.may c.requires.rows c.find_slot.ensures.stays c.in-Ok.ensures.no_fault
+    (top-ruins (there c.requires.may) c.args.put.now.slot
     (far-path c.requires.from c.requires.empty.slot).path
     (λ t. sym c.in-Lost.is ∙ c.in-Ok.ensures.found t))
 
@@ -22,7 +23,7 @@ put_with_top-requires-clause-rows g c =
     (λ t. sym c.in-Hole.is ∙ c.in-Ok.ensures.found t))
 
 pub returns-in-Hole : goal.returns-in-Hole
-returns-in-Hole g c = after-reads c.find_slot.ensures.stays c.put_with_top.ensures
+returns-in-Hole g c = after-reads c.find_slot.ensures.stays c.in-Ok.ensures.no_fault c.put_with_top.ensures
 
 pub put_under_child-requires-clause-rows : goal.put_under_child-requires-clause-rows
 put_under_child-requires-clause-rows g c =
@@ -30,7 +31,7 @@ put_under_child-requires-clause-rows g c =
     c.find_slot.ensures.stays
 
 pub returns-in-Holds : goal.returns-in-Holds
-returns-in-Holds g c = after-reads c.find_slot.ensures.stays c.put_under_child.ensures
+returns-in-Holds g c = after-reads c.find_slot.ensures.stays c.in-Ok.ensures.no_fault c.put_under_child.ensures
 
 pub put_with_top-requires-clause-path : goal.put_with_top-requires-clause-path
 put_with_top-requires-clause-path g c = far-path c.requires.from c.requires.empty.slot

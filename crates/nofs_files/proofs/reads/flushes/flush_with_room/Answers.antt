@@ -9,7 +9,7 @@ pub returns-then-core-clause-goes : goal.returns-then-core-clause-goes
 returns-then-core-clause-goes g c =
     goes-stopped (g.D.Disk.state c.args.core.now.disk) (g.D.Disk.state c.args.core.now.disk) c.args.core.now.books
     (step.Flush c.args.inode c.args.generation) (g.met.D.Disk.is_disk c.args.core.now.disk) c.requires.safe
-    (StaysButFaults-refl (g.D.Disk.state c.args.core.now.disk)) c.if-core.true
+    (StaysButFaults-refl (g.D.Disk.state c.args.core.now.disk)) refl c.if-core.true
 
 pub returns-then-names_disk-clause-goes : goal.returns-then-names_disk-clause-goes
 returns-then-names_disk-clause-goes g c =

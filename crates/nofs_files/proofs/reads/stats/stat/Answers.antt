@@ -1,3 +1,4 @@
+use Rattle.std.proofs.Common.{refl}
 use Rattle.nofs_disk.specs.Chains.{StaysButFaults-refl}
 use Rattle.nofs_history.specs.declared.machine.steps.Step.TheVariants as step
 use Rattle.nofs_state.proofs.OnCores.Replies.{goes-stopped}
@@ -10,7 +11,7 @@ pub returns-then-core-clause-goes : goal.returns-then-core-clause-goes
 returns-then-core-clause-goes g c =
     goes-stopped (g.D.Disk.state c.args.core.now.disk) (g.D.Disk.state c.args.core.now.disk) c.args.core.now.books
     (step.Stat c.args.inode c.args.generation) (g.met.D.Disk.is_disk c.args.core.now.disk) c.requires
-    (StaysButFaults-refl (g.D.Disk.state c.args.core.now.disk)) c.if-core.true
+    (StaysButFaults-refl (g.D.Disk.state c.args.core.now.disk)) refl c.if-core.true
 
 pub returns-in-Err-clause-goes : goal.returns-in-Err-clause-goes
 returns-in-Err-clause-goes g c =

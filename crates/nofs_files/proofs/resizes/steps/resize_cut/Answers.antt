@@ -11,7 +11,8 @@ returns-in-Err g c = resize-unread (g.met.D.Disk.is_disk c.args.core.now.disk) c
 pub returns-in-Ok-store_cut : goal.returns-in-Ok-store_cut
 returns-in-Ok-store_cut g c = resize-ends {result = Ok tt} (g.met.D.Disk.is_disk c.read_table.new.disk)
     (g.met.D.Disk.is_disk c.store_cut.new.core.disk)
-    c.read_table.ensures.stays c.requires.may c.in-Ok.ensures.cell
+    c.read_table.ensures.stays c.in-Ok.ensures.no_fault
+    c.requires.may c.in-Ok.ensures.cell
     (recorded (c.cut_record.ensures ∙ ap (λ (n : ℕ). cut_record c.args.it.now c.args.size n)
     c.kept_slots-kept.ensures.kept) c.record_cell-table.ensures)
     c.table_block.ensures c.in-Ok-store_cut.ensures (λ e. c.free_blocks.ensures) (λ why e. cc e)
@@ -19,7 +20,8 @@ returns-in-Ok-store_cut g c = resize-ends {result = Ok tt} (g.met.D.Disk.is_disk
 pub returns-in-Err-store_cut : goal.returns-in-Err-store_cut
 returns-in-Err-store_cut g c =
     resize-ends {result = Err c.in-Err-store_cut.why} (g.met.D.Disk.is_disk c.read_table.new.disk)
-    (g.met.D.Disk.is_disk c.store_cut.new.core.disk) c.read_table.ensures.stays c.requires.may c.in-Ok.ensures.cell
+    (g.met.D.Disk.is_disk c.store_cut.new.core.disk) c.read_table.ensures.stays c.in-Ok.ensures.no_fault
+    c.requires.may c.in-Ok.ensures.cell
     (recorded (c.cut_record.ensures ∙ ap (λ (n : ℕ). cut_record c.args.it.now c.args.size n)
     c.kept_slots-kept.ensures.kept) c.record_cell-table.ensures)
     c.table_block.ensures c.in-Err-store_cut.ensures (λ e. cc e) (λ why e. refl)
