@@ -67,34 +67,41 @@ pub reads-sees : {T : Type 0} (old new : DiskState) (known : List (Option Bool))
     (result : Result T Failed) → ReadsAnswer old new f result
     → Sees old new known known f result
 reads-sees old new known f (Ok a) r =
-    record { stays = r.stays; learns = learns-none old known; found = λ tells agreed. r.found tells; cause = r.cause }
+    record {
+      stays = r.stays;
+      learns = learns-none old known;
+      found = λ tells agreed. r.found tells;
+      cause = tt;
+      no_fault = r.no_fault;
+    }
 reads-sees old new known f (Err e) r =
-    record { stays = r.stays; learns = learns-none old known; found = tt; cause = r.cause }
+    record { stays = r.stays; learns = learns-none old known; found = tt; cause = r.cause; no_fault = tt }
 
 -- whether an inode is agreed, as the check of its chain learns it
 pub agreed-sees : (old new : DiskState) (known more : List (Option Bool)) (i : ℕ) (a : Bool) → StaysButFaults old new
     → LearnsAgreement old known more
-    → (IsTrue old.tells → AreTrue old.now known → a ≡ agreed (files_in old.now) i)
+    → (IsTrue old.tells → AreTrue old.now known → a ≡ agreed (files_in old.now) i) → new.faults ≡ old.faults
     → Sees old new known more (λ X. agreed (files_in X) i) (Ok a)
-agreed-sees old new known more i a stays learns found =
-    record { stays = stays; learns = learns; found = found; cause = tt }
+agreed-sees old new known more i a stays learns found quiet =
+    record { stays = stays; learns = learns; found = found; cause = tt; no_fault = quiet }
 
 pub agreed-fails : (old new : DiskState) (known more : List (Option Bool)) (i : ℕ) (e : Failed) → StaysButFaults old new
     → LearnsAgreement old known more
     → Rose old.faults new.faults → Sees old new known more (λ X. agreed (files_in X) i) (Err e)
 agreed-fails old new known more i e stays learns rose =
-    record { stays = stays; learns = learns; found = tt; cause = rose }
+    record { stays = stays; learns = learns; found = tt; cause = rose; no_fault = tt }
 
 -- the first read failed
 pub reads-none : {A C : Type 0} (old mid : DiskState) (f : Image → A) (whole : Image → C) (e : Failed)
     → ReadsAnswer old mid f (Err e)
     → ReadsAnswer old mid whole (Err e)
-reads-none old mid f whole e r = record { stays = r.stays; found = tt; cause = r.cause }
+reads-none old mid f whole e r = record { stays = r.stays; found = tt; cause = r.cause; no_fault = tt }
 
 pub sees-none : {A C : Type 0} (old mid : DiskState) (known more : List (Option Bool)) (f : Image → A)
     (whole : Image → C) (e : Failed)
     → Sees old mid known more f (Err e) → Sees old mid known more whole (Err e)
-sees-none old mid known more f whole e r = record { stays = r.stays; learns = r.learns; found = tt; cause = r.cause }
+sees-none old mid known more f whole e r =
+    record { stays = r.stays; learns = r.learns; found = tt; cause = r.cause; no_fault = tt }
 
 module _ {A B C : Type 0} (old mid new : DiskState) (f : Image → A) (g : A → Image → B) (h : A → B → C)
     (whole : Image → C) (a : A) where
@@ -105,6 +112,7 @@ module _ {A B C : Type 0} (old mid new : DiskState) (f : Image → A) (g : A →
     stays = StaysButFaults-trans old mid new r.stays q.stays;
     found = tt;
     cause = failed-on old mid new r.stays q.cause;
+    no_fault = tt;
   }
 
   pub sees-half : (known more most : List (Option Bool)) (e : Failed) → Sees old mid known more f (Ok a)
@@ -115,6 +123,7 @@ module _ {A B C : Type 0} (old mid new : DiskState) (f : Image → A) (g : A →
     learns = learns-more old mid known more most r.stays r.learns q.learns;
     found = tt;
     cause = failed-on old mid new r.stays q.cause;
+    no_fault = tt;
   }
 
   -- both found what they read
@@ -128,6 +137,7 @@ module _ {A B C : Type 0} (old mid new : DiskState) (f : Image → A) (g : A →
         let second : b ≡ g a old.now = q.found (told-on old mid r.stays tells) ∙ same-on old mid (g a) r.stays in
         (λ j. h (first j) ((second ∙ ap (λ (x : A). g x old.now) first) j)) ∙ is old.now;
     cause = tt;
+    no_fault = q.no_fault ∙ r.no_fault;
   }
 
   pub sees-both : (known more most : List (Option Bool)) (b : B) → Sees old mid known more f (Ok a)
@@ -144,4 +154,5 @@ module _ {A B C : Type 0} (old mid new : DiskState) (f : Image → A) (g : A →
         let second : b ≡ g a old.now = q.found (told-on old mid r.stays tells) now ∙ same-on old mid (g a) r.stays in
         (λ j. h (first j) ((second ∙ ap (λ (x : A). g x old.now) first) j)) ∙ is old.now;
     cause = tt;
+    no_fault = q.no_fault ∙ r.no_fault;
   }

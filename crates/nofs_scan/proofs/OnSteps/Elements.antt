@@ -21,7 +21,7 @@ use Rattle.nofs_state.specs.Cores.Steps.{Follows, Goes, LeavesDisk, entry}
 use Rattle.nofs_state.specs.Books.Verdicts.{InData, Judges, Verifies, Stood, Learned, Unread, learned_block}
 use Rattle.nofs_state.specs.Books.Verdicts.{learned_inode, verdict_of_block, verdict_of_inode}
 use Rattle.nofs_state.specs.declared.books.maps.Books.{Books}
-use Rattle.nofs_scan.specs.Steps.Sees.{Examines}
+use Rattle.nofs_scan.specs.Steps.Sees.{Examines, is_beyond}
 use Rattle.nofs_state.proofs.OnWrites.NoWrites.{sounds-keep}
 use Rattle.nofs_state.proofs.OnCores.Replies.{goes-row, goes-read, goes-stopped, safe-on}
 use Rattle.nofs_state.proofs.OnBooks.Machine.{are-agreed}
@@ -41,8 +41,46 @@ in-table n i e = (low n i e, high n i e)
 -- a stopped mount looks at nothing
 pub examined-stopped : (d : DiskState) (k : Books) (s : Step) → IsDisk d → IsSafe d k → k.stopped ≡ true
     → Examines d k d k s (Err refusal.Stopped)
-examined-stopped d k s is safe stopped =
-    record { goes = goes-stopped d d k s is safe (StaysButFaults-refl d) stopped; memory = refl }
+examined-stopped d k s is safe stopped = record {
+  goes = goes-stopped d d k s is safe (StaysButFaults-refl d) stopped;
+  memory = refl;
+  range = (λ e. absurd (cc e), λ beyond. absurd (let going = beyond.0 in cc (going, stopped)));
+  no_fault = λ e. refl;
+}
+
+-- there is no such element: nothing is read
+examined-beyond : (d : DiskState) (k : Books) (s : Step) → Goes d k d k s no_claims (reply.Refused refusal.BadRange)
+    → k.stopped ≡ false → is_beyond s k.at ≡ true
+    → Examines d k d k s (Err refusal.BadRange)
+examined-beyond d k s goes going beyond =
+    record { goes = goes; memory = refl; range = (λ e. (going, beyond), λ b. refl); no_fault = λ e. refl }
+
+module _ (old new : DiskState) (k l : Books) (s : Step) (within : is_beyond s k.at ≡ false) where
+  -- there is one, and its verdict was found
+  examined-read : (used : Bool) → Goes old k new l s no_claims (reply.Seen used) → new.faults ≡ old.faults
+      → Examines old k new l s (Ok used)
+  examined-read used goes quiet = record {
+    goes = goes;
+    memory = refl;
+    range = (λ e. absurd (cc e), λ beyond. absurd (let outside = beyond.1 in cc (outside, within)));
+    no_fault = λ e. quiet;
+  }
+
+  -- .. or could not be read
+  examined-unread : Goes old k new l s no_claims (reply.Refused refusal.ReadFault)
+      → Examines old k new l s (Err refusal.ReadFault)
+  examined-unread goes = record {
+    goes = goes;
+    memory = refl;
+    range = (λ e. absurd (cc e), λ beyond. absurd (let outside = beyond.1 in cc (outside, within)));
+    no_fault = λ e. absurd (cc e);
+  }
+
+not-above : (m n : ℕ) → m ≤ n → leb m n ≡ true
+not-above m n h = grind (arith, nat_tests)
+
+above : (m n : ℕ) → n < m → leb m n ≡ false
+above m n h = grind (arith, nat_tests)
 
 -- an element of these books: its verdict, what the books learn of it, and the scan's verdict
 pub record IsElement (old : DiskState) (k : Books) (s : Step) (stood : Option Bool) (learned : Bool → Books)
@@ -100,20 +138,18 @@ module _ (old : DiskState) (k : Books) (is : IsDisk old) (safe : IsSafe old k) (
   }
 
   -- no such element
-  pub block-beyond : (b : ℕ)
-      → k.at.blocks ≤ b → Goes old k old k (step.SeeBlock b) no_claims (reply.Refused refusal.BadRange)
-  block-beyond b high =
-      goes-row old old k (step.SeeBlock b) is safe (StaysButFaults-refl old) refusal.BadRange refl tt going
-      (λ tells H p o. rw (le-is p.world.blocks b (let e = o.says.blocks in omega (arith, e, high))) refl)
-    where
-      le-is : (m n : ℕ) → m ≤ n → leb m n ≡ true
-      le-is m n h = grind (arith, nat_tests)
+  pub block-beyond : (b : ℕ) → k.at.blocks ≤ b → Examines old k old k (step.SeeBlock b) (Err refusal.BadRange)
+  block-beyond b high = examined-beyond old k (step.SeeBlock b)
+      (goes-row old old k (step.SeeBlock b) is safe (StaysButFaults-refl old) refusal.BadRange refl tt going
+      (λ tells H p o. rw (not-above p.world.blocks b (let e = o.says.blocks in omega (arith, e, high))) refl))
+      going (not-above k.at.blocks b high)
 
   pub inode-beyond : (i : ℕ) → (eqb i 0 || ltb k.at.inodes i) ≡ true
-      → Goes old k old k (step.SeeInode i) no_claims (reply.Refused refusal.BadRange)
-  inode-beyond i outside =
-      goes-row old old k (step.SeeInode i) is safe (StaysButFaults-refl old) refusal.BadRange refl tt going
-      (λ tells H p o. rw (subst (λ (n : ℕ). (eqb i 0 || ltb n i) ≡ true) (sym o.says.inodes) outside) refl)
+      → Examines old k old k (step.SeeInode i) (Err refusal.BadRange)
+  inode-beyond i outside = examined-beyond old k (step.SeeInode i)
+      (goes-row old old k (step.SeeInode i) is safe (StaysButFaults-refl old) refusal.BadRange refl tt going
+      (λ tells H p o. rw (subst (λ (n : ℕ). (eqb i 0 || ltb n i) ≡ true) (sym o.says.inodes) outside) refl))
+      going outside
 
 -- what an element that is seen leaves
 goes-seen : (old new : DiskState) (k l : Books) (s : Step) (used : Bool) → StaysButFaults old new
@@ -160,6 +196,14 @@ module _ (old : DiskState) (k : Books) (s : Step) (stood : Option Bool) (learned
       (j.found tells (are-agreed old k H p safe o))))
   element-seen new l result used (Unread x judged same e) is-ok = absurd (let z = sym e ∙ is-ok in cc z)
 
+  -- no read failed where it was found
+  element-quiet : (new : DiskState) (l : Books) (result : Result Bool Failed) (used : Bool)
+      → Verifies old k new l stood learned answer Fits result
+      → result ≡ Ok used → new.faults ≡ old.faults
+  element-quiet new l result used (Stood u is-stood stays quiet same e) is-ok = quiet
+  element-quiet new l result used (Learned u none judged fits same e) is-ok = judged.no_fault
+  element-quiet new l result used (Unread x judged same e) is-ok = absurd (let z = sym e ∙ is-ok in cc z)
+
   pub element-unread : (new : DiskState) (l : Books) (result : Result Bool Failed) (x : Failed)
       → Verifies old k new l stood learned answer Fits result
       → result ≡ Err x → Goes old k new l s no_claims (reply.Refused refusal.ReadFault)
@@ -173,18 +217,22 @@ module _ (old : DiskState) (k : Books) (s : Step) (stood : Option Bool) (learned
 -- what a verified element leaves, as it was read or not
 pub record IsSeenStep (old : DiskState) (k : Books) (new : DiskState) (l : Books) (s : Step)
     (result : Result Bool Failed) : Type 0 where
-  pub read : (used : Bool) → result ≡ Ok used → Goes old k new l s no_claims (reply.Seen used)
-  pub unread : (x : Failed) → result ≡ Err x → Goes old k new l s no_claims (reply.Refused refusal.ReadFault)
+  pub read : (used : Bool) → result ≡ Ok used → Examines old k new l s (Ok used)
+  pub unread : (x : Failed) → result ≡ Err x → Examines old k new l s (Err refusal.ReadFault)
 
 module _ (old : DiskState) (k : Books) (is : IsDisk old) (safe : IsSafe old k) (going : k.stopped ≡ false)
     (new : DiskState) (l : Books)
     (result : Result Bool Failed) where
   verified : (s : Step) (stood : Option Bool) (learned : Bool → Books) (answer : Image → Bool) (Fits : Bool → Type 0)
-      → IsElement old k s stood learned answer Fits → Verifies old k new l stood learned answer Fits result
+      → IsElement old k s stood learned answer Fits → is_beyond s k.at ≡ false
+      → Verifies old k new l stood learned answer Fits result
       → IsSeenStep old k new l s result
-  verified s stood learned answer Fits element v = record {
-    read = λ used e. element-seen old k s stood learned answer Fits is safe going element new l result used v e;
-    unread = λ x e. element-unread old k s stood learned answer Fits is safe going element new l result x v e;
+  verified s stood learned answer Fits element within v = record {
+    read = λ used e. examined-read old new k l s within used
+        (element-seen old k s stood learned answer Fits is safe going element new l result used v e)
+        (element-quiet old k s stood learned answer Fits is safe going element new l result used v e);
+    unread = λ x e. examined-unread old new k l s within
+        (element-unread old k s stood learned answer Fits is safe going element new l result x v e);
   }
 
   pub block-verified : (b : ℕ) → b < k.at.blocks
@@ -192,7 +240,7 @@ module _ (old : DiskState) (k : Books) (is : IsDisk old) (safe : IsSafe old k) (
       → IsSeenStep old k new l (step.SeeBlock b) result
   block-verified b low =
       verified (step.SeeBlock b) (verdict_of_block k b) (learned_block k b) (λ X. is_used_block X b) (InData k b)
-      (block-element old k is safe going b low)
+      (block-element old k is safe going b low) (above k.at.blocks b low)
 
   pub inode-verified : (i : ℕ) → (eqb i 0 || ltb k.at.inodes i) ≡ false
       → Verifies old k new l (verdict_of_inode k i) (learned_inode k i) (λ X. is_used_inode X i)
@@ -200,4 +248,4 @@ module _ (old : DiskState) (k : Books) (is : IsDisk old) (safe : IsSafe old k) (
       → IsSeenStep old k new l (step.SeeInode i) result
   inode-verified i e = let range = in-table k.at.inodes i e in
       verified (step.SeeInode i) (verdict_of_inode k i) (learned_inode k i) (λ X. is_used_inode X i) (λ used. Unit {0})
-      (inode-element old k is safe going (λ used. Unit {0}) i range.0 range.1)
+      (inode-element old k is safe going (λ used. Unit {0}) i range.0 range.1) e

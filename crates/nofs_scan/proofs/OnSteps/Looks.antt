@@ -59,6 +59,7 @@ sight-of old new known more f g whole a s is = record {
   found =
       λ tells agreed. ap g (s.found tells agreed) ∙ is tells;
   cause = tt;
+  no_fault = s.no_fault;
 }
 
 pub inode-looked : (old new : DiskState) (at : SuperBlock) (known more : List (Option Bool)) (i : ℕ)
@@ -99,6 +100,7 @@ fixed-looked old at known b is range low =
       found = λ tells agreed.
           sym (block-if old.now b true (fixed-as old at b true is (not-above b (at.inodes / 4) low) tells));
       cause = tt;
+      no_fault = refl;
     } in
     record {
       sees = whole;
@@ -126,6 +128,7 @@ pub record Looked (old : DiskState) (at : SuperBlock) (known more : List (Option
     (kind : ElementKind) (asked : List ℕ) (place : ℕ)
     (ss : List Sight) : Type 0 where
   pub stays : StaysButFaults old now
+  pub no_fault : now.faults ≡ old.faults
   pub learns : LearnsAgreement old known more
   pub sees : IsTrue old.tells → AreTrue old.now known → ss ≡ map (sight_in kind old.now) (take place asked)
   pub items : items_of (map verdict_by ss) ≡ take place asked
@@ -136,6 +139,7 @@ pub looked-begins : (old : DiskState) (at : SuperBlock) (known : List (Option Bo
     → Looked old at known known old kind items 0 []
 looked-begins old at known kind items = record {
   stays = StaysButFaults-refl old;
+  no_fault = refl;
   learns = learns-none old known;
   sees = λ tells agreed. refl;
   items = refl;
@@ -176,6 +180,7 @@ looked-goes old now new at known more most kind items place d ss ts s l low look
     let next : take (place + 1) items ≡ take place items ++ get_or items place d ∷ [] = take_more items place d low in
     record {
       stays = StaysButFaults-trans old now new l.stays looks.sees.stays;
+      no_fault = looks.sees.no_fault ∙ l.no_fault;
       learns = learns-more old now known more most l.stays l.learns looks.sees.learns;
       sees = λ tells agreed.
           let one : s ≡ sight_in kind old.now (get_or items place d) =
@@ -203,6 +208,7 @@ looked-ends old now at known more kind items place ss l all =
       sees = λ tells agreed. l.sees tells agreed ∙ ap (map (sight_in kind old.now)) whole;
       items = l.items ∙ whole;
       right = l.right;
+      no_fault = l.no_fault;
       refused = tt;
     }
 
@@ -218,6 +224,7 @@ looked-refused old now new at known more most kind items place item ss r why l l
   sees = tt;
   items = tt;
   right = tt;
+  no_fault = tt;
   refused = fails;
 }
 
@@ -234,8 +241,9 @@ looked-unread old now new at known more most kind items place item ss x l looks 
 -- memory was wanting
 pub looked-full : (old now new : DiskState) (at : SuperBlock) (known more most : List (Option Bool))
     (kind : ElementKind) (items : List ℕ) (place item : ℕ)
-    (ss : List Sight) (r : Result Sight Failed)
-    → Looked old at known more now kind items place ss → LooksAt now at more most new kind item r
+    (ss : List Sight) (s : Sight)
+    → Looked old at known more now kind items place ss → LooksAt now at more most new kind item (Ok s)
     → LooksAll old at known most new kind items (Err refusal.OutOfMemory)
-looked-full old now new at known more most kind items place item ss r l looks =
-    looked-refused old now new at known more most kind items place item ss r refusal.OutOfMemory l looks tt
+looked-full old now new at known more most kind items place item ss s l looks =
+    looked-refused old now new at known more most kind items place item ss (Ok s) refusal.OutOfMemory l looks
+    (looks.sees.no_fault ∙ l.no_fault)

@@ -1,5 +1,5 @@
 -- What a read of a disk finds of its image.
-use Rattle.std.specs.Prelude.{◌≡◌, Bool, List, Option, IsTrue, Result, IfOk, OnErr}
+use Rattle.std.specs.Prelude.{◌≡◌, Bool, List, Option, IsTrue, Result, IfOk, OnOk, OnErr}
 use Rattle.nofs_disk.specs.declared.Failed.{Failed}
 use Rattle.nofs_disk.specs.Disk.{DiskState, StaysButFaults, Rose}
 use Rattle.nofs_model.specs.Geometry.{Image, inode}
@@ -12,6 +12,7 @@ pub record ReadsAnswer {T : Type 0} (old new : DiskState) (answer : Image → T)
   pub stays : StaysButFaults old new
   pub found : IfOk result (λ a. IsTrue old.tells → a ≡ answer old.now)
   pub cause : OnErr result (Rose old.faults new.faults)
+  pub no_fault : OnOk result (new.faults ≡ old.faults)
 
 -- so it is where what was known of inodes is true, and more is known of them then
 pub record Sees {
@@ -22,6 +23,7 @@ pub record Sees {
   pub learns : LearnsAgreement old known more
   pub found : IfOk result (λ a. IsTrue old.tells → AreTrue old.now known → a ≡ answer old.now)
   pub cause : OnErr result (Rose old.faults new.faults)
+  pub no_fault : OnOk result (new.faults ≡ old.faults)
 
 -- each cell that is kept is that of the block that was read last in its place, and the record that of its inode
 pub record AreLast (d : DiskState) (reads : LastReads) : Type 0 where

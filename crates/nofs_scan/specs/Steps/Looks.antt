@@ -1,5 +1,6 @@
 -- What a look at elements finds.
-use Rattle.std.specs.Prelude.{◌≡◌, ◌≤◌, ℕ, Bool, true, List, length, Option, All, IsTrue, map, Result, IfOk, IfErr}
+use Rattle.std.specs.Prelude.{◌≡◌, ◌≤◌, ℕ, Bool, true, List, length, Option, All, IsTrue, map}
+use Rattle.std.specs.Prelude.{Result, IfOk, IfErr, OnOk}
 use Rattle.nofs_disk.specs.declared.Failed.{Failed}
 use Rattle.nofs_disk.specs.Disk.{DiskState, StaysButFaults, Rose}
 use Rattle.nofs_super.specs.declared.superblock.SuperBlock.{SuperBlock}
@@ -28,23 +29,25 @@ pub record IsBatch (kind : ElementKind) (at : SuperBlock) (items : List ℕ) : T
   pub most : length items ≤ 64
   pub range : All (HasElement kind at) items
 
--- a look changes nothing but the device's count of faults, and what is known of inodes
-pub record OnlyLearns (old : DiskState) (k : Books) (new : DiskState) (l : Books) : Type 0 where
+-- a look changes nothing but what is known of inodes, and the device's count of faults where a read failed
+pub record OnlyLearns {T : Type 0} (old : DiskState) (k : Books) (new : DiskState) (l : Books)
+    (result : Result T Refusal) : Type 0 where
   pub books : l ≡ with_agreement k l.agreement
   pub learns : LearnsAgreement old k.agreement l.agreement
   pub stays : StaysButFaults old new
+  pub no_fault : OnOk result (new.faults ≡ old.faults)
 
--- why a look is refused
+-- why a look is refused. A refusal but ReadFault leaves the device's count of faults
 abbrev pub LookFails : DiskState → Books → DiskState → Refusal → Type 0
-LookFails old k new refusal.Stopped = k.stopped ≡ true
+LookFails old k new refusal.Stopped = (k.stopped ≡ true) × (new.faults ≡ old.faults)
 LookFails old k new refusal.ReadFault = Rose old.faults new.faults
-LookFails old k new refusal.OutOfMemory = Unit {0}
+LookFails old k new refusal.OutOfMemory = new.faults ≡ old.faults
 LookFails old k new _ = ⊥
 
 -- why looking at several ends early
 abbrev pub LooksFail : DiskState → DiskState → Refusal → Type 0
 LooksFail old new refusal.ReadFault = Rose old.faults new.faults
-LooksFail old new refusal.OutOfMemory = Unit {0}
+LooksFail old new refusal.OutOfMemory = new.faults ≡ old.faults
 LooksFail old new _ = ⊥
 
 -- these elements
@@ -56,4 +59,5 @@ pub record LooksAll (old : DiskState) (at : SuperBlock) (known more : List (Opti
   pub sees : IfOk result (λ ss. IsTrue old.tells → AreTrue old.now known → ss ≡ map (sight_in kind old.now) asked)
   pub items : IfOk result (λ ss. items_of (map verdict_by ss) ≡ asked)
   pub right : IfOk result (λ ss. All (IsScanVerdict old at known kind) (map verdict_by ss))
+  pub no_fault : OnOk result (new.faults ≡ old.faults)
   pub refused : IfErr result (LooksFail old new)

@@ -33,7 +33,7 @@ pub fn look_batch<D: Disk + Drop>(
 ) -> Result<Evidence<D>, Refusal>
     requires safe { IsSafe (D.state core.old.disk) core.old.books }
     requires asked { IsBatch kind core.old.books.at items.now }
-    ensures only { OnlyLearns (D.state core.old.disk) core.old.books (D.state core.new.disk) core.new.books }
+    ensures only { OnlyLearns (D.state core.old.disk) core.old.books (D.state core.new.disk) core.new.books result }
     ensures core { IfOk result (λ evidence. evidence.core.value ≡ core.old) }
     ensures asked { IfOk result (λ evidence. (evidence.kind ≡ kind) × (items_of evidence.verdicts ≡ items.now)) }
     ensures stopped { core.old.books.stopped ≡ true → result ≡ Err refusal.Stopped }

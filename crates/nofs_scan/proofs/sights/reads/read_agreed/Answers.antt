@@ -1,3 +1,4 @@
+use Rattle.std.proofs.Common.{refl}
 use Rattle.nofs_disk.specs.Chains.{StaysButFaults-refl}
 use Rattle.nofs_agree.proofs.OnKnown.{learns-none}
 use Rattle.nofs_scan.proofs.OnSights.Reads.{none-agreed}
@@ -9,4 +10,5 @@ returns-then-inode-eq0 g c = record {
   learns = learns-none _ c.args.known.now;
   found = λ tells known. rw c.if-inode-eq0.true (none-agreed _);
   cause = tt;
+  no_fault = refl;
 }

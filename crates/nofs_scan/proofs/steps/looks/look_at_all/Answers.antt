@@ -22,4 +22,5 @@ returns-in-Err-push g c =
     looked-full (g.D.Disk.state c.args.disk.now) (g.D.Disk.state c.loop-place.disk)
     (g.D.Disk.state c.read_sight.new.disk)
     c.args.at.now c.args.known.now c.loop-place.known c.read_sight.new.known c.args.kind
-    c.args.items.now c.loop-place.place _ c.loop-place.sights _ c.loop-place.invariant.0 c.read_sight.ensures.looks
+    c.args.items.now c.loop-place.place _ c.loop-place.sights c.in-Ok-read_sight.sight c.loop-place.invariant.0
+    c.in-Ok-read_sight.ensures.looks
