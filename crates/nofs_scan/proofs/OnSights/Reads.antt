@@ -6,13 +6,14 @@ use Rattle.nofs_disk.specs.Chains.{Rose-within, StaysButFaults-trans}
 use Rattle.nofs_disk.specs.declared.Failed.{Failed}
 use Rattle.nofs_inode.specs.InodeRecords.{free_record}
 use Rattle.nofs_inode.specs.declared.inode.BackLink.{BackLink}
+use Rattle.nofs_inode.specs.declared.inode.Record.{Record}
 use Rattle.nofs_model.specs.Geometry.{Image, inode}
 use Rattle.nofs_model.specs.Files.{agreed, files_in}
 use Rattle.nofs_agree.specs.Chain.{AreTrue, LearnsAgreement}
 use Rattle.nofs_agree.proofs.OnChain.{told-on}
 use Rattle.nofs_agree.proofs.OnKnown.{learns-more, learns-none}
 use Rattle.nofs_state.proofs.OnInodes.Opened.{IsLast-on}
-use Rattle.nofs_scan.specs.Sights.Reads.{AreLast, ReadsAnswer, Sees}
+use Rattle.nofs_scan.specs.Sights.Reads.{AreLast, KeepsRecord, ReadsAnswer, Sees}
 use Rattle.nofs_scan.specs.Sights.Verdicts.{entry_linked}
 use Rattle.nofs_scan.specs.declared.sights.last_reads.LastReads.{LastReads}
 
@@ -62,6 +63,13 @@ AreLast-none d none own table upper lower number free = record {
 pub failed-on : (old mid new : DiskState) → StaysButFaults old mid → Rose mid.faults new.faults
     → Rose old.faults new.faults
 failed-on old mid new s r = Rose-within old.faults mid.faults new.faults new.faults s.disk.faults r (le_refl new.faults)
+
+-- what is computed from the record of an inode
+pub reads-record : {T : Type 0} (old new : DiskState) (i : ℕ) (reads : LastReads) (f : Record → T) (a : T)
+    → KeepsRecord old new i reads (Ok tt) → a ≡ f reads.in_table
+    → ReadsAnswer old new (λ X. f (inode X i)) (Ok a)
+reads-record old new i reads f a r e =
+    record { stays = r.stays; found = λ tells. e ∙ ap f (r.found tells); cause = tt; no_fault = r.no_fault }
 
 pub reads-sees : {T : Type 0} (old new : DiskState) (known : List (Option Bool)) (f : Image → T)
     (result : Result T Failed) → ReadsAnswer old new f result

@@ -1,5 +1,5 @@
 -- What a read of a disk finds of its image.
-use Rattle.std.specs.Prelude.{◌≡◌, Bool, List, Option, IsTrue, Result, IfOk, OnOk, OnErr}
+use Rattle.std.specs.Prelude.{◌≡◌, ℕ, Bool, List, Option, IsTrue, Result, IfOk, OnOk, OnErr}
 use Rattle.nofs_disk.specs.declared.Failed.{Failed}
 use Rattle.nofs_disk.specs.Disk.{DiskState, StaysButFaults, Rose}
 use Rattle.nofs_model.specs.Geometry.{Image, inode}
@@ -32,3 +32,12 @@ pub record AreLast (d : DiskState) (reads : LastReads) : Type 0 where
   pub in_table : IsTrue d.tells → reads.in_table ≡ inode d.now reads.inode
   pub upper : IsLast d reads.upper
   pub lower : IsLast d reads.lower
+
+-- the record of the inode is the one that was read last
+pub record KeepsRecord (old new : DiskState) (i : ℕ) (reads : LastReads)
+    (result : Result (Unit {0}) Failed) : Type 0 where
+  pub stays : StaysButFaults old new
+  pub found : OnOk result (IsTrue old.tells → reads.in_table ≡ inode old.now i)
+  pub kept : OnOk result (AreLast new reads)
+  pub cause : OnErr result (Rose old.faults new.faults)
+  pub no_fault : OnOk result (new.faults ≡ old.faults)

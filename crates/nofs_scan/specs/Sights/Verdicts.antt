@@ -1,6 +1,9 @@
 -- What is read of an element of an image, and the verdict that follows from it alone.
 use Rattle.std.specs.Prelude.{ℕ, Bool, true, false, ◌&&◌, ◌||◌, not, List, [], ◌∷◌, get_or, Option, Some, None}
 use Rattle.std.specs.Prelude.{if◌then◌else◌, ◌==◌, nat_lt}
+use Rattle.nofs_disk.specs.Number.{zeros}
+use Rattle.nofs_disk.specs.declared.tag.Kind.{Kind}
+use Rattle.nofs_disk.specs.declared.tag.Kind.TheVariants.{Leaf}
 use Rattle.nofs_disk.specs.declared.tag.Tag.{Tag}
 use Rattle.nofs_disk.specs.declared.tag.Pointer.{Pointer}
 use Rattle.nofs_inode.specs.declared.inode.BackLink.{BackLink}
@@ -25,6 +28,7 @@ use Rattle.nofs_scan.specs.declared.sights.sights.LinkSight.{LinkSight}
 use Rattle.nofs_scan.specs.declared.sights.sights.InodeSight.{InodeSight}
 use Rattle.nofs_scan.specs.declared.sights.sights.Above.{Above}
 use Rattle.nofs_scan.specs.declared.sights.sights.BlocksAbove.{BlocksAbove}
+use Rattle.nofs_scan.specs.declared.sights.sights.OwnerSight.{OwnerSight}
 use Rattle.nofs_scan.specs.declared.sights.sights.TagSight.{TagSight}
 use Rattle.nofs_scan.specs.declared.sights.sights.BlockSight.{BlockSight}
 use Rattle.nofs_scan.specs.declared.sights.sights.Sight.{Sight}
@@ -44,7 +48,11 @@ entry_linked F l = if is_a file.Directory l.generation (F l.directory)
     then named_inode (entry_at F l.directory l.entry) else None
 
 abbrev pub link_sight : Image → BackLink → LinkSight
-link_sight X l = record { entry = entry_linked (files_in X) l; agreed = agreed (files_in X) l.directory }
+link_sight X l = record {
+  generation = l.generation;
+  entry = entry_linked (files_in X) l;
+  agreed = agreed (files_in X) l.directory;
+}
 
 -- the sights of four back links
 abbrev pub link_sights : Image → List BackLink → List LinkSight
@@ -53,15 +61,20 @@ link_sights X ls = link_sight X (get_or ls 0 no_link) ∷ link_sight X (get_or l
     (get_or ls 3 no_link) ∷ []
 
 abbrev pub inode_sight : Image → ℕ → InodeSight
-inode_sight X i = record { inode = i; in_table = inode X i; links = link_sights X (inode X i).links }
+inode_sight X i = record {
+  inode = i;
+  generation = (inode X i).generation;
+  kind = (inode X i).kind;
+  links = link_sights X (inode X i).links;
+}
 
 abbrev pub no_above : Above
-no_above = record { tag = None; pointer = null }
+no_above = record { tag = zeros 32; pointer = null }
 
 -- the tag of a block and the pointer at a place in it, where it is a block of the data area
 abbrev pub above_in : Image → ℕ → ℕ → Above
 above_in X b n = if is_data_block X b
-    then record { tag = tag_of (cell_at X b).tag; pointer = pointer_at (cell_at X b).payload n } else no_above
+    then record { tag = (cell_at X b).tag; pointer = pointer_at (cell_at X b).payload n } else no_above
 
 -- a block above a slot alone
 abbrev pub under_record : Image → ℕ → ℕ → BlocksAbove
@@ -71,34 +84,58 @@ under_record X b n = record { upper = above_in X b n; lower = no_above }
 abbrev pub under_top : Image → ℕ → ℕ → ℕ → BlocksAbove
 under_top X b m n = record { upper = above_in X b m; lower = above_in X (above_in X b m).pointer.block n }
 
--- the block above a slot whose pointer is in the record
-abbrev pub upper_in : Image → Record → Path → Above
-upper_in X r (InRecord n) = no_above
-upper_in X r (Under (InRecord a) n) = above_in X (record_pointer r a).block n
-upper_in X r (Under (Under (InRecord a) m) n) = above_in X (record_pointer r a).block m
-upper_in X r (Under (Under (Under a k) m) n) = no_above
+-- the first pointer on the way to a slot: its own where that is in the record, or that of the upper block
+abbrev pub first_pointer : Record → Path → Pointer
+first_pointer r (InRecord n) = record_pointer r n
+first_pointer r (Under (InRecord a) n) = record_pointer r a
+first_pointer r (Under (Under (InRecord a) m) n) = record_pointer r a
+first_pointer r (Under (Under (Under a k) m) n) = null
+
+-- what a record says of a slot
+abbrev pub owner_sight : Record → Path → OwnerSight
+owner_sight r path = record {
+  live = is_live r;
+  generation = r.generation;
+  kind = kind_in r path;
+  pointer = first_pointer r path;
+}
+
+-- the block above a slot whose pointer is in the record: it is b
+abbrev pub upper_in : Image → ℕ → Path → Above
+upper_in X b (InRecord n) = no_above
+upper_in X b (Under (InRecord a) n) = above_in X b n
+upper_in X b (Under (Under (InRecord a) m) n) = above_in X b m
+upper_in X b (Under (Under (Under a k) m) n) = no_above
 
 -- the block above a slot whose pointer is in the upper one
-abbrev pub lower_in : Image → Record → Path → Above
-lower_in X r (InRecord n) = no_above
-lower_in X r (Under (InRecord a) n) = no_above
-lower_in X r (Under (Under (InRecord a) m) n) = above_in X (above_in X (record_pointer r a).block m).pointer.block n
-lower_in X r (Under (Under (Under a k) m) n) = no_above
+abbrev pub lower_in : Image → ℕ → Path → Above
+lower_in X b (InRecord n) = no_above
+lower_in X b (Under (InRecord a) n) = no_above
+lower_in X b (Under (Under (InRecord a) m) n) = above_in X (above_in X b m).pointer.block n
+lower_in X b (Under (Under (Under a k) m) n) = no_above
 
-abbrev pub way_in : Image → Record → Path → BlocksAbove
-way_in X r path = record { upper = upper_in X r path; lower = lower_in X r path }
+abbrev pub way_in : Image → ℕ → Path → BlocksAbove
+way_in X b path = record { upper = upper_in X b path; lower = lower_in X b path }
+
+-- what a record says of a slot, and the blocks above it
+abbrev pub slot_way : Image → Record → Path → OwnerSight × BlocksAbove
+slot_way X r path = (owner_sight r path, way_in X (first_pointer r path).block path)
 
 abbrev pub tag_sight : Image → Tag → TagSight
 tag_sight X t = record {
   tag = t;
-  in_table = inode X t.inode;
-  way = way_in X (inode X t.inode) (path_of t.slot);
+  owner = owner_sight (inode X t.inode) (path_of t.slot);
+  way = way_in X (first_pointer (inode X t.inode) (path_of t.slot)).block (path_of t.slot);
   agreed = agreed (files_in X) t.inode;
 }
 
+-- a tag names a slot of an inode: none has the number 0
+abbrev pub names_slot : Tag → Bool
+names_slot t = not (t.inode == 0) && is_slot t.slot
+
 abbrev pub tagged_in : Image → Option Tag → Option TagSight
 tagged_in X None = None
-tagged_in X (Some t) = if is_slot t.slot then Some (tag_sight X t) else None
+tagged_in X (Some t) = if names_slot t then Some (tag_sight X t) else None
 
 abbrev pub block_sight : Image → ℕ → BlockSight
 block_sight X p = record { block = p; tagged = tagged_in X (tag_of (cell_at X p).tag) }
@@ -122,41 +159,45 @@ may_have (Some file.File) d g = true
 may_have (Some file.Directory) d g = nat_lt d g
 
 -- a back link of an inode is a pair with an agreed directory
-abbrev pub leads_up : ℕ → Record → BackLink → LinkSight → Bool
-leads_up i r l s = may_have r.kind l.generation r.generation && (names_it s.entry i r.generation && s.agreed)
+abbrev pub leads_up : ℕ → ℕ → Option FileKind → LinkSight → Bool
+leads_up i g kind s = may_have kind s.generation g && (names_it s.entry i g && s.agreed)
 
 abbrev pub no_link_sight : LinkSight
-no_link_sight = record { entry = None; agreed = false }
+no_link_sight = record { generation = 0; entry = None; agreed = false }
 
 -- so is the one at a place
 abbrev pub leads_up_at : InodeSight → ℕ → Bool
-leads_up_at s k = leads_up s.inode s.in_table (get_or s.in_table.links k no_link) (get_or s.links k no_link_sight)
+leads_up_at s k = leads_up s.inode s.generation s.kind (get_or s.links k no_link_sight)
 
 abbrev pub judged_inode : InodeSight → Bool
 judged_inode s = is_special s.inode || (leads_up_at s 0 || (leads_up_at s 1 || (leads_up_at s 2 || leads_up_at s 3)))
 
--- the tag of the block in a slot of an inode with this record
-abbrev pub tag_wanted : Record → ℕ → Path → ℕ → Tag
-tag_wanted r i path stamp =
-    record { kind = kind_in r path; inode = i; generation = r.generation; slot = slot_of path; stamp = stamp }
+-- the tag that a block of this kind must have in a slot
+abbrev pub tag_wanted : OwnerSight → ℕ → Kind → Path → ℕ → Tag
+tag_wanted o i kind path stamp =
+    record { kind = kind; inode = i; generation = o.generation; slot = slot_of path; stamp = stamp }
 
--- a slot with this pointer holds, if its block has this tag
-abbrev pub holds_with : Record → ℕ → Path → Pointer → Option Tag → Bool
-holds_with r i path x t = not (is_null x) && (is_live r && is_tag t (tag_wanted r i path x.stamp))
+-- a slot with this pointer holds, if its block has the wanted tag
+abbrev pub may_hold : OwnerSight → Pointer → Bool
+may_hold o x = not (is_null x) && o.live
 
 -- the tag's slot with this pointer holds this block
 abbrev pub holds_it : ℕ → TagSight → Path → Pointer → Bool
-holds_it p s path x = (x.block == p) && holds_with s.in_table s.tag.inode path x (Some s.tag)
+holds_it p s path x = (x.block == p)
+    && (may_hold s.owner x && is_tag (Some s.tag) (tag_wanted s.owner s.tag.inode s.owner.kind path x.stamp))
+
+-- a slot above it with this pointer holds this block of pointers
+abbrev pub holds_above : TagSight → Path → Pointer → Above → Bool
+holds_above s path x above =
+    may_hold s.owner x && is_tag (tag_of above.tag) (tag_wanted s.owner s.tag.inode Leaf path x.stamp)
 
 -- the tag's slot holds this block, and each slot above it holds
 abbrev pub holds_down : ℕ → TagSight → Path → Bool
-holds_down p s (InRecord n) = holds_it p s (InRecord n) (record_pointer s.in_table n)
+holds_down p s (InRecord n) = holds_it p s (InRecord n) s.owner.pointer
 holds_down p s (Under (InRecord a) n) =
-    holds_with s.in_table s.tag.inode (InRecord a) (record_pointer s.in_table a) s.way.upper.tag
-    && holds_it p s (Under (InRecord a) n) s.way.upper.pointer
-holds_down p s (Under (Under (InRecord a) m) n) =
-    holds_with s.in_table s.tag.inode (InRecord a) (record_pointer s.in_table a) s.way.upper.tag
-    && (holds_with s.in_table s.tag.inode (Under (InRecord a) m) s.way.upper.pointer s.way.lower.tag
+    holds_above s (InRecord a) s.owner.pointer s.way.upper && holds_it p s (Under (InRecord a) n) s.way.upper.pointer
+holds_down p s (Under (Under (InRecord a) m) n) = holds_above s (InRecord a) s.owner.pointer s.way.upper
+    && (holds_above s (Under (InRecord a) m) s.way.upper.pointer s.way.lower
     && holds_it p s (Under (Under (InRecord a) m) n) s.way.lower.pointer)
 holds_down p s (Under (Under (Under a k) m) n) = false
 

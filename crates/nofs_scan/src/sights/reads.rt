@@ -2,7 +2,7 @@
 //!
 //! Promise: each sight is that of the disk's image, whatever the bytes are. A read changes no disk, takes no memory,
 //! and fails only where the disk's count of faults rose. What it finds of inodes on the ways up is known from then on.
-ghost use Rattle.std.specs.Prelude.{◌≡◌, ◌<◌, ◌^◌, IsTrue, OnOk, length};
+ghost use Rattle.std.specs.Prelude.{◌≡◌, ◌<◌, ◌^◌, IsTrue, OnOk, length, true};
 ghost use Rattle.nofs_inode.specs.declared.inode.FileKind.TheVariants as kind;
 ghost use Rattle.nofs_dirent.specs.Entries.{entry_in};
 ghost use Rattle.nofs_ptrs.specs.Paths as paths;
@@ -14,20 +14,20 @@ ghost use Rattle.nofs_disk.specs.Tag.{tag_of};
 ghost use Rattle.nofs_agree.specs.Reads.{IsAt, IsLast, KnowsDirectory};
 ghost use Rattle.nofs_scan.specs.Steps.Elements.{HasElement};
 ghost use Rattle.nofs_scan.specs.Steps.Looks.{LooksAt};
-ghost use Rattle.nofs_scan.specs.Sights.Reads.{AreLast, ReadsAnswer, Sees};
+ghost use Rattle.nofs_scan.specs.Sights.Reads.{AreLast, KeepsRecord, ReadsAnswer, Sees};
 ghost use Rattle.nofs_scan.specs.Sights.Verdicts as sights;
 
 use crate::sights::last_reads::LastReads;
 use crate::sights::sights::{
-    Above, BlockSight, BlocksAbove, EntryTarget, InodeSight, LinkSight, Sight, TagSight,
+    Above, BlockSight, BlocksAbove, EntryTarget, InodeSight, LinkSight, OwnerSight, Sight, TagSight,
 };
 use crate::sights::verdicts::is_slot;
 use nofs_agree::{Known, LastRead, PathAnswer, find_slot, learn_chain, read_block, read_inode};
 use nofs_dirent::bytes_of;
-use nofs_disk::{Disk, Failed, Tag, read_tag, read_u32_at, read_u64_at};
+use nofs_disk::{Disk, Failed, Pointer, Tag, read_tag, read_u32_at, read_u64_at};
 use nofs_history::ElementKind;
 use nofs_inode::{BackLink, FileKind, Record};
-use nofs_model::{Place, names_inode, place_of, record_pointer};
+use nofs_model::{Place, kind_in, names_inode, place_of, record_pointer};
 use nofs_ptrs::read_pointer;
 use nofs_super::SuperBlock;
 
@@ -56,11 +56,13 @@ pub(crate) fn read_sight<D: Disk>(
     match kind {
         ElementKind::Inode => {
             let inode = item as u32;
-            let in_table = read_record(disk, at, inode, reads)?;
-            let links = read_links(disk, at, known, &in_table.links)?;
+            read_record(disk, at, inode, reads)?;
+            let it = &reads.in_table;
+            let links = read_links(disk, at, known, &it.links)?;
             Ok(Sight::Inode(InodeSight {
                 inode,
-                in_table,
+                generation: it.generation,
+                kind: it.kind,
                 links,
             }))
         }
@@ -78,25 +80,24 @@ pub(crate) fn read_sight<D: Disk>(
     }
 }
 
-// The record of an inode, which is read where it isn't the one that was read last.
+// The record of an inode is read where it isn't the one that was read last. It is kept.
 fn read_record<D: Disk>(
     disk: &mut D,
     at: &SuperBlock,
     inode: u32,
     reads: &mut LastReads,
-) -> Result<Record, Failed>
+) -> Result<(), Failed>
     requires numbers { IsAt (D.state disk.old) at.now }
     requires last { AreLast (D.state disk.old) reads.old }
-    ensures answers { ReadsAnswer (D.state disk.old) (D.state disk.new) (λ X. image.inode X inode) result }
-    ensures kept { OnOk result (AreLast (D.state disk.new) reads.new) }
+    ensures { KeepsRecord (D.state disk.old) (D.state disk.new) inode reads.new result }
 {
     if inode == reads.inode {
-        return Ok(reads.in_table);
+        return Ok(());
     }
     let it = read_inode(disk, at, inode, &mut reads.table)?;
     reads.in_table = it;
     reads.inode = inode;
-    Ok(it)
+    Ok(())
 }
 
 // What four back links lead to.
@@ -147,10 +148,14 @@ fn read_link<D: Disk>(
 {
     let entry = read_link_entry(disk, at, link)?;
     let agreed = read_agreed(disk, at, known, link.directory)?;
-    Ok(LinkSight { entry, agreed })
+    Ok(LinkSight {
+        generation: link.generation,
+        entry,
+        agreed,
+    })
 }
 
-// Whether an inode is agreed. No inode has the number 0, which each empty link has, and the tag of each empty block.
+// Whether an inode is agreed. No inode has the number 0, which each empty link has.
 fn read_agreed<D: Disk>(
     disk: &mut D,
     at: &SuperBlock,
@@ -268,13 +273,21 @@ fn read_tagged<D: Disk>(
     match tag {
         None => Ok(None),
         Some(tag) => {
-            if is_slot(tag.slot) {
+            if names_slot(&tag) {
                 Ok(Some(read_slot(disk, at, known, tag, reads)?))
             } else {
                 Ok(None)
             }
         }
     }
+}
+
+// Whether a tag names a slot of an inode. No inode has the number 0, which the tag of each unused block has.
+fn names_slot(tag: &Tag) -> bool
+    ensures value { result ≡ sights.names_slot tag.now }
+    ensures slot { result ≡ true → IsTrue (paths.is_slot tag.now.slot) }
+{
+    tag.inode != 0 && is_slot(tag.slot)
 }
 
 // What stands in the slot that a tag names.
@@ -296,61 +309,82 @@ fn read_slot<D: Disk>(
     let agreed = read_agreed(disk, at, known, tag.inode)?;
     Ok(TagSight {
         tag,
-        in_table: found.0,
+        owner: found.0,
         way: found.1,
         agreed,
     })
 }
 
-// The record of an inode, and the blocks above the slot at a place.
+// What the record of an inode says of the slot at a place, and the blocks above that slot.
 fn read_slot_way<D: Disk>(
     disk: &mut D,
     at: &SuperBlock,
     inode: u32,
     place: Place,
     reads: &mut LastReads,
-) -> Result<(Record, BlocksAbove), Failed>
+) -> Result<(OwnerSight, BlocksAbove), Failed>
     requires numbers { IsAt (D.state disk.old) at.now }
     requires place { IsPlace place }
     requires last { AreLast (D.state disk.old) reads.old }
     ensures answers { ReadsAnswer (D.state disk.old) (D.state disk.new)
-        (λ X. (image.inode X inode, sights.way_in X (image.inode X inode) (place_path place))) result }
+        (λ X. sights.slot_way X (image.inode X inode) (place_path place)) result }
     ensures kept { OnOk result (AreLast (D.state disk.new) reads.new) }
 {
-    let it = read_record(disk, at, inode, reads)?;
-    let way = read_way(disk, at, place, &it, reads)?;
-    Ok((it, way))
+    read_record(disk, at, inode, reads)?;
+    let owner = owner_sight(&reads.in_table, place);
+    let way = read_way(disk, at, place, owner.pointer.block, reads)?;
+    Ok((owner, way))
 }
 
-// The blocks above the slot at a place of an inode with this record.
+// What a record says of the slot at a place.
+fn owner_sight(it: &Record, place: Place) -> OwnerSight
+    requires { IsPlace place }
+    ensures { result ≡ sights.owner_sight it.now (place_path place) }
+{
+    OwnerSight {
+        live: it.kind.is_some(),
+        generation: it.generation,
+        kind: kind_in(it, place),
+        pointer: first_pointer(it, place),
+    }
+}
+
+// The pointer of the slot at a place, or that of the upper block.
+fn first_pointer(it: &Record, place: Place) -> Pointer
+    requires { IsPlace place }
+    ensures { result ≡ sights.first_pointer it.now (place_path place) }
+{
+    match place {
+        Place::InRecord(at) => record_pointer(it, at),
+        Place::UnderRecord { at, .. } => record_pointer(it, at),
+        Place::UnderChild { .. } => it.top,
+    }
+}
+
+// The blocks above the slot at a place, the upper of which is this one.
+#[tactic(auto, unfolding(nofs_disk::specs::Number::zeros))]
 fn read_way<D: Disk>(
     disk: &mut D,
     at: &SuperBlock,
     place: Place,
-    it: &Record,
+    block: u64,
     reads: &mut LastReads,
 ) -> Result<BlocksAbove, Failed>
     requires place { IsPlace place }
     requires numbers { IsAt (D.state disk.old) at.now }
     requires last { AreLast (D.state disk.old) reads.old }
     ensures answers { ReadsAnswer (D.state disk.old) (D.state disk.new)
-        (λ X. sights.way_in X it.now (place_path place)) result }
+        (λ X. sights.way_in X block (place_path place)) result }
     ensures kept { OnOk result (AreLast (D.state disk.new) reads.new) }
 {
     match place {
         Place::InRecord(_) => Ok(BlocksAbove::NONE),
-        Place::UnderRecord { at: above, place } => Ok(BlocksAbove {
-            upper: read_above(
-                disk,
-                at,
-                record_pointer(it, above).block,
-                place,
-                &mut reads.upper,
-            )?,
+        Place::UnderRecord { place, .. } => Ok(BlocksAbove {
+            upper: read_above(disk, at, block, place, &mut reads.upper)?,
             lower: Above::NONE,
         }),
         Place::UnderChild { child, place } => {
-            read_under_top(disk, at, it.top.block, child, place, reads)
+            read_under_top(disk, at, block, child, place, reads)
         }
     }
 }
@@ -378,6 +412,7 @@ fn read_under_top<D: Disk>(
 }
 
 // The tag of a block and the pointer at a place in it, where it is a block of the data area.
+#[tactic(auto, unfolding(nofs_disk::specs::Number::zeros))]
 fn read_above<D: Disk>(
     disk: &mut D,
     at: &SuperBlock,
@@ -396,7 +431,7 @@ fn read_above<D: Disk>(
     }
     read_block(disk, block, last)?;
     Ok(Above {
-        tag: read_tag(&last.cell.tag),
+        tag: last.cell.tag,
         pointer: read_pointer(&last.cell.payload, place as u32),
     })
 }

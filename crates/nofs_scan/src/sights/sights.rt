@@ -1,6 +1,8 @@
 //! What is read of an element under the turn. No verdict is among it.
-use nofs_disk::{Pointer, Tag};
-use nofs_inode::Record;
+//!
+//! Of a record, and of a block above a slot, it is what a verdict can depend on, and no more.
+use nofs_disk::{Kind, Pointer, Tag};
+use nofs_inode::FileKind;
 
 /// What is kept of an entry of a directory: whom it names.
 #[derive(Clone, Copy)]
@@ -9,9 +11,11 @@ pub struct EntryTarget {
     pub generation: u64,
 }
 
-/// What a back link leads to.
+/// A back link, and what it leads to.
 #[derive(Clone, Copy)]
 pub struct LinkSight {
+    /// The generation of the directory that the link names.
+    pub generation: u64,
     /// The entry that the link names; `None` where there is none, and where the directory is not one
     /// of the link's generation.
     pub entry: Option<EntryTarget>,
@@ -23,17 +27,19 @@ pub struct LinkSight {
 #[derive(Clone, Copy)]
 pub struct InodeSight {
     pub inode: u32,
-    /// Its record in the inode table.
-    pub in_table: Record,
-    /// What each of its back links leads to.
+    /// The generation in its record.
+    pub generation: u64,
+    /// `None` where the inode is free.
+    pub kind: Option<FileKind>,
+    /// Its back links.
     pub links: [LinkSight; 4],
 }
 
 /// What was read of a block above a slot.
 #[derive(Clone, Copy)]
 pub struct Above {
-    /// Its tag; `None` where it spells none, and where the block is not in the data area.
-    pub tag: Option<Tag>,
+    /// The bytes of its tag. They are zeros, the tag of an unused block, where the block is not in the data area.
+    pub tag: [u8; 32],
     /// The pointer in it, towards the slot.
     pub pointer: Pointer,
 }
@@ -50,7 +56,7 @@ pub struct BlocksAbove {
 impl Above {
     /// Nothing: there is no such block above the slot, or none in the data area.
     pub const NONE: Above = Above {
-        tag: None,
+        tag: [0; 32],
         pointer: Pointer::NULL,
     };
 }
@@ -63,12 +69,23 @@ impl BlocksAbove {
     };
 }
 
+/// What the record of a tag's inode says of the tag's slot.
+#[derive(Clone, Copy)]
+pub struct OwnerSight {
+    /// Whether the inode is in use.
+    pub live: bool,
+    pub generation: u64,
+    /// What a block in the slot is for.
+    pub kind: Kind,
+    /// The slot's pointer, or that of the upper block.
+    pub pointer: Pointer,
+}
+
 /// A block's tag that names a slot, and what was read of that slot.
 #[derive(Clone, Copy)]
 pub struct TagSight {
     pub tag: Tag,
-    /// The record of the tag's inode. It has the slot's pointer, or that of the upper block.
-    pub in_table: Record,
+    pub owner: OwnerSight,
     pub way: BlocksAbove,
     /// Whether the inode is agreed.
     pub agreed: bool,
@@ -78,7 +95,7 @@ pub struct TagSight {
 #[derive(Clone, Copy)]
 pub struct BlockSight {
     pub block: u64,
-    /// `None` where the block has no tag, or the tag names no slot.
+    /// `None` where the block has no tag, or the tag names no slot of an inode, as that of an unused block.
     pub tagged: Option<TagSight>,
 }
 

@@ -11,10 +11,12 @@ ghost use Rattle.nofs_history.specs.declared.machine.steps.ElementKind.{ElementK
 ghost use Rattle.nofs_scan.specs.Steps.Elements.{HasElement, is_used};
 ghost use Rattle.nofs_scan.specs.Sights.Verdicts as sights;
 
-use crate::sights::sights::{BlockSight, EntryTarget, InodeSight, LinkSight, Sight, TagSight};
-use nofs_disk::{Pointer, Tag};
-use nofs_inode::{BackLink, FileKind, Record};
-use nofs_model::{Place, kind_in, place_of, record_pointer, slot_number};
+use crate::sights::sights::{
+    Above, BlockSight, EntryTarget, InodeSight, LinkSight, Sight, TagSight,
+};
+use nofs_disk::{Kind, Pointer, Tag};
+use nofs_inode::FileKind;
+use nofs_model::{Place, is_tag, place_of, slot_number};
 
 impl Sight {
     /// The number of the element.
@@ -70,17 +72,16 @@ fn leads_up_at(sight: &InodeSight, place: usize) -> bool
     requires { place < 4 }
     ensures { result ≡ sights.leads_up_at sight.now place }
 {
-    let link = &sight.in_table.links[place];
-    leads_up(sight.inode, &sight.in_table, link, &sight.links[place])
+    leads_up(sight, &sight.links[place])
 }
 
 // Whether a back link is a pair with an agreed directory.
-fn leads_up(inode: u32, it: &Record, link: &BackLink, found: &LinkSight) -> bool
-    ensures { result ≡ sights.leads_up inode it.now link.now found.now }
+fn leads_up(sight: &InodeSight, link: &LinkSight) -> bool
+    ensures { result ≡ sights.leads_up sight.now.inode sight.now.generation sight.now.kind link.now }
 {
-    may_have(it.kind, link.generation, it.generation)
-        && names_it(found.entry, inode, it.generation)
-        && found.agreed
+    may_have(sight.kind, link.generation, sight.generation)
+        && names_it(link.entry, sight.inode, sight.generation)
+        && link.agreed
 }
 
 // Whether an inode may have this back link: a directory is younger than the one that names it.
@@ -133,7 +134,7 @@ fn holds_down(block: u64, sight: &TagSight, place: Place) -> bool
     ensures { result ≡ sights.holds_down block sight.now (place_path place) }
 {
     match place {
-        Place::InRecord(at) => holds_it(block, sight, place, record_pointer(&sight.in_table, at)),
+        Place::InRecord(_) => holds_it(block, sight, place, sight.owner.pointer),
         Place::UnderRecord { at, .. } => {
             holds_upper(sight, at) && holds_it(block, sight, place, sight.way.upper.pointer)
         }
@@ -148,24 +149,23 @@ fn holds_down(block: u64, sight: &TagSight, place: Place) -> bool
 // Whether the leaf or the top holds.
 fn holds_upper(sight: &TagSight, at: u64) -> bool
     requires { at < 10 }
-    ensures { result ≡ sights.holds_with sight.now.in_table sight.now.tag.inode (paths.InRecord at)
-        (slots.record_pointer sight.now.in_table at) sight.now.way.upper.tag }
+    ensures { result ≡ sights.holds_above sight.now (paths.InRecord at) sight.now.owner.pointer sight.now.way.upper }
 {
-    let pointer = record_pointer(&sight.in_table, at);
-    holds_with(sight, Place::InRecord(at), pointer, sight.way.upper.tag)
+    let place = Place::InRecord(at);
+    holds_above(sight, place, sight.owner.pointer, &sight.way.upper)
 }
 
 // Whether this child of the top holds.
 fn holds_lower(sight: &TagSight, child: u64) -> bool
     requires { child < 64 }
-    ensures { result ≡ sights.holds_with sight.now.in_table sight.now.tag.inode
-        (paths.child child) sight.now.way.upper.pointer sight.now.way.lower.tag }
+    ensures { result ≡ sights.holds_above sight.now (paths.child child) sight.now.way.upper.pointer
+        sight.now.way.lower }
 {
     let place = Place::UnderRecord {
         at: 9,
         place: child,
     };
-    holds_with(sight, place, sight.way.upper.pointer, sight.way.lower.tag)
+    holds_above(sight, place, sight.way.upper.pointer, &sight.way.lower)
 }
 
 // Whether the slot at a place has this pointer to the block, and the block its tag.
@@ -173,29 +173,49 @@ fn holds_it(block: u64, sight: &TagSight, place: Place, pointer: Pointer) -> boo
     requires { IsPlace place }
     ensures { result ≡ sights.holds_it block sight.now (place_path place) pointer }
 {
-    pointer.block == block && holds_with(sight, place, pointer, Some(sight.tag))
+    pointer.block == block
+        && may_hold(sight, pointer)
+        && is_same_tag(
+            &sight.tag,
+            &wanted_tag(sight, sight.owner.kind, place, pointer.stamp),
+        )
 }
 
-// Whether the slot at a place with this pointer holds, if its block has this tag.
-fn holds_with(sight: &TagSight, place: Place, pointer: Pointer, tag: Option<Tag>) -> bool
+fn is_same_tag(tag: &Tag, wanted: &Tag) -> bool
+    ensures { result ≡ slots.is_tag (Some tag.now) wanted.now }
+{
+    *tag == *wanted
+}
+
+// Whether the slot at a place with this pointer holds the block of pointers above the tag's slot.
+fn holds_above(sight: &TagSight, place: Place, pointer: Pointer, above: &Above) -> bool
     requires { IsPlace place }
-    ensures { result ≡ sights.holds_with sight.now.in_table sight.now.tag.inode (place_path place) pointer tag }
+    ensures { result ≡ sights.holds_above sight.now (place_path place) pointer above.now }
 {
-    let wanted = Tag {
-        kind: kind_in(&sight.in_table, place),
-        inode: sight.tag.inode,
-        generation: sight.in_table.generation,
-        slot: slot_number(place),
-        stamp: pointer.stamp,
-    };
-    !pointer.is_null() && sight.in_table.kind.is_some() && is_tag(tag, &wanted)
+    may_hold(sight, pointer)
+        && is_tag(
+            &above.tag,
+            &wanted_tag(sight, Kind::Leaf, place, pointer.stamp),
+        )
 }
 
-fn is_tag(tag: Option<Tag>, wanted: &Tag) -> bool
-    ensures { result ≡ slots.is_tag tag wanted.now }
+// Whether a slot with this pointer holds, if its block has the wanted tag: it names a block, in a live inode.
+fn may_hold(sight: &TagSight, pointer: Pointer) -> bool
+    ensures { result ≡ sights.may_hold sight.now.owner pointer }
 {
-    match tag {
-        None => false,
-        Some(tag) => tag == *wanted,
+    !pointer.is_null() && sight.owner.live
+}
+
+// The tag that a block of this kind must have in the slot at a place.
+fn wanted_tag(sight: &TagSight, kind: Kind, place: Place, stamp: u64) -> Tag
+    requires { IsPlace place }
+    ensures { result ≡ sights.tag_wanted sight.now.owner sight.now.tag.inode kind (place_path place) stamp }
+{
+    Tag {
+        kind,
+        inode: sight.tag.inode,
+        generation: sight.owner.generation,
+        slot: slot_number(place),
+        stamp,
     }
 }

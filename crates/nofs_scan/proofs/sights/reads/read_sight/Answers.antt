@@ -1,12 +1,13 @@
 use Rattle.std.proofs.Common.{subst, refl}
 use Rattle.nofs_disk.specs.Tag.{tag_of}
 use Rattle.nofs_disk.specs.Disk.{cell_at}
+use Rattle.nofs_inode.specs.declared.inode.Record.{Record}
 use Rattle.nofs_model.specs.Geometry.{inode}
 use Rattle.nofs_history.specs.declared.machine.steps.ElementKind.{ElementKind}
 use Rattle.nofs_scan.specs.Steps.Elements.{HasElement}
 use Rattle.nofs_scan.specs.Sights.Verdicts.{block_sight, inode_sight, link_sights, tagged_in}
 use Rattle.nofs_scan.proofs.OnSteps.Looks.{block-looked, inode-looked}
-use Rattle.nofs_scan.proofs.OnSights.Reads.{reads-sees, sees-both}
+use Rattle.nofs_scan.proofs.OnSights.Reads.{reads-record, reads-sees, sees-both}
 use Rattle.nofs_scan.proofs.sights.reads.read_sight.Goals as goal
 
 pub returns-in_ok-links-in-Inode-clause-looks : goal.returns-in_ok-links-in-Inode-clause-looks
@@ -14,9 +15,11 @@ returns-in_ok-links-in-Inode-clause-looks g c =
     let range = subst (λ (kind : ElementKind). HasElement kind c.args.at.now c.args.item) c.in-Inode.is
     c.requires.range in
     let sees = sees-both _ _ _ (λ X. inode X c.args.item) (λ r X. link_sights X r.links)
-    (λ r ls. record { inode = c.args.item; in_table = r; links = ls })
-    (λ X. inode_sight X c.args.item) c.in_ok-in_table-in-Inode.in_table _ _ _ c.in_ok-links-in-Inode.links
-    (reads-sees _ _ c.args.known.now _ _ c.in_ok-in_table-in-Inode.ensures.answers)
+    (λ r ls. record { inode = c.args.item; generation = r.generation; kind = r.kind; links = ls })
+    (λ X. inode_sight X c.args.item) c.read_record.new.reads.in_table _ _ _ c.in_ok-links-in-Inode.links
+    (reads-sees _ _ c.args.known.now _ _
+    (reads-record _ _ c.args.item c.read_record.new.reads (λ (r : Record). r) _
+    c.in_ok-read_record-in-Inode.ensures refl))
     c.in_ok-links-in-Inode.ensures (λ X. refl) in
     rw c.in-Inode.is (inode-looked _ _ c.args.at.now _ _ c.args.item _ c.requires.numbers range sees refl)
 
