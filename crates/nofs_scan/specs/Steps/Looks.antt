@@ -29,13 +29,11 @@ pub record IsBatch (kind : ElementKind) (at : SuperBlock) (items : List ℕ) : T
   pub most : length items ≤ 64
   pub range : All (HasElement kind at) items
 
--- a look changes nothing but what is known of inodes, and the device's count of faults where a read failed
-pub record OnlyLearns {T : Type 0} (old : DiskState) (k : Books) (new : DiskState) (l : Books)
-    (result : Result T Refusal) : Type 0 where
+-- a look changes nothing but the device's count of faults, and what is known of inodes
+pub record OnlyLearns (old : DiskState) (k : Books) (new : DiskState) (l : Books) : Type 0 where
   pub books : l ≡ with_agreement k l.agreement
   pub learns : LearnsAgreement old k.agreement l.agreement
   pub stays : StaysButFaults old new
-  pub no_fault : OnOk result (new.faults ≡ old.faults)
 
 -- why a look is refused. A refusal but ReadFault leaves the device's count of faults
 abbrev pub LookFails : DiskState → Books → DiskState → Refusal → Type 0

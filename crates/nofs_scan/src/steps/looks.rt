@@ -1,5 +1,5 @@
 //! Several elements are looked at in one turn.
-ghost use Rattle.std.specs.Prelude.{◌≡◌, ◌<◌, ◌^◌, length, false, true, All, Err, IfErr, IfOk};
+ghost use Rattle.std.specs.Prelude.{◌≡◌, ◌<◌, ◌^◌, length, false, true, All, Err, IfErr, IfOk, OnOk};
 ghost use Rattle.nofs_agree.specs.Reads.{IsAt};
 ghost use Rattle.nofs_history.specs.declared.machine.replies.Refusal.TheVariants as refusal;
 ghost use Rattle.nofs_state.specs.Books.Maps.{IsSafe};
@@ -33,7 +33,8 @@ pub fn look_batch<D: Disk + Drop>(
 ) -> Result<Evidence<D>, Refusal>
     requires safe { IsSafe (D.state core.old.disk) core.old.books }
     requires asked { IsBatch kind core.old.books.at items.now }
-    ensures only { OnlyLearns (D.state core.old.disk) core.old.books (D.state core.new.disk) core.new.books result }
+    ensures only { OnlyLearns (D.state core.old.disk) core.old.books (D.state core.new.disk) core.new.books }
+    ensures no_fault { OnOk result ((D.state core.new.disk).faults ≡ (D.state core.old.disk).faults) }
     ensures core { IfOk result (λ evidence. evidence.core.value ≡ core.old) }
     ensures asked { IfOk result (λ evidence. (evidence.kind ≡ kind) × (items_of evidence.verdicts ≡ items.now)) }
     ensures stopped { core.old.books.stopped ≡ true → result ≡ Err refusal.Stopped }
