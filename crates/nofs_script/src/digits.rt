@@ -4,58 +4,57 @@
 //! text is digits, so each loop here is one that LLVM turns into one over vectors: it has no early exit, and what it
 //! does at a place is arithmetic. That is why all digits are judged before the first one is read.
 
-ghost use Rattle.std.specs.Prelude.{◌≡◌, ◌*◌, ◌<◌, ◌&&◌, ◌++◌, OnOk, Ok, Some, length, nat_le, slice_index, true};
+ghost use Rattle.std.specs.Prelude.{◌≡◌, ◌*◌, ◌<◌, ◌++◌, ℕ, OnOk, Ok, length, nat_eq, slice_index, true};
 ghost use Rattle.std.specs.List.{list_all};
-ghost use Rattle.hex.specs.Hex.{decode_of, encode_lower, hex_digit_value, lower_digits};
-ghost use Rattle.hex.specs.Hex.{is_hex_digit as is_hex_digit_byte};
+ghost use Rattle.hex.specs.Hex.{decode_of, encode_lower, is_hex_digit, lower_digits};
+ghost use Rattle.hex.specs.Hex.{pair_value as pair_value_at};
 ghost use Rattle.nofs_script.specs.Grammar.{MatchesReading, hex_digits};
 
 use crate::faults::{LineFault, ScriptKind};
 use nofs_dirent::Content;
 use std::alloc::{AllocError, Global};
 
-fn is_hex_digit(byte: u8) -> bool
-    ensures { result ≡ is_hex_digit_byte byte }
-{
-    let number = is_between(byte, b'0', b'9');
-    let small = is_between(byte, b'a', b'f');
-    let capital = is_between(byte, b'A', b'F');
-    number | small | capital
-}
-
-fn is_between(byte: u8, first: u8, last: u8) -> bool
-    ensures { result ≡ (nat_le first byte && nat_le byte last) }
-{
-    (first <= byte) & (byte <= last)
-}
-
 fn are_hex_digits(word: &[u8]) -> bool
-    ensures { result ≡ list_all is_hex_digit_byte word.now }
+    ensures { result ≡ list_all is_hex_digit word.now }
 {
-    let mut all = true;
+    let mut beside = 0u8;
     for byte in word {
-        all &= is_hex_digit(*byte);
+        beside |= beside_digits(*byte);
     }
-    all
+    beside == 0
 }
 
-// 0 to 15. The codes of `0`, `A` and `a` are 48, 65 and 97.
-fn digit_value(digit: u8) -> u8
-    requires { is_hex_digit_byte digit ≡ true }
-    ensures value { hex_digit_value digit ≡ Some result }
-    ensures small { result < 16 }
+// How far a byte is beside the digits, and 0 for a digit. Subtractions that stop at 0 are few instructions on vectors,
+// which comparisons are not.
+fn beside_digits(byte: u8) -> u8
+    ensures { nat_eq result 0 ≡ is_hex_digit byte }
 {
-    digit % 16 + 9 * (digit / 64)
+    let number = byte.wrapping_sub(b'0').saturating_sub(9);
+    let letter = (byte | 32).wrapping_sub(b'a').saturating_sub(5);
+    number.min(letter)
+}
+
+// The byte that two digits spell. The codes of `0`, `A` and `a` are 48, 65 and 97: the low half of a code, and 9 more
+// of a letter, which has the bit 64. Both digits are taken as one number, so that LLVM reads a text in whole vectors,
+// where it would gather bytes at every second place one by one.
+fn pair_value(high: u8, low: u8) -> u8
+    requires high { is_hex_digit high ≡ true }
+    requires low { is_hex_digit low ≡ true }
+    ensures { (i : ℕ) → pair_value_at high low i ≡ Ok result }
+{
+    let pair = u16::from(high) | u16::from(low) << 8;
+    let values = (pair & 0x0f0f) + 9 * (pair >> 6 & 0x0101);
+    ((values & 15) << 4 | values >> 8) as u8
 }
 
 // The bytes that the digits spell.
 fn put_values(digits: &[u8], into: &mut [u8])
     requires twice { length digits.now ≡ 2 * length into.old }
-    requires all { list_all is_hex_digit_byte digits.now ≡ true }
+    requires all { list_all is_hex_digit digits.now ≡ true }
     ensures { decode_of digits.now ≡ Ok into.new }
 {
     'bytes: for at in 0..into.len() {
-        into[at] = digit_value(digits[2 * at]) * 16 + digit_value(digits[2 * at + 1]);
+        into[at] = pair_value(digits[2 * at], digits[2 * at + 1]);
     }
 }
 
