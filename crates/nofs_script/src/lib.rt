@@ -23,5 +23,5 @@ mod words;
 
 pub use faults::{ParseFault, ScriptFault, ScriptKind, TextFault};
 pub use session::{Session, parse};
-pub use text::{line_text, push_number};
+pub use text::{add_line, line_text, push_number};
 pub use words::number_of;

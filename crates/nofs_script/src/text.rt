@@ -232,13 +232,21 @@ fn push_line(alloc: Global, text: &mut Vec<u8>, line: &Line) -> Result<(), Alloc
     }
 }
 
-/// The one text of a line, with its line feed (docs/FORMAT.md, "Lines").
+/// Adds the one text of a line, with its line feed (docs/FORMAT.md, "Lines").
 #[tactic(auto, unfolding(crate::specs::Text::text_of))]
+pub fn add_line(alloc: Global, text: &mut Vec<u8>, line: &Line) -> Result<(), AllocError>
+    ensures { OnOk result (text.new.items ≡ text.old.items ++ text_of line.now) }
+{
+    push_line(alloc, text, line)?;
+    text.push(b'\n')?;
+    Ok(())
+}
+
+/// The one text of a line, with its line feed, by itself.
 pub fn line_text(alloc: Global, line: &Line) -> Result<Vec<u8>, AllocError>
     ensures { IfOk result (λ text. text.items ≡ text_of line.now) }
 {
     let mut text = Vec::new(alloc);
-    push_line(alloc, &mut text, line)?;
-    text.push(b'\n')?;
+    add_line(alloc, &mut text, line)?;
     Ok(text)
 }

@@ -137,6 +137,11 @@ pub fn script_parse(alloc: Global, text: &[u8]) -> Result<Session, ParseFault> {
     nofs_script::parse(alloc, text)
 }
 
+/// `nofs_script::add_line`
+pub fn script_add_line(alloc: Global, text: &mut Vec<u8>, line: &Line) -> Result<(), AllocError> {
+    nofs_script::add_line(alloc, text, line)
+}
+
 /// `nofs_script::line_text`
 pub fn script_line_text(alloc: Global, line: &Line) -> Result<Vec<u8>, AllocError> {
     nofs_script::line_text(alloc, line)
