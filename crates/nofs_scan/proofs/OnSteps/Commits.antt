@@ -106,7 +106,7 @@ module _ (early : DiskState) (before : Books) (d : DiskState) (k : Books) (kind 
   commits l result (StaysSo stood e) =
       subst (λ (m : Books). Commits early before d k m kind v.item used result) (sym e) (record {
         settles = StaysSo stood refl;
-        cause = seen-causes d d k k result (KeepsCells-refl d) going going;
+        cause = seen-causes d d k k result (KeepsCells-refl d) refl going going;
         safe = safe;
         at = refl;
         history = refl;
@@ -116,7 +116,7 @@ module _ (early : DiskState) (before : Books) (d : DiskState) (k : Books) (kind 
   commits l result (LearnsIt none e r) =
       subst₂ (λ (m : Books) (b : Bool). Commits early before d k m kind v.item used b) (sym e) (sym r) (record {
         settles = LearnsIt none refl refl;
-        cause = seen-causes d d k (learned kind k v.item used) used (KeepsCells-refl d) going
+        cause = seen-causes d d k (learned kind k v.item used) used (KeepsCells-refl d) refl going
             (here.stopped used ∙ going);
         safe = here.safe d used (StaysButFaults-refl d) may-now;
         at = here.at used;

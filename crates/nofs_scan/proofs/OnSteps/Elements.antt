@@ -23,7 +23,8 @@ use Rattle.nofs_state.specs.Books.Verdicts.{learned_inode, verdict_of_block, ver
 use Rattle.nofs_state.specs.declared.books.maps.Books.{Books}
 use Rattle.nofs_scan.specs.Steps.Sees.{Examines, is_beyond}
 use Rattle.nofs_state.proofs.OnWrites.NoWrites.{sounds-keep}
-use Rattle.nofs_state.proofs.OnCores.Replies.{goes-row, goes-read, goes-stopped, safe-on}
+use Rattle.nofs_state.proofs.OnCores.Replies.{goes-early, goes-read, goes-stopped, safe-on}
+use Rattle.nofs_state.proofs.OnCores.SafeSteps.{accepted-given}
 use Rattle.nofs_state.proofs.OnBooks.Machine.{are-agreed}
 use Rattle.nofs_state.proofs.OnCores.Sees.{block-learned, block-row, block-stands, block-stood, machine-block}
 use Rattle.nofs_state.proofs.OnCores.Sees.{machine-inode, safe-block, seen-causes}
@@ -42,7 +43,7 @@ in-table n i e = (low n i e, high n i e)
 pub examined-stopped : (d : DiskState) (k : Books) (s : Step) → IsDisk d → IsSafe d k → k.stopped ≡ true
     → Examines d k d k s (Err refusal.Stopped)
 examined-stopped d k s is safe stopped = record {
-  goes = goes-stopped d d k s is safe (StaysButFaults-refl d) stopped;
+  goes = goes-stopped d d k s is safe (StaysButFaults-refl d) refl stopped;
   memory = refl;
   range = (λ e. absurd (cc e), λ beyond. absurd (let going = beyond.0 in cc (going, stopped)));
   no_fault = λ e. refl;
@@ -140,30 +141,33 @@ module _ (old : DiskState) (k : Books) (is : IsDisk old) (safe : IsSafe old k) (
   -- no such element
   pub block-beyond : (b : ℕ) → k.at.blocks ≤ b → Examines old k old k (step.SeeBlock b) (Err refusal.BadRange)
   block-beyond b high = examined-beyond old k (step.SeeBlock b)
-      (goes-row old old k (step.SeeBlock b) is safe (StaysButFaults-refl old) refusal.BadRange refl tt going
+      (goes-early old old k (step.SeeBlock b) is safe (StaysButFaults-refl old) refl refusal.BadRange refl tt going
+      (rw (not-above k.at.blocks b high) refl)
       (λ tells H p o. rw (not-above p.world.blocks b (let e = o.says.blocks in omega (arith, e, high))) refl))
       going (not-above k.at.blocks b high)
 
   pub inode-beyond : (i : ℕ) → (eqb i 0 || ltb k.at.inodes i) ≡ true
       → Examines old k old k (step.SeeInode i) (Err refusal.BadRange)
   inode-beyond i outside = examined-beyond old k (step.SeeInode i)
-      (goes-row old old k (step.SeeInode i) is safe (StaysButFaults-refl old) refusal.BadRange refl tt going
+      (goes-early old old k (step.SeeInode i) is safe (StaysButFaults-refl old) refl refusal.BadRange refl tt going
+      (rw outside refl)
       (λ tells H p o. rw (subst (λ (n : ℕ). (eqb i 0 || ltb n i) ≡ true) (sym o.says.inodes) outside) refl))
       going outside
 
 -- what an element that is seen leaves
 goes-seen : (old new : DiskState) (k l : Books) (s : Step) (used : Bool) → StaysButFaults old new
-    → k.stopped ≡ false → l.stopped ≡ false → IsSafe new l
+    → new.faults ≡ old.faults → k.stopped ≡ false → l.stopped ≡ false → IsSafe new l
     → l.at ≡ k.at → l.history ≡ k.history
     → (IsTrue old.tells → (caller : ℕ) (H : List Entry1) (p : Past) → IsOpen old k H p
     → Follows old new l H p (entry caller old new s no_claims (reply.Seen used)))
     → Goes old k new l s no_claims (reply.Seen used)
-goes-seen old new k l s used stays going still safe at history follows = record {
+goes-seen old new k l s used stays quiet going still safe at history follows = record {
   disk = stays.disk;
   past = stays.past;
   later = (let m = stays.cells.moment in omega (arith, m));
-  cause = seen-causes old new k l used stays.cells going still;
+  cause = seen-causes old new k l used stays.cells quiet going still;
   order = LeavesDisk refl stays.cells stays.dirty;
+  early = accepted-given k.at s (reply.Seen used) refl;
   safe = safe;
   at = at;
   history = history;
@@ -182,14 +186,14 @@ module _ (old : DiskState) (k : Books) (s : Step) (stood : Option Bool) (learned
   element-seen new l result used (Stood u is-stood stays quiet same e) is-ok =
       let su : u ≡ used = let z = sym e ∙ is-ok in cc z in
       subst (λ (m : Books). Goes old k new m s no_claims (reply.Seen used)) (sym same)
-      (goes-seen old new k k s used stays going going (safe-on old new k stays safe) refl refl
+      (goes-seen old new k k s used stays quiet going going (safe-on old new k stays safe) refl refl
       (element.by_stood new used stays (is-stood ∙ ap Some su)))
   element-seen new l result used (Learned u none judged fits same e) is-ok =
       let su : u ≡ used = let z = sym e ∙ is-ok in cc z in
       let j : Judges old new k.agreement answer (Ok used) =
       subst (λ (q : Bool). Judges old new k.agreement answer (Ok q)) su judged in
       subst (λ (m : Books). Goes old k new m s no_claims (reply.Seen used)) (sym (same ∙ ap learned su))
-      (goes-seen old new k (learned used) s used j.stays going (element.stopped used ∙ going)
+      (goes-seen old new k (learned used) s used j.stays j.no_fault going (element.stopped used ∙ going)
       (element.safe new used j.stays (subst Fits su fits))
       (element.at used) (element.history used)
       (λ tells caller H p o. element.by_learned new used j.stays tells caller H p o
