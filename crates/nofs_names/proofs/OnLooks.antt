@@ -52,7 +52,7 @@ missing-late W d name why e =
 module _ (old : DiskState) (k : Books) (d g : ℕ) (name : List ℕ) (is : IsDisk old) (safe : IsSafe old k)
     (going : k.stopped ≡ false) where
   pub look-bad : is_name name ≡ false → Goes old k old k (step.Look d g name) no_claims (reply.Refused refusal.BadName)
-  look-bad bad = goes-bad old k (step.Look d g name) is safe going (λ W. rw bad refl)
+  look-bad bad = goes-bad old k (step.Look d g name) is safe going (rw bad refl) (λ W. rw bad refl)
 
   module _ (ok : is_name name ≡ true) where
     rows-are : (W : World)
@@ -81,6 +81,7 @@ module _ (old : DiskState) (k : Books) (d g : ℕ) (name : List ℕ) (is : IsDis
           (reply.Found (record { inode = it.inode; generation = it.record.generation; kind = it.kind }))
       look-found it finds =
           goes-answer old new k (step.Look d g name) is safe (StaysButFaults-trans old mid new opens.stays finds.stays)
+          (finds.no_fault ∙ opens.no_fault)
           (reply.Found (record { inode = it.inode; generation = it.record.generation; kind = it.kind })) refl refl
           (look-reads d g name) going
           (λ t H p o.

@@ -60,6 +60,7 @@ pub record AreBoth (d : DiskState) (at : SuperBlock) (i g j of : ℕ) (b : Both)
 
 pub record OpensBoth (old new : DiskState) (k : Books) (d g i of : ℕ) (result : Result Both Refusal) : Type 0 where
   pub stays : StaysButFaults old new
+  pub no_fault : OnOk result (new.faults ≡ old.faults)
   pub known : IfOk result (AreBoth new k.at d g i of)
   pub there : OnOk result (IsTrue old.tells → KnownTrue k old.now → IsThere d old.now × IsThere i old.now)
   pub passes : OnOk result (PartPasses old (KnownTrue k) (both_rows d g i of))
@@ -81,6 +82,7 @@ pub record TellsDeadPlace (old new : DiskState) (known : List (Option Bool)) (i 
     (result : Result (Option ℕ) Failed)
     : Type 0 where
   pub stays : StaysButFaults old new
+  pub no_fault : OnOk result (new.faults ≡ old.faults)
   pub range : IfOk result (λ o. IfSome o (λ b. b < 4))
   pub found : IfOk result (λ o. IsTrue old.tells → AreTrue old.now known → o ≡ dead_place old.now i r.links)
   pub kept : OnOk result (IsLast new last)
@@ -100,6 +102,7 @@ many_rows i W = too_many_links W i ∷ []
 pub record FindsLinkPlace (old new : DiskState) (known : List (Option Bool)) (i : ℕ) (last : LastRead)
     (result : Result ℕ Refusal) : Type 0 where
   pub stays : StaysButFaults old new
+  pub no_fault : OnOk result (new.faults ≡ old.faults)
   pub range : IfOk result (λ b. b < 4)
   pub found : IfOk result
       (λ b. IsTrue old.tells → IsKnown known i old.now → (F : Files) → FilesMatch F old.now → link_place F i ≡ Some b)

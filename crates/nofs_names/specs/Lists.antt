@@ -23,6 +23,7 @@ use Rattle.nofs_history.specs.declared.machine.replies.Reply.TheVariants as repl
 use Rattle.nofs_agree.specs.Reads.{IsLast}
 use Rattle.nofs_agree.specs.declared.reads.LastRead.{LastRead}
 use Rattle.nofs_state.specs.Inodes.Blocks.{MarkFails}
+use Rattle.nofs_state.specs.Inodes.Opened.{met_fault}
 use Rattle.nofs_names.specs.Searches.Slots.{paired_kind}
 use Rattle.nofs_names.specs.Searches.Refusals.{IsThere}
 use Rattle.nofs_names.specs.declared.lists.Listed.{Listed}
@@ -60,6 +61,7 @@ InDirectory found.NoMore = Unit {0}
 pub record FindsListed (old new : DiskState) (d from : ℕ) (last : LastRead)
     (result : Result ListedSlot Failed) : Type 0 where
   pub stays : StaysButFaults old new
+  pub no_fault : OnOk result (new.faults ≡ old.faults)
   pub range : IfOk result InDirectory
   pub found : IfOk result (λ s. IsTrue old.tells → IsListedSlot old.now d from last s)
   pub kept : OnOk result (IsLast new last)
@@ -79,6 +81,7 @@ pub record ReadsLine (old new : DiskState) (link : BackLink) (payload : List ℕ
     (result : Result (Option NameLine) Refusal)
     : Type 0 where
   pub stays : StaysButFaults old new
+  pub no_fault : met_fault result ≡ false → new.faults ≡ old.faults
   pub line : IfOk result (λ l. IsTrue old.tells → l ≡ name_line_in old.now link (entry_in payload place))
   pub named : IfOk result (λ l. IfSome l (λ line. NameOk line.name))
   pub kept : OnOk result (IsLast new last)
@@ -86,6 +89,7 @@ pub record ReadsLine (old new : DiskState) (link : BackLink) (payload : List ℕ
 
 pub record ReadsLines (old new : DiskState) (d slot : ℕ) (result : Result (List NameLine) Refusal) : Type 0 where
   pub stays : StaysButFaults old new
+  pub no_fault : met_fault result ≡ false → new.faults ≡ old.faults
   pub lines : IfOk result
       (λ ls. IsTrue old.tells → IsThere d old.now → (F : Files) → FilesMatch F old.now → ls ≡ lines_in_slot F d slot)
   pub few : IfOk result (λ ls. length ls ≤ 16)

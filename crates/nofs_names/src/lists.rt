@@ -1,5 +1,6 @@
 //! The names of a directory.
-ghost use Rattle.std.specs.Prelude.{◌≡◌, ◌++◌, ◌*◌, ◌<◌, IsTrue, IfOk, OnOk, option_to_list};
+ghost use Rattle.std.specs.Prelude.{◌≡◌, ◌++◌, ◌*◌, ◌<◌, IsTrue, IfOk, OnOk, option_to_list, false};
+ghost use Rattle.nofs_history.specs.Faults.{is_fault};
 ghost use Rattle.nofs_history.specs.declared.machine.replies.Refusal.TheVariants as refusal;
 ghost use Rattle.nofs_history.specs.declared.machine.replies.Reply.TheVariants as reply;
 ghost use Rattle.nofs_history.specs.declared.machine.steps.Step.TheVariants as step;
@@ -57,7 +58,8 @@ pub fn list<D: Disk + Drop>(
     requires { IsSafe (D.state core.old.disk) core.old.books }
     ensures goes { Goes (D.state core.old.disk) core.old.books (D.state core.new.disk) core.new.books
         (step.List directory generation slot) no_claims (list_answer result) }
-    ensures memory { Goes (D.state core.old.disk) core.old.books (D.state core.new.disk) core.new.books
+    ensures memory { is_fault (list_answer result) ≡ false
+        → Goes (D.state core.old.disk) core.old.books (D.state core.new.disk) core.new.books
         (step.List directory generation slot) no_claims (reply.Refused refusal.OutOfMemory) }
     ensures listed { IfOk result HasListed }
 {

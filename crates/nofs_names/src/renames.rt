@@ -4,6 +4,7 @@ ghost use Rattle.nofs_history.specs.declared.machine.steps.Step.TheVariants as s
 ghost use Rattle.nofs_history.specs.declared.machine.replies.Reply.TheVariants as reply;
 ghost use Rattle.nofs_history.specs.Claims.{no_claims};
 ghost use Rattle.nofs_agree.specs.Reads.{IsLast};
+ghost use Rattle.nofs_state.specs.Cores.FirstRows.{RefusesEarly};
 ghost use Rattle.nofs_state.specs.Books.Maps.{IsSafe};
 ghost use Rattle.nofs_state.specs.Cores.Steps.{Goes};
 ghost use Rattle.nofs_names.specs.Renames.Parts.{done_answer};
@@ -30,8 +31,10 @@ pub fn rename<D: Disk + Drop>(
     new: &[u8],
 ) -> Result<(), Refusal>
     requires { IsSafe (D.state core.old.disk) core.old.books }
-    ensures { Goes (D.state core.old.disk) core.old.books (D.state core.new.disk) core.new.books
+    ensures goes { Goes (D.state core.old.disk) core.old.books (D.state core.new.disk) core.new.books
         (step.Rename directory generation old.now new.now) no_claims (done_answer reply.Renamed result) }
+    ensures early { RefusesEarly core.old.books (step.Rename directory generation old.now new.now)
+        (done_answer reply.Renamed result) }
 {
     let at = NameIn {
         directory,
@@ -52,8 +55,11 @@ fn rename_with_room<D: Disk + Drop>(
 ) -> Result<(), Refusal>
     requires safe { IsSafe (D.state core.old.disk) core.old.books }
     requires spare { 1 ≤ (D.state core.old.disk).spare }
-    ensures { RenameGoes (D.state core.old.disk) core.old.books
+    ensures goes { RenameGoes (D.state core.old.disk) core.old.books
         (D.state core.new.disk) core.new.books at.entry new.now result }
+    ensures early { RefusesEarly core.old.books
+        (step.Rename at.entry.directory at.entry.generation at.entry.name.now new.now)
+        (done_answer reply.Renamed result) }
 {
     if core.books.stopped {
         return Err(Refusal::Stopped);

@@ -126,14 +126,10 @@ marks-after old mid new at i from to bits b last res stays quiet m = record {
   stays = StaysButFaults-trans old mid new stays m.stays;
   marked_as = on-ok res m.marked_as;
   kept = m.kept;
-  no_fault = still res m.no_fault;
+  no_fault = λ e. m.no_fault e ∙ quiet;
   refused = on-err res m.refused;
 }
   where
-    still : (r : Result (Unit {0}) Refusal) → OnOk r (new.faults ≡ mid.faults) → OnOk r (new.faults ≡ old.faults)
-    still (Err e) h = tt
-    still (Ok it) h = h ∙ quiet
-
     on-ok : (r : Result (Unit {0}) Refusal) → OnOk r (Marked mid.now mid.tells at i from to bits b)
         → OnOk r (Marked old.now old.tells at i from to bits b)
     on-ok (Err e) h = tt
@@ -166,7 +162,7 @@ marks-none old mid at i from to path bits last res a b finds e h none =
             (none old.now (sym (f.found t)) k x low high held);
       };
       kept = f.kept;
-      no_fault = f.no_fault;
+      no_fault = λ e. f.no_fault;
       refused = tt;
     }
 
@@ -230,7 +226,7 @@ pub marks-join : (old mid new : DiskState) (at : SuperBlock) (i from cut to : �
     → MarksAll old mid at i from cut bits b last (Ok tt) → MarksAll mid new at i cut to b c next (Ok tt)
     → MarksAll old new at i from to bits c next (Ok tt)
 marks-join old mid new at i from cut to bits b c last next low high f s =
-    let q = marks-after old mid new at i cut to b c next (Ok tt) f.stays f.no_fault s in
+    let q = marks-after old mid new at i cut to b c next (Ok tt) f.stays (f.no_fault refl) s in
     record {
       stays = q.stays;
       marked_as = marked-join old.now old.tells at i from cut to bits b c low high f.marked_as q.marked_as;
@@ -246,6 +242,7 @@ pub inode-marked : (old mid new : DiskState) (at : SuperBlock) (i : ℕ) (z b c 
     → MarksInode old new at i c next (Ok tt)
 inode-marked old mid new at i z b c last next ez first second = record {
   stays = StaysButFaults-trans old mid new first.stays second.stays;
+  no_fault = λ e. second.no_fault refl ∙ first.no_fault refl;
   owned = record {
     size = all-size new.now new.tells at i b c one two;
     in_area = all-area new.now new.tells at i b c one two;
@@ -285,6 +282,6 @@ inode-marks old one two new at i z b c d last later next res ez first second thi
         → MarksInode old new at i d next r
     go (Ok u) m = inode-marked old two new at i z c d later next ez low m
     go (Err e) m =
-        let q = marks-after old two new at i (2 ^ 32) (2 ^ 32 + 66) c d next (Err e) low.stays low.no_fault m in
-        record
-        { stays = q.stays; owned = tt; kept = tt; refused = q.refused }
+        let q = marks-after old two new at i (2 ^ 32) (2 ^ 32 + 66) c d next (Err e) low.stays
+        (low.no_fault refl) m in
+        record { stays = q.stays; no_fault = q.no_fault; owned = tt; kept = tt; refused = q.refused }

@@ -21,6 +21,7 @@ use Rattle.nofs_history.specs.declared.machine.steps.Step.TheVariants as step
 use Rattle.nofs_history.specs.declared.machine.replies.Reply.TheVariants as reply
 use Rattle.nofs_history.specs.declared.machine.replies.Refusal.{Refusal}
 use Rattle.nofs_history.specs.declared.machine.replies.Refusal.TheVariants as refusal
+use Rattle.nofs_history.specs.Faults.{is_fault}
 use Rattle.nofs_crashlaw.proofs.OnUntouched.Matches.{matched-agreed}
 use Rattle.nofs_agree.specs.Chain.{is_agreed_link}
 use Rattle.nofs_agree.specs.declared.reads.LastRead.{LastRead}
@@ -57,7 +58,7 @@ module _ (old mid : DiskState) (k : Books) (d g : ℕ) (name : List ℕ) (r : Re
       go (subst (λ (z : Result Pointer Refusal). IfErr z (HoldFails old mid d (q.entry / 16))) e holds.refused)
     where
       go : HoldFails old mid d (q.entry / 16) why → Goes old k mid k (step.Drop d g name) no_claims (reply.Refused why)
-      go (inl f) = goes-row old mid k (step.Drop d g name) is_old safe holds.stays why f.0 f.1 going (λ t H p o.
+      go (inl f) = goes-row old mid k (step.Drop d g name) is_old safe holds.stays f.3 why f.0 f.1 going (λ t H p o.
           let a = may.there t (are-agreed old k H p safe o) in
           let h = slot-holds p.world.files old.now d name q (open-files old k H p o) a
           (may.found t a p.world.files (open-files old k H p o)) in
@@ -66,12 +67,14 @@ module _ (old mid : DiskState) (k : Books) (d g : ℕ) (name : List ℕ) (r : Re
           (drop-unread holds.stays f.1)
 
   -- the blocks were not found
-  pub drop-unowned : (why : Refusal) → StaysButFaults old mid → MarkFails old mid why
+  pub drop-unowned : (why : Refusal) → StaysButFaults old mid
+      → (is_fault (reply.Refused why) ≡ false → mid.faults ≡ old.faults) → MarkFails old mid why
       → Goes old k mid k (step.Drop d g name) no_claims (reply.Refused why)
-  drop-unowned why stays (inl e) =
+  drop-unowned why stays quiet (inl e) =
       subst (λ (w : Refusal). Goes old k mid k (step.Drop d g name) no_claims (reply.Refused w)) (sym e)
-      (goes-memory old mid (reads-keep old mid stays) k (step.Drop d g name) no_claims safe)
-  drop-unowned why stays (inr f) =
+      (goes-memory old mid (reads-keep old mid stays)
+      (quiet (ap (λ (w : Refusal). is_fault (reply.Refused w)) e)) k (step.Drop d g name) no_claims safe)
+  drop-unowned why stays quiet (inr f) =
       subst (λ (w : Refusal). Goes old k mid k (step.Drop d g name) no_claims (reply.Refused w)) (sym f.0)
       (drop-unread stays f.1)
 

@@ -2,6 +2,7 @@
 use Rattle.std.proofs.Common.{◌≡◌, ℕ, ◌+◌, ◌*◌, ◌<◌, inl, inr, Bool, true, false, List, [], Option, Some, None, IsTrue}
 use Rattle.std.proofs.Common.{Result, Ok, refl, sym, ap, ◌∙◌, subst, arith}
 use Rattle.std.proofs.lemmas.Bool.{cases_lt}
+use Rattle.std.specs.Prelude.{OnOk}
 use Rattle.nofs_disk.specs.Disk.{DiskState, StaysButFaults}
 use Rattle.nofs_disk.specs.Chains.{StaysButFaults-trans}
 use Rattle.nofs_disk.specs.declared.Failed.{Failed}
@@ -30,6 +31,7 @@ use Rattle.nofs_names.specs.Drops.Emptiness.{pair_in, TellsPair, NoPairs, NamesO
 
 pub record Emptying (old now : DiskState) (d n m : ℕ) (last : LastRead) : Type 0 where
   pub stays : StaysButFaults old now
+  pub no_fault : now.faults ≡ old.faults
   pub kept : IsLast now last
   pub none : IsTrue old.tells → IsThere d old.now → (F : Files) → FilesMatch F old.now → NoPairs F d n → NoPairs F d m
 
@@ -77,6 +79,7 @@ module _ (old : DiskState) (at : SuperBlock) (d : ℕ) (dr : Record) (slot : ℕ
         (link_to d (16 * slot + place) dr.generation) payload place next r) e tells in
         record {
           stays = StaysButFaults-trans old now new g.stays s.stays;
+          no_fault = s.no_fault ∙ g.no_fault;
           kept = s.kept;
           none = λ t a F match p n high. elim (cases_lt n (16 * slot + place)) [
             | inl before ↦ g.none t a F match p n before
@@ -94,6 +97,7 @@ module _ (old : DiskState) (at : SuperBlock) (d : ℕ) (dr : Record) (slot : ℕ
         (link_to d (16 * slot + place) dr.generation) payload place next r) e tells in
         record {
           stays = StaysButFaults-trans old now new g.stays s.stays;
+          no_fault = s.no_fault ∙ g.no_fault;
           names = λ t a F match p. (16 * slot + place, omega (arith, small, low), sym (pair-is true s t a F match));
           kept = s.kept;
           cause = tt;
@@ -109,6 +113,7 @@ pub slot-empty : (old mid : DiskState) (at : SuperBlock) (d : ℕ) (dr : Record)
     → NamesOn old mid d (16 * slot) (16 * (slot + 1)) last (Ok false)
 slot-empty old mid at d dr slot path names last res b c known low path-is kept finds eb ec none = record {
   stays = finds.stays;
+  no_fault = subst (λ (r : Result PathAnswer Failed). OnOk r (mid.faults ≡ old.faults)) eb finds.no_fault;
   names = λ t a F match p n high. elim (cases_lt n (16 * slot)) [
     | inl before ↦ p n before
     | inr here ↦

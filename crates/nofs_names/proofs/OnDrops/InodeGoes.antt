@@ -158,7 +158,7 @@ removed-goes b new k l d g name r x c1 c2 q freed is_b is_new safe going it q-ki
 pub remove-ends : (old mid new : DiskState) (k m l : Books) (d g : ℕ) (name : List ℕ) (r : Record) (x : Pointer)
     (c1 before c2 : Cell) (q : Paired)
     (freed : List Bool) (result : Result (Unit {0}) Refusal) → IsDisk mid → IsDisk new → StaysButFaults old mid
-    → IsSafe old k → k.stopped ≡ false
+    → mid.faults ≡ old.faults → IsSafe old k → k.stopped ≡ false
     → KnowsDirectory old k.at d r.generation r
     → r.generation ≡ g → (IsTrue old.tells → KnownTrue k old.now → IsThere d old.now)
     → KnowsInode old k.at q.inode q.record → q.record.kind ≡ Some q.kind → FoundIn old d name q → HasNoNames old q.inode
@@ -169,12 +169,12 @@ pub remove-ends : (old mid new : DiskState) (k m l : Books) (d g : ℕ) (name : 
     → RowsPass old k (step.Drop d g name) → Stores mid k new m ((x.block, c1) ∷ (table_block q.inode, c2) ∷ []) result
     → (result ≡ Ok tt → FreedAs m l q.inode freed) → ((why : Refusal) → result ≡ Err why → l ≡ m)
     → Goes old k new l (step.Drop d g name) no_claims (done_answer (reply.Dropped true) result)
-remove-ends old mid new k m l d g name r x c1 before c2 q freed result is_mid is_new stays safe going directory gen
-    there record-known q-kind found-in
+remove-ends old mid new k m l d g name r x c1 before c2 q freed result is_mid is_new stays same safe going directory
+    gen there record-known q-kind found-in
     no_names loses positive held cleared table record-in table-tag blocks pass stores ok err =
     let dropping = is-dropping old k d g name r x c1 q directory gen there record-known found-in no_names positive held
     cleared in
-    goes-after old mid (reads-keep old mid stays) new k l (step.Drop d g name) no_claims
+    goes-after old mid (reads-keep old mid stays) same new k l (step.Drop d g name) no_claims
     (done_answer (reply.Dropped true) result)
     (removed-goes mid new k l d g name r x c1 c2 q freed is_mid is_new
     (safe-keeps old mid (reads-keep old mid stays) k safe) going

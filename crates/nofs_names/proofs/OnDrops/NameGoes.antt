@@ -109,8 +109,8 @@ dropped-goes b new k l d g name r x c1 c2 q result is_b is_new safe going it kee
 -- from the state before the table was read
 pub drop-ends : (old mid new : DiskState) (k l : Books) (d g : ℕ) (name : List ℕ) (r : Record) (x : Pointer)
     (c1 before c2 : Cell) (q : Paired)
-    (result : Result (Unit {0}) Refusal) → IsDisk mid → IsDisk new → StaysButFaults old mid → IsSafe old k
-    → k.stopped ≡ false
+    (result : Result (Unit {0}) Refusal) → IsDisk mid → IsDisk new → StaysButFaults old mid → mid.faults ≡ old.faults
+    → IsSafe old k → k.stopped ≡ false
     → KnowsDirectory old k.at d r.generation r
     → r.generation ≡ g → (IsTrue old.tells → KnownTrue k old.now → IsThere d old.now)
     → KnowsInode old k.at q.inode q.record → FoundIn old d name q → HasNoNames old q.inode
@@ -121,12 +121,12 @@ pub drop-ends : (old mid new : DiskState) (k l : Books) (d g : ℕ) (name : List
     → tag_of c2.tag ≡ Some (table_tag (table_block q.inode))
     → RowsPass old k (step.Drop d g name) → Stores mid k new l ((x.block, c1) ∷ (table_block q.inode, c2) ∷ []) result
     → Goes old k new l (step.Drop d g name) no_claims (done_answer (reply.Dropped false) result)
-drop-ends old mid new k l d g name r x c1 before c2 q result is_mid is_new stays safe going directory gen there
+drop-ends old mid new k l d g name r x c1 before c2 q result is_mid is_new stays same safe going directory gen there
     record-known found-in no_names keeps positive
     held cleared table record-in table-tag pass stores =
     let dropping = is-dropping old k d g name r x c1 q directory gen there record-known found-in no_names positive held
     cleared in
-    goes-after old mid (reads-keep old mid stays) new k l _ no_claims (done_answer (reply.Dropped false) result)
+    goes-after old mid (reads-keep old mid stays) same new k l _ no_claims (done_answer (reply.Dropped false) result)
     (dropped-goes mid new k l d g name r x c1 c2 q result is_mid is_new
     (safe-keeps old mid (reads-keep old mid stays) k safe) going
     (dropping-on old k d g name r x c1 q dropping mid stays)

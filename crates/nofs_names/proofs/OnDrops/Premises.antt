@@ -58,7 +58,8 @@ kept-on old new k it is c stays rest last res b e tells eb =
 -- the cell without the entry and a free record were written, from the state before the table was read
 pub removed-ends : (old mid new : DiskState) (k m l : Books) (it : Cleared) (before after : Cell)
     (freed : List Bool) (block : ℕ)
-    (result : Result (Unit {0}) Refusal) → IsDisk mid → IsDisk new → StaysButFaults old mid → IsCleared old k it
+    (result : Result (Unit {0}) Refusal) → IsDisk mid → IsDisk new → StaysButFaults old mid → mid.faults ≡ old.faults
+    → IsCleared old k it
     → LosesName old k it.pair.at.directory it.pair.at.generation it.pair.found → block ≡ table_block it.pair.found.inode
     → (IsTrue old.tells → before ≡ cell_at old.now block) → IsTable before it.pair.found.inode free_record after
     → BlocksOf old k.at it.pair.found.inode freed
@@ -66,11 +67,12 @@ pub removed-ends : (old mid new : DiskState) (k m l : Books) (it : Cleared) (bef
     → (result ≡ Ok tt → FreedAs m l it.pair.found.inode freed)
     → ((why : Refusal) → result ≡ Err why → l ≡ m)
     → DropGoes old k new l it.pair.at (done_answer (reply.Dropped true) result)
-removed-ends old mid new k m l it before after freed block result is_mid is_new stays c loses at_block cell table
-    blocks stores ok err =
+removed-ends old mid new k m l it before after freed block result is_mid is_new stays same c loses at_block cell
+    table blocks stores ok err =
     remove-ends old mid new k m l it.pair.at.directory it.pair.at.generation it.pair.at.name.now it.pair.it it.pointer
     it.cell before after it.pair.found
-    freed result is_mid is_new stays c.safe c.going c.finds.directory c.finds.generation c.finds.there c.finds.known.0
+    freed result is_mid is_new stays same c.safe c.going c.finds.directory c.finds.generation
+    c.finds.there c.finds.known.0
     c.finds.known.1 c.finds.found
     c.finds.no_names loses (let a = c.clears.area.0 in omega (arith, a)) c.clears.held c.clears.cleared
     (λ t. cell t ∙ ap (cell_at old.now) at_block)

@@ -50,6 +50,7 @@ module _ (old : DiskState) (at : SuperBlock) (q : Paired) (known : KnowsPaired o
   pub a-file : q.kind ≡ File → FindsEmpty old old q.inode (Ok tt)
   a-file e = record {
     stays = StaysButFaults-refl old;
+    no_fault = refl;
     none = λ t F match f b low. absurd
         (let z = folder-at F old.now q.inode q.record q.kind match (there-of F old.now q.inode match f) (known.0.same t)
         known.1 ∙ ap is_folder e in cc (z, f));
@@ -60,6 +61,7 @@ module _ (old : DiskState) (at : SuperBlock) (q : Paired) (known : KnowsPaired o
     pub is-empty : NamesOn old new q.inode 0 entry_limit last (Ok false) → FindsEmpty old new q.inode (Ok tt)
     is-empty s = record {
       stays = s.stays;
+      no_fault = s.no_fault;
       none = λ t F match f. s.names t (there-of F old.now q.inode match f) F match
           (λ e low. absurd (omega (arith, low)));
       refused = tt;
@@ -69,8 +71,9 @@ module _ (old : DiskState) (at : SuperBlock) (q : Paired) (known : KnowsPaired o
         → FindsEmpty old new q.inode (Err refusal.NotEmpty)
     is-filled s = record {
       stays = s.stays;
+      no_fault = tt;
       none = tt;
-      refused = ByRow refl tt (λ t there W match.
+      refused = ByRow refl tt s.no_fault (λ t there W match.
           let w = s.names t there W.files match (λ e low. absurd (omega (arith, low))) in
           let f = folder-at W.files old.now q.inode q.record q.kind match there (known.0.same t) known.1
           ∙ ap is_folder folder in

@@ -70,7 +70,7 @@ none-filled F i none = go (is_folder_at F i) refl
 module _ (old : DiskState) (k : Books) (d g : ℕ) (name : List ℕ) (is : IsDisk old) (safe : IsSafe old k)
     (going : k.stopped ≡ false) where
   pub drop-bad : is_name name ≡ false → Goes old k old k (step.Drop d g name) no_claims (reply.Refused refusal.BadName)
-  drop-bad bad = goes-bad old k (step.Drop d g name) is safe going (λ W. rw bad refl)
+  drop-bad bad = goes-bad old k (step.Drop d g name) is safe going (rw bad refl) (λ W. rw bad refl)
 
   module _ (ok : is_name name ≡ true) where
     rows-are : (W V : World) → first_of (rows W V (step.Drop d g name)) ≡ first_of
@@ -128,8 +128,8 @@ module _ (old : DiskState) (k : Books) (d g : ℕ) (name : List ℕ) (is : IsDis
 
           by-found : (why : Refusal) → Fails old end (IsThere q.inode) (filled_rows q.inode) why
               → Fails old end (KnownTrue k) (filled_rows q.inode) why
-          by-found why (ByRow plain range comes) =
-              ByRow plain range (λ t all W match. comes t (found-in t all W.files match).pair.agreed W match)
+          by-found why (ByRow plain range same comes) =
+              ByRow plain range same (λ t all W match. comes t (found-in t all W.files match).pair.agreed W match)
           by-found why (ByRead is rose) = ByRead is rose
 
           pub drop-filled : (res : Result (Unit {0}) Refusal) (why : Refusal)
@@ -139,6 +139,7 @@ module _ (old : DiskState) (k : Books) (d g : ℕ) (name : List ℕ) (is : IsDis
               goes-fails old end k (step.Drop d g name) (filled_rows q.inode) why is safe going
               (StaysButFaults-trans old new end to-new empty.stays)
               (by-found why (fails-after old new end (IsThere q.inode) (filled_rows q.inode) why to-new
+              (finds.no_fault ∙ opens.no_fault)
               (subst (λ (z : Result (Unit {0}) Refusal). IfErr z
               (Fails new end (IsThere q.inode) (filled_rows q.inode))) e empty.refused)))
               (λ t H p o z. to-filled t H p o p.world ∙ z) late

@@ -46,11 +46,17 @@ module _ (old mid : DiskState) (at : SuperBlock) (d k : ℕ) (path : Path) (path
       → a ≡ answer.Lost → FindsEntrySlot old mid at d k names (Err (refusal.LostSlot k))
   slot-lost a e h = let f = finds-as a answer.Lost e h in record {
     stays = f.stays;
+    no_fault = tt;
     fits = tt;
     found = tt;
     cell = tt;
     kept = tt;
-    refused = inl (refl, tt, λ t. let l = found-as answer.Lost f t in ((λ x q. cc (l, q)), (λ q. cc (l, q))));
+    refused = inl (
+      refl,
+      tt,
+      (λ t. let l = found-as answer.Lost f t in ((λ x q. cc (l, q)), (λ q. cc (l, q)))),
+      f.no_fault,
+    );
   }
 
   pub slot-hole : (a : PathAnswer) → res ≡ Ok a → a ≡ answer.Hole → IsTrue mid.tells
@@ -72,6 +78,7 @@ hole-under old mid at d k names a res high low hole f is = go a f is
     go (answer.Holds y) f e = subst (λ (r : Result EntrySlot Refusal). FindsEntrySlot old mid at d k names r) (sym e)
         (record {
           stays = f.stays;
+          no_fault = f.no_fault;
           fits = (high, f.area);
           found = λ t. (hole t, sym (f.found t));
           cell = f.cell;
@@ -81,6 +88,7 @@ hole-under old mid at d k names a res high low hole f is = go a f is
     go answer.Hole f e = subst (λ (r : Result EntrySlot Refusal). FindsEntrySlot old mid at d k names r) (sym e)
         (record {
           stays = f.stays;
+          no_fault = f.no_fault;
           fits = high;
           found = λ t. (hole t, sym (f.found t));
           cell = λ t. tt;
@@ -97,7 +105,9 @@ hole-under old mid at d k names a res high low hole f is = go a f is
                 ∙ lost-below old.now d _ (sym (f.found t)) in
                 let h = hole t in
                 ((λ x q. cc (lost, q)), (λ q. cc (lost, q))),
+            f.no_fault,
           );
+          no_fault = tt;
           stays = f.stays;
           fits = tt;
           found = tt;

@@ -26,7 +26,7 @@ use Rattle.nofs_agree.specs.Chain.{AreTrue, TellsAgreed, is_agreed_link}
 use Rattle.nofs_agree.specs.declared.reads.LastRead.{LastRead}
 use Rattle.nofs_agree.proofs.OnPair.{four-links}
 use Rattle.nofs_agree.proofs.OnChain.{told-on, record-of, KnowsInode-on}
-use Rattle.nofs_state.specs.Inodes.Opened.{Opens, OpenFails, is_current}
+use Rattle.nofs_state.specs.Inodes.Opened.{Opens, OpenFails, is_current, met_fault}
 use Rattle.nofs_state.specs.declared.books.maps.Books.{Books}
 use Rattle.nofs_state.specs.declared.inodes.opened.Opened.{Opened}
 use Rattle.nofs_names.specs.Searches.Refusals.{Fails, ByRow, ByRead, KnownTrue}
@@ -41,18 +41,20 @@ use Rattle.nofs_names.specs.Links.{place_or_many}
 both-refused : (old new : DiskState) (k : Books) (d g i of : ℕ) (why : Refusal) → StaysButFaults old new
     → Fails old new (KnownTrue k) (both_rows d g i of) why → OpensBoth old new k d g i of (Err why)
 both-refused old new k d g i of why stays fails =
-    record { stays = stays; known = tt; there = tt; passes = tt; refused = fails }
+    record { stays = stays; no_fault = tt; known = tt; there = tt; passes = tt; refused = fails }
 
 module _ (old mid : DiskState) (k : Books) (d g i of : ℕ) (last : LastRead) (res : Result Opened Refusal)
     (opens : Opens old mid k d g last res) where
   pub both-no-directory : (why : Refusal) → res ≡ Err why → OpensBoth old mid k d g i of (Err why)
   both-no-directory why e = both-refused old mid k d g i of why opens.stays
-      (go why (subst (λ (q : Result Opened Refusal). IfErr q (OpenFails old mid k d g)) e opens.refused))
+      (go why e (subst (λ (q : Result Opened Refusal). IfErr q (OpenFails old mid k d g)) e opens.refused))
     where
-      go : (w : Refusal) → OpenFails old mid k d g w → Fails old mid (KnownTrue k) (both_rows d g i of) w
-      go refusal.Stale fails = ByRow refl tt (λ t all W match. rw (stale-some W old.now d g match (fails t all)) refl)
-      go refusal.ReadFault fails = ByRead refl fails
-      go _ fails = absurd fails
+      go : (w : Refusal) → res ≡ Err w → OpenFails old mid k d g w
+          → Fails old mid (KnownTrue k) (both_rows d g i of) w
+      go refusal.Stale e fails = ByRow refl tt (opens.no_fault (ap met_fault e))
+          (λ t all W match. rw (stale-some W old.now d g match (fails t all)) refl)
+      go refusal.ReadFault e fails = ByRead refl fails
+      go _ e fails = absurd fails
 
   module _ (a : Opened) (is : res ≡ Ok a) (new : DiskState) (next : LastRead) (res2 : Result Opened Refusal)
       (opens2 : Opens mid new k i of next res2) where
@@ -64,21 +66,26 @@ module _ (old mid : DiskState) (k : Books) (d g i of : ℕ) (last : LastRead) (r
 
     pub both-no-file : (why : Refusal) → res2 ≡ Err why → OpensBoth old new k d g i of (Err why)
     both-no-file why e = both-refused old new k d g i of why after
-        (go why (subst (λ (q : Result Opened Refusal). IfErr q (OpenFails mid new k i of)) e opens2.refused))
+        (go why e (subst (λ (q : Result Opened Refusal). IfErr q (OpenFails mid new k i of)) e opens2.refused))
       where
-        go : (w : Refusal) → OpenFails mid new k i of w → Fails old new (KnownTrue k) (both_rows d g i of) w
-        go refusal.Stale fails = ByRow refl tt (λ t all W match.
+        go : (w : Refusal) → res2 ≡ Err w → OpenFails mid new k i of w
+            → Fails old new (KnownTrue k) (both_rows d g i of) w
+        go refusal.Stale e fails =
+            ByRow refl tt (opens2.no_fault (ap met_fault e) ∙ one.no_fault refl) (λ t all W match.
             let no : is_current old.now i of ≡ false =
             subst (λ (X : Image). AreTrue X k.agreement → is_current X i of ≡ false) one.stays.cells.now
             (fails (told-on old mid one.stays t)) all in
             rw (stale-none W old.now d g match (one.current t all), stale-some W old.now i of match no) refl)
-        go refusal.ReadFault fails = ByRead refl
+        go refusal.ReadFault e fails = ByRead refl
             (Rose-within old.faults mid.faults new.faults new.faults one.stays.disk.faults fails (le_refl new.faults))
-        go _ fails = absurd fails
+        go _ e fails = absurd fails
 
     module _ (b : Opened) (is2 : res2 ≡ Ok b) where
       two : Opens mid new k i of next (Ok b)
       two = subst (λ (q : Result Opened Refusal). Opens mid new k i of next q) is2 opens2
+
+      quiet : new.faults ≡ old.faults
+      quiet = two.no_fault refl ∙ one.no_fault refl
 
       file-current : IsTrue old.tells → KnownTrue k old.now → is_current old.now i of ≡ true
       file-current t = subst (λ (X : Image). AreTrue X k.agreement → is_current X i of ≡ true) one.stays.cells.now
@@ -102,7 +109,8 @@ module _ (old mid : DiskState) (k : Books) (d g i of : ℕ) (last : LastRead) (r
           subst (λ (r : Result _ Refusal). OpensBoth old new k d g i of r) (sym e) (go a.kind b.kind refl refl)
         where
           go : (p q : FileKind) → a.kind ≡ p → b.kind ≡ q → OpensBoth old new k d g i of (both_as p q a.found b.found)
-          go File q ep eq = both-refused old new k d g i of refusal.NotDirectory after (ByRow refl tt (λ t all W match.
+          go File q ep eq = both-refused old new k d g i of refusal.NotDirectory after
+              (ByRow refl tt quiet (λ t all W match.
               let f : is_folder_at W.files d ≡ false = directory-kind t all W match ∙ ap is_folder ep in
               rw (
                 stale-none W old.now d g match (one.current t all),
@@ -110,7 +118,7 @@ module _ (old mid : DiskState) (k : Books) (d g i of : ℕ) (last : LastRead) (r
                 f,
               ) refl))
           go Directory Directory ep eq =
-              both-refused old new k d g i of refusal.IsDirectory after (ByRow refl tt (λ t all W match.
+              both-refused old new k d g i of refusal.IsDirectory after (ByRow refl tt quiet (λ t all W match.
               let f : is_folder_at W.files d ≡ true = directory-kind t all W match ∙ ap is_folder ep in
               let h : is_folder_at W.files i ≡ true = file-kind t all W match ∙ ap is_folder eq in
               rw (
@@ -121,6 +129,7 @@ module _ (old mid : DiskState) (k : Books) (d g i of : ℕ) (last : LastRead) (r
               ) refl))
           go Directory File ep eq = record {
             stays = after;
+            no_fault = quiet;
             known = record {
               directory = record {
                 known = KnowsInode-on mid new k.at d a.found two.stays one.known.known;
@@ -170,6 +179,7 @@ pub record Lives (old now : DiskState) (known : List (Option Bool)) (i : ℕ) (r
   pub all : IsTrue old.tells → AreTrue old.now known
       → (m : ℕ) → m < place → is_agreed_link (files_in old.now) i (get_or r.links m no_link) ≡ true
   pub stays : StaysButFaults old now
+  pub no_fault : now.faults ≡ old.faults
   pub kept : IsLast now last
 
 module _ (old now new : DiskState) (known : List (Option Bool)) (i : ℕ) (r : Record) (last next : LastRead) (place : ℕ)
@@ -193,6 +203,7 @@ module _ (old now new : DiskState) (known : List (Option Bool)) (i : ℕ) (r : R
   pub lives-goes : res ≡ Ok true → Lives old new known i r next (place + 1)
   lives-goes e = record {
     stays = StaysButFaults-trans old now new p.stays reads.stays;
+    no_fault = (reads-as true e).no_fault ∙ p.no_fault;
     kept = (reads-as true e).kept;
     all = λ t a m low. elim (cases_lt m place) [
       | inl before ↦ p.all t a m before
@@ -206,6 +217,7 @@ module _ (old now new : DiskState) (known : List (Option Bool)) (i : ℕ) (r : R
       → TellsDeadPlace old new known i r next (Ok (Some place))
   lives-ends e low four = record {
     stays = StaysButFaults-trans old now new p.stays reads.stays;
+    no_fault = (reads-as false e).no_fault ∙ p.no_fault;
     range = low;
     found = λ t a. sym (place-next (λ link. not (is_agreed_link (files_in old.now) i link)) r.links 0 place
         (let f = four t in omega (arith, low, f))
@@ -221,6 +233,7 @@ pub lives-all : (old now : DiskState) (known : List (Option Bool)) (i : ℕ) (r 
     → (IsTrue old.tells → length r.links ≡ 4) → TellsDeadPlace old now known i r last (Ok None)
 lives-all old now known i r last place p all four = record {
   stays = p.stays;
+  no_fault = p.no_fault;
   range = tt;
   found = λ t a. sym (place-none (λ link. not (is_agreed_link (files_in old.now) i link)) r.links 0
       (λ m lt. ap not (p.all t a m (let f = four t in omega (arith, lt, all, f)))));
@@ -256,10 +269,11 @@ module _ (old : DiskState) (at : SuperBlock) (known : List (Option Bool)) (i : �
   pub link-second : i ≡ 2 → FindsLinkPlace old old known i last (Err refusal.TooManyLinks)
   link-second e = record {
     stays = StaysButFaults-refl old;
+    no_fault = tt;
     range = tt;
     found = tt;
     kept = tt;
-    refused = ByRow refl tt
+    refused = ByRow refl tt refl
         (λ t given W match. let n = place-second W.files i e in rw n refl);
   }
 
@@ -267,6 +281,7 @@ module _ (old : DiskState) (at : SuperBlock) (known : List (Option Bool)) (i : �
       → FindsLinkPlace old old known i last (Ok b)
   link-empty b ne e low kept = record {
     stays = StaysButFaults-refl old;
+    no_fault = refl;
     range = low;
     found = λ t given F match. place-as F old.now i r ne match given.1 (is.same t) ∙ rw e refl;
     kept = kept;
@@ -294,14 +309,16 @@ module _ (old : DiskState) (at : SuperBlock) (known : List (Option Bool)) (i : �
             → FindsLinkPlace old mid known i next (place_or_many q)
         go None tells = record {
           stays = tells.stays;
+          no_fault = tt;
           range = tt;
           found = tt;
           kept = tt;
-          refused = ByRow refl tt
+          refused = ByRow refl tt tells.no_fault
               (λ t given W match. let n = place-is None tells t given W.files match in rw n refl);
         }
         go (Some b) tells = record {
           stays = tells.stays;
+          no_fault = tells.no_fault;
           range = tells.range;
           found = λ t given F match. place-is (Some b) tells t given F match;
           kept =

@@ -27,7 +27,7 @@ use Rattle.nofs_crashlaw.proofs.OnUntouched.Matches.{matched-agreed}
 use Rattle.nofs_crashlaw.proofs.OnNames.Places.{law-entry-place}
 use Rattle.nofs_state.proofs.OnCores.Unchanged.{open-keeps, reads-keep, safe-keeps}
 use Rattle.nofs_state.proofs.OnBooks.Machine.{agreed-live, are-agreed}
-use Rattle.nofs_state.proofs.OnCores.Replies.{goes-row, goes-read, open-files}
+use Rattle.nofs_state.proofs.OnCores.Replies.{goes-early, goes-row, goes-read, open-files}
 use Rattle.nofs_state.proofs.OnCores.Refusals.{IsLate, first-late, late-row}
 use Rattle.nofs_names.proofs.OnSteps.Reads.{rows-on}
 use Rattle.nofs_names.proofs.OnSteps.Parts.{first-left, fails-after}
@@ -68,8 +68,8 @@ module _ (old : DiskState) (k : Books) (d g : ℕ) (name : List ℕ) (i of : ℕ
 
   pub link-bad : is_name name ≡ false
       → Goes old k old k (step.Link d g name i of) no_claims (reply.Refused refusal.BadName)
-  link-bad bad = goes-row old old k (step.Link d g name i of) is safe
-      (StaysButFaults-refl old) refusal.BadName refl tt going (λ tells H p o. rw bad refl)
+  link-bad bad = goes-early old old k (step.Link d g name i of) is safe
+      (StaysButFaults-refl old) refl refusal.BadName refl tt going (rw bad refl) (λ tells H p o. rw bad refl)
 
   module _ (ok : is_name name ≡ true) where
     rows-are : (W V : World) → first_of (rows W V (step.Link d g name i of)) ≡ first_of
@@ -126,8 +126,8 @@ module _ (old : DiskState) (k : Books) (d g : ℕ) (name : List ℕ) (i of : ℕ
         → Fails old mid given part why
         → (IsTrue old.tells → (H : List Entry1) (p : Past) → IsOpen old k H p → given old.now)
         → Goes old k mid k (step.Link d g name i of) no_claims (reply.Refused why)
-    link-fails mid given part rest why stays lead (ByRow plain range comes) of_open =
-        goes-row old mid k (step.Link d g name i of) is safe stays why plain
+    link-fails mid given part rest why stays lead (ByRow plain range same comes) of_open =
+        goes-row old mid k (step.Link d g name i of) is safe stays same why plain
         range going
         (λ t H p o. lead t H p o p.world ∙ first-left (part p.world) (rest p.world p.world) why
         (comes t (of_open t H p o) p.world (open-files old k H p o)))
@@ -198,7 +198,7 @@ module _ (old : DiskState) (k : Books) (d g : ℕ) (name : List ℕ) (i of : ℕ
           link-many res why finds e =
               link-fails end (IsKnown k.agreement i) (many_rows i) (new_rows d name (step.Link d g name i of)) why
               (StaysButFaults-trans old mid end none.stays finds.stays) lead-many
-              (fails-after old mid end (IsKnown k.agreement i) (many_rows i) why none.stays
+              (fails-after old mid end (IsKnown k.agreement i) (many_rows i) why none.stays none.no_fault
               (subst (λ (r : Result ℕ Refusal). IfErr r (Fails mid end (IsKnown k.agreement i) (many_rows i))) e
               finds.refused)) known-i
 
@@ -231,7 +231,8 @@ module _ (old : DiskState) (k : Books) (d g : ℕ) (name : List ℕ) (i of : ℕ
             pub link-full : (res : Result ℕ Refusal) → IsPlaceOf u res → res ≡ Err refusal.DirectoryFull
                 → Goes old k end k (step.Link d g name i of) no_claims (reply.Refused refusal.DirectoryFull)
             link-full res is_place e =
-                goes-row old end k (step.Link d g name i of) is safe stays refusal.DirectoryFull refl tt going
+                goes-row old end k (step.Link d g name i of) is safe stays
+                (finds.no_fault ∙ none.no_fault) refusal.DirectoryFull refl tt going
                 (λ t H p o. lead-place t H p o p.world
                 ∙ go p (place_for p.world.files d name) refl (sym e ∙ place-as res is_place t H p o))
               where
@@ -273,7 +274,8 @@ module _ (old : DiskState) (k : Books) (d g : ℕ) (name : List ℕ) (i of : ℕ
         where
           go : SlotFails old mid d (e / 16) why
               → Goes old k mid k (step.Link d g name i of) no_claims (reply.Refused why)
-          go (inl f) = goes-row old mid k (step.Link d g name i of) is safe finds.stays why f.0 f.1 going (λ t H p o.
+          go (inl f) =
+              goes-row old mid k (step.Link d g name i of) is safe finds.stays f.3 why f.0 f.1 going (λ t H p o.
               let a = (there t (are-agreed old k H p safe o)).0 in
               let m = matched-agreed p.world.files old.now d (open-files old k H p o) (agreed-live old.now d a) a in
               let law = law-entry-place p.world.files old.now d e name m.file (open-files old k H p o) m.is
@@ -284,7 +286,7 @@ module _ (old : DiskState) (k : Books) (d g : ℕ) (name : List ℕ) (i of : ℕ
               subst (λ (w : Refusal). Goes old k mid k (step.Link d g name i of) no_claims (reply.Refused w)) (sym f.0)
               (link-unread mid finds.stays f.1)
 
-      module _ (mid : DiskState) (stays : StaysButFaults old mid) (n : ℕ)
+      module _ (mid : DiskState) (stays : StaysButFaults old mid) (same : mid.faults ≡ old.faults) (n : ℕ)
           (needs : IsTrue old.tells → (H : List Entry1) (p : Past) → IsOpen old k H p
           → blocks_needed p.world.files (step.Link d g name i of) ≡ n) where
         rows-by : (H : List Entry1) (p : Past) → IsTrue old.tells → IsOpen old k H p → (V : World)
@@ -298,7 +300,7 @@ module _ (old : DiskState) (k : Books) (d g : ℕ) (name : List ℕ) (i of : ℕ
             → Goes old k mid k (step.Link d g name i of) no_claims (reply.Refused why)
         link-untaken res why takes er =
             let f = subst (λ (r : Result EntryBlocks Refusal). TakesBlocks k n 0 r) er takes in
-            goes-row old mid k (step.Link d g name i of) is safe stays why f.refused.0 f.refused.1 going
+            goes-row old mid k (step.Link d g name i of) is safe stays same why f.refused.0 f.refused.1 going
             (λ t H p o. rows-by H p t o p.world ∙ f.refused.2 p.world o.says)
 
         pub link-passes : (b : EntryBlocks) → TakesBlocks k n 0 (Ok b) → RowsPass mid k (step.Link d g name i of)

@@ -27,6 +27,7 @@ use Rattle.nofs_agree.specs.declared.reads.LastRead.{LastRead}
 use Rattle.nofs_agree.proofs.OnChain.{told-on, record-of}
 use Rattle.nofs_state.specs.Books.Maps.{IsSafe}
 use Rattle.nofs_history.specs.Writes.{makes_calls}
+use Rattle.nofs_history.specs.Faults.{is_fault}
 use Rattle.nofs_state.specs.Cores.Steps.{Goes}
 use Rattle.nofs_state.specs.declared.books.maps.Books.{Books}
 use Rattle.nofs_state.specs.Inodes.Blocks.{MarkFails}
@@ -36,6 +37,7 @@ use Rattle.nofs_state.proofs.OnCores.Replies.{goes-answer, goes-read, open-files
 use Rattle.nofs_state.proofs.OnCores.Refusals.{IsLate, first-late, late-row}
 use Rattle.nofs_state.proofs.OnBooks.Machine.{are-agreed}
 use Rattle.nofs_state.proofs.OnBooks.Counts.{least-none}
+use Rattle.nofs_state.specs.Inodes.Opened.{met_fault}
 use Rattle.nofs_names.proofs.OnEntries.Least.{least-first}
 use Rattle.nofs_names.proofs.OnSearches.Progress.{value-at}
 use Rattle.nofs_names.specs.Searches.Refusals.{IsThere, directory_rows, OpensDirectory}
@@ -46,19 +48,20 @@ use Rattle.nofs_names.proofs.OnSteps.Parts.{Unopened, goes-unopened}
 
 -- it may be one that found no memory, wherever it ends
 module _ (old : DiskState) (k : Books) (d g slot : ℕ) (safe : IsSafe old k) where
-  pub list-memory : (new : DiskState) → StaysButFaults old new
+  pub list-memory : (new : DiskState) → StaysButFaults old new → new.faults ≡ old.faults
       → Goes old k new k (step.List d g slot) no_claims (reply.Refused refusal.OutOfMemory)
-  list-memory new stays = goes-memory old new (reads-keep old new stays) k (step.List d g slot) no_claims safe
+  list-memory new stays same = goes-memory old new (reads-keep old new stays) same k (step.List d g slot) no_claims safe
 
   pub list-memory-found : (mid new : DiskState) → StaysButFaults old mid → StaysButFaults mid new
+      → new.faults ≡ old.faults
       → Goes old k new k (step.List d g slot) no_claims (reply.Refused refusal.OutOfMemory)
-  list-memory-found mid new opened found = list-memory new (StaysButFaults-trans old mid new opened found)
+  list-memory-found mid new opened found same = list-memory new (StaysButFaults-trans old mid new opened found) same
 
   pub list-memory-read : (mid new end : DiskState) → StaysButFaults old mid → StaysButFaults mid new
-      → StaysButFaults new end
+      → StaysButFaults new end → end.faults ≡ old.faults
       → Goes old k end k (step.List d g slot) no_claims (reply.Refused refusal.OutOfMemory)
-  list-memory-read mid new end opened found read =
-      list-memory end (StaysButFaults-trans old new end (StaysButFaults-trans old mid new opened found) read)
+  list-memory-read mid new end opened found read same =
+      list-memory end (StaysButFaults-trans old new end (StaysButFaults-trans old mid new opened found) read) same
 
 module _ (old : DiskState) (k : Books) (d g slot : ℕ) (is : IsDisk old) (safe : IsSafe old k)
     (going : k.stopped ≡ false) where
@@ -81,12 +84,13 @@ module _ (old : DiskState) (k : Books) (d g slot : ℕ) (is : IsDisk old) (safe 
 
     -- an answer, where the machine's is the same over any files that match
     answers : (new : DiskState) (it : Reply) → is_refused it ≡ false → makes_calls it ≡ false → StaysButFaults mid new
+        → new.faults ≡ mid.faults
         → (IsTrue old.tells → IsThere d old.now → (F : Files) → FilesMatch F old.now
         → it ≡ listed_reply F d (least_from (λ l. not (is_hole (value_of F d l))) slot (72 - slot)))
         → Goes old k new k (step.List d g slot) no_claims it
-    answers new it accepted plain stays comes =
+    answers new it accepted plain stays same comes =
         goes-answer old new k (step.List d g slot) is safe (StaysButFaults-trans old mid new opens.stays stays)
-        it accepted plain (list-reads d g slot) going
+        (same ∙ opens.no_fault) it accepted plain (list-reads d g slot) going
         (λ t H p o.
         let all = are-agreed old k H p safe o in
         let match = open-files old k H p o in
@@ -106,7 +110,7 @@ module _ (old : DiskState) (k : Books) (d g slot : ℕ) (is : IsDisk old) (safe 
           (finds.found (told-on old mid opens.stays t)))
 
       pub list-none : s ≡ found.NoMore → Goes old k new k (step.List d g slot) no_claims reply.NoMore
-      list-none e = answers new reply.NoMore refl refl finds.stays (λ t there F match.
+      list-none e = answers new reply.NoMore refl refl finds.stays finds.no_fault (λ t there F match.
           let none : least_from (λ l. not (is_hole (value_of F d l))) slot (72 - slot) ≡ None =
           least-none (λ l. not (is_hole (value_of F d l))) slot (72 - slot) (λ l low high.
           let v = value-in t there F match l Hole (omega (arith, low, high))
@@ -126,7 +130,8 @@ module _ (old : DiskState) (k : Books) (d g slot : ℕ) (is : IsDisk old) (safe 
 
       pub list-lost : (here number : ℕ) → s ≡ found.Lost here
           → number ≡ here → Goes old k new k (step.List d g slot) no_claims (reply.LostNames number)
-      list-lost here number e en = answers new (reply.LostNames number) refl refl finds.stays (λ t there F match.
+      list-lost here number e en =
+          answers new (reply.LostNames number) refl refl finds.stays finds.no_fault (λ t there F match.
           let q = listed (found.Lost here) e t in
           let low : here < 72 = subst (λ (w : ListedSlot). InDirectory w) e finds.range in
           let v = value-in t there F match here Lost low q.2 in
@@ -143,6 +148,7 @@ module _ (old : DiskState) (k : Books) (d g slot : ℕ) (is : IsDisk old) (safe 
             subst (λ (z : Result (List NameLine) Refusal). ReadsLines new end d here z) er reads in
             let stays : StaysButFaults old new = StaysButFaults-trans old mid new opens.stays finds.stays in
             answers end (reply.Names number lines) refl refl (StaysButFaults-trans mid new end finds.stays reads.stays)
+            (ok.no_fault refl ∙ finds.no_fault)
             (λ t there F match.
             let q = listed (found.Holds here) e t in
             let low : here < 72 = subst (λ (w : ListedSlot). InDirectory w) e finds.range in
@@ -166,7 +172,9 @@ module _ (old : DiskState) (k : Books) (d g slot : ℕ) (is : IsDisk old) (safe 
             go : MarkFails new end why → Goes old k end k (step.List d g slot) no_claims (reply.Refused why)
             go (inl m) =
                 subst (λ (w : Refusal). Goes old k end k (step.List d g slot) no_claims (reply.Refused w)) (sym m)
-                (goes-memory old end (reads-keep old end stays) k (step.List d g slot) no_claims safe)
+                (goes-memory old end (reads-keep old end stays) (reads.no_fault
+                (ap met_fault er ∙ ap (λ (w : Refusal). is_fault (reply.Refused w)) m)
+                ∙ (finds.no_fault ∙ opens.no_fault)) k (step.List d g slot) no_claims safe)
             go (inr f) =
                 subst (λ (w : Refusal). Goes old k end k (step.List d g slot) no_claims (reply.Refused w)) (sym f.0)
                 (goes-read old end k (step.List d g slot) is safe stays going

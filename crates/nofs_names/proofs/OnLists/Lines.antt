@@ -81,6 +81,7 @@ module _ (F : Files) (X : Image) (d : ℕ) (dr : Record) (match : FilesMatch F X
 
 pub record Lining (old now : DiskState) (d slot n : ℕ) (so_far : List NameLine) (last : LastRead) : Type 0 where
   pub stays : StaysButFaults old now
+  pub no_fault : now.faults ≡ old.faults
   pub kept : IsLast now last
   pub lines : IsTrue old.tells → IsThere d old.now → (F : Files) → FilesMatch F old.now
       → so_far ≡ lines_from F d (16 * slot) n
@@ -115,6 +116,7 @@ module _ (old now new : DiskState) (at : SuperBlock) (d slot n : ℕ) (dr : Reco
       (link_to d (16 * slot + n) dr.generation) payload n next r) e reads in
       record {
         stays = StaysButFaults-trans old now new s.stays q.stays;
+        no_fault = q.no_fault refl ∙ s.no_fault;
         kept = q.kept;
         lines = λ t a F m.
             let here : line ≡ name_line_in old.now (link_to d (16 * slot + n) dr.generation) (entry_in payload n) =
@@ -137,6 +139,7 @@ pub lining-ends : (old now : DiskState) (d slot n : ℕ) (so_far : List NameLine
 unfolding lines_in_slot
 lining-ends old now d slot n so_far last s e = record {
   stays = s.stays;
+  no_fault = λ e. s.no_fault;
   lines = λ t a F m. s.lines t a F m ∙ ap (lines_from F d (16 * slot)) e;
   few = (let f = s.few in omega (arith, f, e));
   named = s.named;

@@ -25,7 +25,7 @@ use Rattle.nofs_names.proofs.OnMakes.Rows.{left-on, make-inode, make-no-blocks, 
 use Rattle.nofs_names.proofs.OnMakes.Rows.{slot-needs}
 
 module _ (old mid : DiskState) (k : Books) (to : NewFile) (name : List ℕ) (e : ℕ) (is : IsDisk mid)
-    (stays : StaysButFaults old mid) (safe : IsSafe old k)
+    (stays : StaysButFaults old mid) (same : mid.faults ≡ old.faults) (safe : IsSafe old k)
     (going : k.stopped ≡ false) (into : GoesIn old k to name e)
     (left : RowsLeft old k to.directory to.generation name to.kind) where
   kept : IsSafe mid k
@@ -34,7 +34,7 @@ module _ (old mid : DiskState) (k : Books) (to : NewFile) (name : List ℕ) (e :
   on : (why : Refusal)
       → Goes mid k mid k (step.Make to.directory to.generation name to.kind) no_claims (reply.Refused why)
       → Goes old k mid k (step.Make to.directory to.generation name to.kind) no_claims (reply.Refused why)
-  on why = goes-after old mid (reads-keep old mid stays) mid k k
+  on why = goes-after old mid (reads-keep old mid stays) same mid k k
       (step.Make to.directory to.generation name to.kind) no_claims (reply.Refused why)
 
   pub no-inode-goes : (res : Result ℕ Refusal) (why : Refusal) → FindsInode k res → res ≡ Err why

@@ -44,7 +44,7 @@ use Rattle.nofs_names.proofs.OnSteps.Parts.{goes-within}
 use Rattle.nofs_crashlaw.proofs.OnNames.Premises.{least-passes}
 use Rattle.nofs_state.specs.Books.Maps.{IsSafe, Says}
 use Rattle.nofs_state.specs.Cores.Invariant.{IsOpen, Past}
-use Rattle.nofs_state.specs.Cores.Steps.{Goes, is_plain}
+use Rattle.nofs_state.specs.Cores.Steps.{Goes, is_late}
 use Rattle.nofs_state.specs.declared.books.maps.Books.{Books}
 use Rattle.nofs_names.specs.Searches.Slots.{Passed}
 use Rattle.nofs_names.specs.Searches.Refusals.{KnownTrue, IsThere, directory_rows, exists_rows, OpensDirectory}
@@ -90,7 +90,7 @@ module _ (old : DiskState) (k : Books) (d g : ℕ) (name : List ℕ) (kind : Fil
     (safe : IsSafe old k) (going : k.stopped ≡ false) where
   pub make-bad : is_name name ≡ false
       → Goes old k old k (step.Make d g name kind) no_claims (reply.Refused refusal.BadName)
-  make-bad bad = goes-bad old k (step.Make d g name kind) is safe going (λ W. rw bad refl)
+  make-bad bad = goes-bad old k (step.Make d g name kind) is safe going (rw bad refl) (λ W. rw bad refl)
 
   module _ (ok : is_name name ≡ true) where
     rows-are : (W V : World) → first_of (rows W V (step.Make d g name kind)) ≡ first_of
@@ -165,7 +165,8 @@ module _ (old : DiskState) (k : Books) (d g : ℕ) (name : List ℕ) (kind : Fil
             → Goes old k new k (step.Make d g name kind) no_claims (reply.Refused why)
         make-no-place res why place e full-is = subst
             (λ (w : Refusal). Goes old k new k (step.Make d g name kind) no_claims (reply.Refused w)) (sym full-is)
-            (goes-row old new k (step.Make d g name kind) is safe stays refusal.DirectoryFull refl tt going
+            (goes-row old new k (step.Make d g name kind) is safe stays
+            (none.no_fault ∙ opens.no_fault) refusal.DirectoryFull refl tt going
             (λ t H p o. to-place t H p o p.world
             ∙ row-comes (place_for p.world.files d name) refl (sym e ∙ place-here res place t H p o) p))
           where
@@ -215,7 +216,7 @@ module _ (old : DiskState) (k : Books) (d g : ℕ) (name : List ℕ) (kind : Fil
       finds.refused)
     where
       go : SlotFails old mid d (e / 16) why → Goes old k mid k (step.Make d g name kind) no_claims (reply.Refused why)
-      go (inl f) = goes-row old mid k (step.Make d g name kind) is safe finds.stays why f.0 f.1 going
+      go (inl f) = goes-row old mid k (step.Make d g name kind) is safe finds.stays f.3 why f.0 f.1 going
           (λ t H p o. absurd (never t H p o (f.2 t)))
         where
           never : IsTrue old.tells → (H : List Entry1) (p : Past) → IsOpen old k H p
@@ -247,7 +248,7 @@ module _ (old : DiskState) (k : Books) (d g : ℕ) (name : List ℕ) (kind : Fil
       go (inl ((next, is-why, small, same), none)) =
           subst (λ (w : Refusal). Goes old k old k (step.Make d g name kind) no_claims (reply.Refused w))
           (sym is-why)
-          (goes-row old old k (step.Make d g name kind) is safe (StaysButFaults-refl old)
+          (goes-row old old k (step.Make d g name kind) is safe (StaysButFaults-refl old) refl
           (refusal.InodesFull (count_set k.unknown_inodes) next) refl
           (few-unknown, omega (arith, small)) going
           (λ t H p o.
@@ -260,7 +261,7 @@ module _ (old : DiskState) (k : Books) (d g : ℕ) (name : List ℕ) (kind : Fil
       go (inr (is-why, low)) =
           subst (λ (w : Refusal). Goes old k old k (step.Make d g name kind) no_claims (reply.Refused w)) (sym is-why)
           (goes-row old old k (step.Make d g name kind) is safe
-          (StaysButFaults-refl old) refusal.SerialsSpent refl tt going
+          (StaysButFaults-refl old) refl refusal.SerialsSpent refl tt going
           (λ t H p o. absurd (raised (ltb 0 k.at.mount) refl (ltb 0 k.serial) refl low p H o)))
         where
           raised : (a : Bool) → ltb 0 k.at.mount ≡ a → (b : Bool) → ltb 0 k.serial ≡ b → (a || b) ≡ false → (p : Past)
@@ -297,9 +298,9 @@ module _ (old : DiskState) (k : Books) (d g : ℕ) (name : List ℕ) (kind : Fil
   pub make-no-blocks : (res : Result EntryBlocks Refusal) (why : Refusal) → TakesBlocks k n 1 res → res ≡ Err why
       → Goes old k old k (step.Make d g name kind) no_claims (reply.Refused why)
   make-no-blocks res why takes e =
-      let f = subst (λ (z : Result EntryBlocks Refusal). IfErr z (λ w. (is_plain w ≡ true) ×
+      let f = subst (λ (z : Result EntryBlocks Refusal). IfErr z (λ w. (is_late w ≡ true) ×
       InRange w × ((W : World) → Says k W → first_of (room_rows n 1 W W) ≡ Some w))) e takes.refused in
-      goes-row old old k (step.Make d g name kind) is safe (StaysButFaults-refl old) why f.0 f.1 going
+      goes-row old old k (step.Make d g name kind) is safe (StaysButFaults-refl old) refl why f.0 f.1 going
       (λ t H p o. room-is t H p o p.world ∙ f.2 p.world o.says)
 
   pub make-passes : (b : EntryBlocks) → TakesBlocks k n 1 (Ok b) → RowsPass old k (step.Make d g name kind)

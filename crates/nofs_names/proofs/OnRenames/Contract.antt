@@ -97,7 +97,7 @@ module _ (old mid : DiskState) (k : Books) (d g : ℕ) (name other : List ℕ) (
 
   pub rename-ends : (new : DiskState) (l : Books) (x : Pointer) (before c : Cell) (result : Result (Unit {0}) Refusal)
       → IsDisk mid → IsDisk new
-      → StaysButFaults old mid → InArea k.at (answer.Holds x)
+      → StaysButFaults old mid → mid.faults ≡ old.faults → InArea k.at (answer.Holds x)
       → (IsTrue old.tells → find old.now d (path_of (q.entry / 16)) ≡ answer.Holds x)
       → (IsTrue old.tells → before ≡ cell_at old.now x.block) → length before.payload ≡ 1024
       → Spells (spelled_entry q.inode q.record.generation other)
@@ -106,8 +106,8 @@ module _ (old mid : DiskState) (k : Books) (d g : ℕ) (name other : List ℕ) (
       → c.tag ≡ before.tag
       → Stores mid k new l ((x.block, c) ∷ []) result
       → Goes old k new l (step.Rename d g name other) no_claims (done_answer reply.Renamed result)
-  rename-ends new l x before c result is_mid is_new stays area held cell whole spells payload tag stores =
-      goes-after old mid (reads-keep old mid stays) new k l (step.Rename d g name other) no_claims
+  rename-ends new l x before c result is_mid is_new stays same area held cell whole spells payload tag stores =
+      goes-after old mid (reads-keep old mid stays) same new k l (step.Rename d g name other) no_claims
       (done_answer reply.Renamed result)
       (renamed-goes mid new k l d g name other r x c q result is_mid is_new
       (safe-keeps old mid (reads-keep old mid stays) k safe) going
@@ -141,7 +141,8 @@ module _ (old mid : DiskState) (k : Books) (d g : ℕ) (name other : List ℕ) (
     where
       go : HoldFails old mid d (q.entry / 16) why
           → Goes old k mid k (step.Rename d g name other) no_claims (reply.Refused why)
-      go (inl f) = goes-row old mid k (step.Rename d g name other) is_old safe holds.stays why f.0 f.1 going (λ t H p o.
+      go (inl f) = goes-row old mid k (step.Rename d g name other) is_old safe holds.stays f.3 why f.0 f.1 going
+          (λ t H p o.
           let a = there t (are-agreed old k H p safe o) in
           let h = slot-holds p.world.files old.now d name q (open-files old k H p o) a
           (found-in t a p.world.files (open-files old k H p o)) in

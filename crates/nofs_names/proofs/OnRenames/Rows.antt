@@ -43,12 +43,13 @@ module _ (old : DiskState) (k : Books) (d g : ℕ) (name other : List ℕ) (is :
     (going : k.stopped ≡ false) where
   pub rename-bad : is_name name ≡ false
       → Goes old k old k (step.Rename d g name other) no_claims (reply.Refused refusal.BadName)
-  rename-bad bad = goes-bad old k (step.Rename d g name other) is safe going (λ W. rw bad refl)
+  rename-bad bad = goes-bad old k (step.Rename d g name other) is safe going (rw bad refl) (λ W. rw bad refl)
 
   module _ (ok : is_name name ≡ true) where
     pub rename-bad-new : is_name other ≡ false
         → Goes old k old k (step.Rename d g name other) no_claims (reply.Refused refusal.BadName)
-    rename-bad-new bad = goes-bad old k (step.Rename d g name other) is safe going (λ W. rw (ok, bad) refl)
+    rename-bad-new bad =
+        goes-bad old k (step.Rename d g name other) is safe going (rw (ok, bad) refl) (λ W. rw (ok, bad) refl)
 
     module _ (good : is_name other ≡ true) where
       rows-are : (W V : World)
@@ -111,7 +112,8 @@ module _ (old : DiskState) (k : Books) (d g : ℕ) (name other : List ℕ) (is :
           rename-exists res why none e =
               goes-fails old end k (step.Rename d g name other) (exists_rows d other) why is safe going
               (StaysButFaults-trans old new end to-new none.stays)
-              (opened-fails old new end k d (exists_rows d other) res why to-new opens.there e none.refused)
+              (opened-fails old new end k d (exists_rows d other) res why to-new (finds.no_fault ∙ opens.no_fault)
+              opens.there e none.refused)
               (λ t H p o z. to-exists t H p o p.world ∙ z) late
 
           pub rename-passes : (u : Unfound) → FindsNone new end d other names2 records2 (Ok u)

@@ -1,7 +1,7 @@
 -- The loops of a search: over the places of a cell, and over the slots of a directory.
 use Rattle.std.proofs.Common.{◌≡◌, ℕ, ◌+◌, ◌*◌, ◌/◌, ◌%◌, ◌<◌, Bool, true, false, List, Option, Some, None, IsTrue}
 use Rattle.std.proofs.Common.{Result, Ok, Err, refl, sym, ap, ◌∙◌, subst, arith, le_refl}
-use Rattle.std.specs.Prelude.{IfOk, OnErr}
+use Rattle.std.specs.Prelude.{IfOk, OnErr, OnOk}
 use Rattle.nofs_disk.specs.Disk.{DiskState, StaysButFaults, Rose}
 use Rattle.nofs_disk.specs.Chains.{StaysButFaults-trans, Rose-within}
 use Rattle.nofs_disk.specs.declared.Failed.{Failed}
@@ -37,16 +37,22 @@ use Rattle.nofs_names.proofs.OnSearches.Progress.{ends-lost}
 -- a search after other reads
 pub searches-after : (old mid new : DiskState) (at : SuperBlock) (d : ℕ) (name : List ℕ) (w : Bool) (n k m l : ℕ)
     (u v : Unfound) (last : LastRead)
-    (res : Result (Option Paired) Failed) → StaysButFaults old mid → SearchesOn mid new at d name w n k m l u v last res
+    (res : Result (Option Paired) Failed) → StaysButFaults old mid → mid.faults ≡ old.faults
+    → SearchesOn mid new at d name w n k m l u v last res
     → SearchesOn old new at d name w n k m l u v last res
-searches-after old mid new at d name w n k m l u v last res stays s = record {
+searches-after old mid new at d name w n k m l u v last res stays quiet s = record {
   stays = StaysButFaults-trans old mid new stays s.stays;
   known = s.known;
   past = on-ok res s.past;
   kept = s.kept;
   cause = on-err res s.cause;
+  no_fault = on-quiet res s.no_fault;
 }
   where
+    on-quiet : (r : Result (Option Paired) Failed) → OnOk r (new.faults ≡ mid.faults) → OnOk r (new.faults ≡ old.faults)
+    on-quiet (Err e) h = tt
+    on-quiet (Ok it) h = h ∙ quiet
+
     on-ok : (r : Result (Option Paired) Failed)
         → IfOk r (λ it. IsTrue mid.tells → (F : Files) → FilesMatch F mid.now → agreed (files_in mid.now) d ≡ true
         → Passed F d name w n k u → IsPast F mid.now d name w m l v it)
@@ -67,6 +73,7 @@ searches-after old mid new at d name w n k m l u v last res stays s = record {
 pub record Going (old now : DiskState) (d : ℕ) (name : List ℕ) (w : Bool) (n k m l : ℕ) (u v : Unfound)
     (last : LastRead) : Type 0 where
   pub stays : StaysButFaults old now
+  pub no_fault : now.faults ≡ old.faults
   pub kept : IsLast now last
   pub passed : IsTrue old.tells → (F : Files) → FilesMatch F old.now
       → agreed (files_in old.now) d ≡ true → Passed F d name w n k u → Passed F d name w m l v
@@ -89,6 +96,7 @@ module _ (old : DiskState) (at : SuperBlock) (d : ℕ) (dr : Record) (slot : ℕ
         → Going old now d name w (16 * slot) slot (m + 1) slot u x last
     going-other x other ex = record {
       stays = g.stays;
+      no_fault = g.no_fault;
       kept = g.kept;
       passed = λ t F match a p. subst (Passed F d name w (m + 1) slot) (sym ex)
           (passes-other F old.now d dr match a (known.known.same t) known.kind m slot place payload name low
@@ -114,6 +122,7 @@ module _ (old : DiskState) (at : SuperBlock) (d : ℕ) (dr : Record) (slot : ℕ
           let q = sees-as None er in
           record {
             stays = StaysButFaults-trans old now new g.stays q.stays;
+            no_fault = q.no_fault ∙ g.no_fault;
             kept = q.kept;
             passed = λ t F match a p. subst (Passed F d name w (m + 1) slot) (sym ex)
                 (passes-dead F old.now d dr match a (known.known.same t) known.kind m slot place payload name low
@@ -126,6 +135,7 @@ module _ (old : DiskState) (at : SuperBlock) (d : ℕ) (dr : Record) (slot : ℕ
           let q = sees-as (Some x) er in
           record {
             stays = StaysButFaults-trans old now new g.stays q.stays;
+            no_fault = q.no_fault ∙ g.no_fault;
             known = q.known;
             past = λ t F match a p. found-here F old.now d dr match a
                 (known.known.same t) known.kind m slot place payload name low slot-of place-of (cell t)
@@ -139,6 +149,7 @@ module _ (old : DiskState) (at : SuperBlock) (d : ℕ) (dr : Record) (slot : ℕ
       → SearchesOn old now at d name w (16 * slot) slot (16 * (slot + 1)) (slot + 1) u v last (Ok None)
   going-ends now m u v last g e = record {
     stays = g.stays;
+    no_fault = g.no_fault;
     known = tt;
     past = λ t F match a p. ends-bytes F old.now d dr match a (known.known.same t) known.kind
         (16 * (slot + 1)) slot payload name w v low (cell t)
@@ -177,6 +188,7 @@ module _ (old mid : DiskState) (at : SuperBlock) (d : ℕ) (dr : Record) (slot :
       → GoesOn v c
   slot-passed v c past res b fs e h = let f = finds-as res b c fs e h in record {
     stays = f.stays;
+    no_fault = f.no_fault;
     known = tt;
     past = λ t F match a p. past F match a (known.known.same t) (found-value c f t) p;
     kept = IsLast-on old mid last f.stays kept;
@@ -210,6 +222,7 @@ module _ (old now : DiskState) (at : SuperBlock) (d : ℕ) (name : List ℕ) (w 
         → SearchesOn old new at d name w (16 * slot) slot (16 * (slot + 1)) (slot + 1) v x next (Ok it)
     on-as it e =
         searches-after old now new at d name w (16 * slot) slot (16 * (slot + 1)) (slot + 1) v x next (Ok it) g.stays
+        g.no_fault
         (subst (λ (r : Result (Option Paired) Failed). SearchesOn now new at d name w (16 * slot) slot (16 * (slot + 1))
         (slot + 1) v x next r) e s)
 
@@ -219,6 +232,7 @@ module _ (old now : DiskState) (at : SuperBlock) (d : ℕ) (name : List ℕ) (w 
         let q = on-as (Some p) (e ∙ ap Ok n) in
         record {
           stays = q.stays;
+          no_fault = q.no_fault;
           known = q.known;
           answer =
               λ t F match a. q.past t F match a (g.passed t F match a (nothing-passed F d name w));
@@ -231,6 +245,7 @@ module _ (old now : DiskState) (at : SuperBlock) (d : ℕ) (name : List ℕ) (w 
       → Searches old now at d name w names last (Ok (searched.Unfound x))
   search-ends dr names x known e ex kept = record {
     stays = g.stays;
+    no_fault = g.no_fault;
     known = tt;
     answer = λ t F match a. subst (Passed F d name w entry_limit 72) (sym ex)
         (ends-all F old.now d dr match a (known.known.same t) known.kind name w v

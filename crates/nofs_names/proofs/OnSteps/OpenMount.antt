@@ -320,7 +320,7 @@ pub done-goes : (old new : DiskState) (k l : Books) (s : Step) (c : Claims) (r :
     → WritesAll old new ws (Ok tt) → Goes old k new l s c r
 done-goes old new k l s c r ws is is_new safe going after same count accepted no_flush made comes pass writes =
     goes-done old new k l s c r ws is is_new going same.at same.history
-    (same.stopped ∙ going) after accepted writes.adds.disk writes.adds.past writes.later
+    (same.stopped ∙ going) after accepted writes.adds.disk writes.adds.past writes.later writes.no_fault
     (WritesAlone made (subst (WritesCells old new (MeetsOpen old k) s c) (sym (accepted-fault r accepted))
     (writes-cells k s c writes count (λ tells H p o. (comes tells H p o).step.row)))) safe
     (λ tells H p o. let f = comes tells H p o in

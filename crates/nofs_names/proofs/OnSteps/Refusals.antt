@@ -20,8 +20,8 @@ use Rattle.nofs_history.specs.declared.machine.replies.Refusal.TheVariants as re
 use Rattle.nofs_crashlaw.proofs.OnUntouched.Matches.{matched-agreed}
 use Rattle.nofs_agree.specs.declared.reads.LastRead.{LastRead}
 use Rattle.nofs_agree.proofs.OnChain.{record-of}
-use Rattle.nofs_state.specs.Cores.Steps.{is_plain}
-use Rattle.nofs_state.specs.Inodes.Opened.{Opens, OpenFails}
+use Rattle.nofs_state.specs.Cores.Steps.{is_late}
+use Rattle.nofs_state.specs.Inodes.Opened.{Opens, OpenFails, met_fault}
 use Rattle.nofs_state.specs.declared.books.maps.Books.{Books}
 use Rattle.nofs_state.specs.declared.inodes.opened.Opened.{Opened}
 use Rattle.nofs_state.proofs.OnBooks.CurrentFiles.{current-agreed}
@@ -55,16 +55,26 @@ module _ (old new : DiskState) (k : Books) (d g : ℕ) (last : LastRead) (res : 
   no-directory : (why : Refusal) → Fails old new (KnownTrue k) (directory_rows d g) why
       → OpensDirectory old new k d g last (Err why)
   no-directory why f =
-      record { stays = opens.stays; directory = tt; generation = tt; passes = tt; there = tt; kept = tt; refused = f }
+      record {
+        stays = opens.stays;
+        directory = tt;
+        generation = tt;
+        passes = tt;
+        there = tt;
+        kept = tt;
+        no_fault = tt;
+        refused = f;
+      }
 
   pub directory-stale : (why : Refusal) → res ≡ Err why → OpensDirectory old new k d g last (Err why)
   directory-stale why e = no-directory why
-      (go why (subst (λ (q : Result Opened Refusal). IfErr q (OpenFails old new k d g)) e opens.refused))
+      (go why e (subst (λ (q : Result Opened Refusal). IfErr q (OpenFails old new k d g)) e opens.refused))
     where
-      go : (w : Refusal) → OpenFails old new k d g w → Fails old new (KnownTrue k) (directory_rows d g) w
-      go refusal.Stale fails = ByRow refl tt (λ t all W match. rw (stale-some W old.now d g match (fails t all)) refl)
-      go refusal.ReadFault fails = ByRead refl fails
-      go _ fails = absurd fails
+      go : (w : Refusal) → res ≡ Err w → OpenFails old new k d g w → Fails old new (KnownTrue k) (directory_rows d g) w
+      go refusal.Stale e fails = ByRow refl tt (opens.no_fault (ap met_fault e))
+          (λ t all W match. rw (stale-some W old.now d g match (fails t all)) refl)
+      go refusal.ReadFault e fails = ByRead refl fails
+      go _ e fails = absurd fails
 
   module _ (it : Opened) (is : res ≡ Ok it) where
     opened : Opens old new k d g last (Ok it)
@@ -78,7 +88,7 @@ module _ (old new : DiskState) (k : Books) (d g : ℕ) (last : LastRead) (res : 
 
     pub directory-file : is_folder it.kind ≡ false → OpensDirectory old new k d g last (Err refusal.NotDirectory)
     directory-file no_folder = no-directory refusal.NotDirectory
-        (ByRow refl tt (λ t all W match. let f = folder-of t all W match ∙ no_folder in
+        (ByRow refl tt (opened.no_fault refl) (λ t all W match. let f = folder-of t all W match ∙ no_folder in
         rw (stale-none W old.now d g match (opened.current t all), f) refl))
 
     pub directory-is : is_folder it.kind ≡ true → OpensDirectory old new k d g last (Ok it.found)
@@ -94,6 +104,7 @@ module _ (old new : DiskState) (k : Books) (d g : ℕ) (last : LastRead) (res : 
           rw (stale-none W old.now d g match (opened.current t all), f) refl;
       there = λ t all. current-agreed old.now d g (opened.current t all);
       kept = opened.kept;
+      no_fault = opened.no_fault refl;
       refused = tt;
     }
       where
@@ -111,15 +122,15 @@ missing-is F W d name w u e p =
     subst (λ (G : Files). Passed G d name w entry_limit 72 u) (sym e) p in
     rw (q.none, q.dead, q.lost) refl
 
-plain-missing : (u : Unfound) (why : Refusal) → Some why ≡ missing_in u → is_plain why ≡ true
+plain-missing : (u : Unfound) (why : Refusal) → Some why ≡ missing_in u → is_late why ≡ true
 plain-missing u why e = go u.dead u.lost (e)
   where
     go : (a b : Option ℕ) → Some why
         ≡ first_of (option_map refusal.LostEntry a ∷ option_map refusal.LostSlot b ∷ Some refusal.Missing ∷ [])
-        → is_plain why ≡ true
-    go (Some a) b h = ap is_plain (let s : why ≡ refusal.LostEntry a = cc h in s)
-    go None (Some b) h = ap is_plain (let s : why ≡ refusal.LostSlot b = cc h in s)
-    go None None h = ap is_plain (let s : why ≡ refusal.Missing = cc h in s)
+        → is_late why ≡ true
+    go (Some a) b h = ap is_late (let s : why ≡ refusal.LostEntry a = cc h in s)
+    go None (Some b) h = ap is_late (let s : why ≡ refusal.LostSlot b = cc h in s)
+    go None None h = ap is_late (let s : why ≡ refusal.Missing = cc h in s)
 
 range-missing : (u : Unfound) (why : Refusal) → Some why ≡ missing_in u → InRange why
 range-missing u why e = go u.dead u.lost (e)
@@ -140,6 +151,7 @@ module _ (old new : DiskState) (at : SuperBlock) (d : ℕ) (name : List ℕ) (na
         known = search.known;
         found = λ t there F match. search.answer t F match there;
         kept = search.kept;
+        no_fault = search.no_fault;
         refused = tt;
       })
   pair-found (searched.Unfound u) res search is =
@@ -149,7 +161,8 @@ module _ (old new : DiskState) (at : SuperBlock) (d : ℕ) (name : List ℕ) (na
         known = tt;
         found = tt;
         kept = tt;
-        refused = ByRow (plain-missing u why ew) (range-missing u why ew) (λ t there W match. let m =
+        no_fault = tt;
+        refused = ByRow (plain-missing u why ew) (range-missing u why ew) search.no_fault (λ t there W match. let m =
             missing-is W.files W d name false u refl (search.answer t W.files match there) ∙ sym ew in rw m refl);
       })
 
@@ -161,13 +174,16 @@ module _ (old new : DiskState) (at : SuperBlock) (d : ℕ) (name : List ℕ) (na
         stays = search.stays;
         seen = tt;
         kept = tt;
-        refused = ByRow refl tt (λ t there W match. let f = (search.answer t W.files match there).found in rw f refl);
+        no_fault = tt;
+        refused = ByRow refl tt search.no_fault
+            (λ t there W match. let f = (search.answer t W.files match there).found in rw f refl);
       })
   name-unused (searched.Unfound u) res search is =
       subst (λ (r : Result Unfound Refusal). FindsNone old new d name names records r) (sym is) (record {
         stays = search.stays;
         seen = λ t there F match. search.answer t F match there;
         kept = search.kept;
+        no_fault = search.no_fault;
         refused = tt;
       })
 

@@ -44,6 +44,7 @@ filled_rows i W = row (is_folder_at W.files i && is_some (least_from (λ e. is_p
 
 pub record FindsEmpty (old new : DiskState) (i : ℕ) (result : Result (Unit {0}) Refusal) : Type 0 where
   pub stays : StaysButFaults old new
+  pub no_fault : OnOk result (new.faults ≡ old.faults)
   pub none : OnOk result (HasNoNames old i)
   pub refused : IfErr result (Fails old new (IsThere i) (filled_rows i))
 

@@ -23,6 +23,7 @@ pair_in X link (Some named) = is_some (paired_kind (inode X named.inode) named l
 pub record TellsPair (old new : DiskState) (link : BackLink) (payload : List ℕ) (place : ℕ) (last : LastRead)
     (result : Result Bool Failed) : Type 0 where
   pub stays : StaysButFaults old new
+  pub no_fault : OnOk result (new.faults ≡ old.faults)
   pub found : IfOk result (λ b. IsTrue old.tells → b ≡ pair_in old.now link (named_in (entry_in payload place)))
   pub kept : OnOk result (IsLast new last)
   pub cause : OnErr result (Rose old.faults new.faults)
@@ -38,6 +39,7 @@ NamesAre F d n false = NoPairs F d n
 
 pub record NamesOn (old new : DiskState) (d n m : ℕ) (last : LastRead) (result : Result Bool Failed) : Type 0 where
   pub stays : StaysButFaults old new
+  pub no_fault : OnOk result (new.faults ≡ old.faults)
   pub names : IfOk result (λ b. IsTrue old.tells → IsThere d old.now → (F : Files) → FilesMatch F old.now
       → NoPairs F d n → NamesAre F d m b)
   pub kept : OnOk result (IsLast new last)

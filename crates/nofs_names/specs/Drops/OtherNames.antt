@@ -13,6 +13,7 @@ pub record TellsKept (old new : DiskState) (known : List (Option Bool)) (i : ℕ
     (last : LastRead) (result : Result Bool Failed)
     : Type 0 where
   pub stays : StaysButFaults old new
+  pub no_fault : OnOk result (new.faults ≡ old.faults)
   pub found : IfOk result (λ b. IsTrue old.tells → AreTrue old.now known
       → b ≡ (is_special i || list_any (is_agreed_link (files_in old.now) i) links))
   pub kept : OnOk result (IsLast new last)

@@ -22,7 +22,7 @@ use Rattle.nofs_history.specs.declared.machine.replies.Refusal.TheVariants as re
 use Rattle.nofs_agree.specs.Reads.{IsLast}
 use Rattle.nofs_agree.specs.declared.reads.LastRead.{LastRead}
 use Rattle.nofs_state.specs.Books.Maps.{Says}
-use Rattle.nofs_state.specs.Cores.Steps.{is_plain}
+use Rattle.nofs_state.specs.Cores.Steps.{is_late}
 use Rattle.nofs_state.specs.declared.books.maps.Books.{Books}
 use Rattle.nofs_names.specs.Searches.Refusals.{place_of_entry}
 use Rattle.nofs_names.specs.declared.entries.places.EntryBlocks.{EntryBlocks}
@@ -74,14 +74,15 @@ IsSlotCell X entry.WithLeaf c = Unit {0}
 
 -- why a slot was not found: it neither holds nor is a hole, or a read failed
 abbrev pub SlotFails : DiskState → DiskState → ℕ → ℕ → Refusal → Type 0
-SlotFails old new d k why = ((is_plain why ≡ true) × InRange why ×
+SlotFails old new d k why = ((is_late why ≡ true) × InRange why ×
     (IsTrue old.tells → ((x : Pointer) → find old.now d (path_of k) ≡ answer.Holds x → ⊥)
-    × (find old.now d (path_of k) ≡ answer.Hole → ⊥)))
+    × (find old.now d (path_of k) ≡ answer.Hole → ⊥)) × (new.faults ≡ old.faults))
     ⊎ ((why ≡ refusal.ReadFault) × Rose old.faults new.faults)
 
 pub record FindsEntrySlot (old new : DiskState) (at : SuperBlock) (d k : ℕ) (last : LastRead)
     (result : Result EntrySlot Refusal) : Type 0 where
   pub stays : StaysButFaults old new
+  pub no_fault : OnOk result (new.faults ≡ old.faults)
   pub fits : IfOk result (FitsSlot at k)
   pub found : IfOk result (λ s. IsTrue old.tells → IsEntrySlot old.now d k s)
   pub cell : IfOk result (λ s. IsTrue old.tells → IsSlotCell old.now s last.cell)
@@ -112,4 +113,4 @@ pub record TakesBlocks (k : Books) (n m : ℕ) (result : Result EntryBlocks Refu
   pub stamps : OnOk result (k.serial + m + n ≤ 2 ^ 40)
   pub passes : OnOk result ((W V : World) → Says k W → first_of (room_rows n m W V) ≡ None)
   pub refused : IfErr result
-      (λ why. (is_plain why ≡ true) × InRange why × ((W : World) → Says k W → first_of (room_rows n m W W) ≡ Some why))
+      (λ why. (is_late why ≡ true) × InRange why × ((W : World) → Says k W → first_of (room_rows n m W W) ≡ Some why))

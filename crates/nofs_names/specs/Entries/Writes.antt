@@ -34,6 +34,7 @@ use Rattle.nofs_names.specs.declared.entries.places.EntrySlot.TheVariants as ent
 -- the cells of the table with the records of a directory and of an inode
 pub record ReadsTables (old new : DiskState) (d i : ℕ) (last : LastRead) (result : Result Tables Failed) : Type 0 where
   pub stays : StaysButFaults old new
+  pub no_fault : OnOk result (new.faults ≡ old.faults)
   pub directory : IfOk result (λ t. IsTrue old.tells → t.directory ≡ cell_at old.now (table_block d))
   pub inode : IfOk result (λ t. IsTrue old.tells → t.inode ≡ cell_at old.now (table_block i))
   pub kept : OnOk result (IsLast new last)

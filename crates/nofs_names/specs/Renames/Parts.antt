@@ -19,7 +19,7 @@ use Rattle.nofs_model.specs.Files.{Files}
 use Rattle.nofs_history.specs.History.{FilesMatch}
 use Rattle.nofs_names.specs.Searches.Slots.{IsFoundEntry}
 use Rattle.nofs_names.specs.declared.searches.slots.Paired.{Paired}
-use Rattle.nofs_state.specs.Cores.Steps.{is_plain}
+use Rattle.nofs_state.specs.Cores.Steps.{is_late}
 use Rattle.nofs_names.specs.Searches.Refusals.{IsThere}
 
 -- what stands in a slot that must hold
@@ -30,13 +30,14 @@ IsSlotHeld slot answer.Lost result = result ≡ Err (refusal.LostSlot slot)
 
 -- why a slot that must hold was not found: it does not hold, or a read failed
 abbrev pub HoldFails : DiskState → DiskState → ℕ → ℕ → Refusal → Type 0
-HoldFails old new d slot why = ((is_plain why ≡ true) × InRange why
+HoldFails old new d slot why = ((is_late why ≡ true) × InRange why
     × (IsTrue old.tells → (x : Pointer) → find old.now d (path_of slot) ≡ answer.Holds x
-    → ⊥)) ⊎ ((why ≡ refusal.ReadFault) × Rose old.faults new.faults)
+    → ⊥) × (new.faults ≡ old.faults)) ⊎ ((why ≡ refusal.ReadFault) × Rose old.faults new.faults)
 
 pub record HoldsSlot (old new : DiskState) (at : SuperBlock) (d slot : ℕ) (last : LastRead)
     (result : Result Pointer Refusal) : Type 0 where
   pub stays : StaysButFaults old new
+  pub no_fault : OnOk result (new.faults ≡ old.faults)
   pub area : IfOk result (λ x. InArea at (answer.Holds x))
   pub held : IfOk result (λ x. IsTrue old.tells → find old.now d (path_of slot) ≡ answer.Holds x)
   pub cell : IfOk result (λ x. IsTrue old.tells → last.cell ≡ cell_at old.now x.block)

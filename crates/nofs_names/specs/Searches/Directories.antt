@@ -12,8 +12,9 @@ use Rattle.nofs_names.specs.declared.searches.directories.NameIn.{NameIn}
 
 -- why the directory of a name is not opened
 pub data NamedFails (old new : DiskState) (k : Books) (at : NameIn) (why : Refusal) : Type 0 where
-  ByStop : k.stopped ≡ true → why ≡ refusal.Stopped → NamedFails old new k at why
-  ByName : k.stopped ≡ false → is_name at.name.now ≡ false → why ≡ refusal.BadName → NamedFails old new k at why
+  ByStop : k.stopped ≡ true → new.faults ≡ old.faults → why ≡ refusal.Stopped → NamedFails old new k at why
+  ByName : k.stopped ≡ false → is_name at.name.now ≡ false → new.faults ≡ old.faults → why ≡ refusal.BadName
+      → NamedFails old new k at why
   ByOpening : k.stopped ≡ false → is_name at.name.now ≡ true → (last : LastRead)
       → OpensDirectory old new k at.directory at.generation last (Err why)
       → NamedFails old new k at why
@@ -21,6 +22,7 @@ pub data NamedFails (old new : DiskState) (k : Books) (at : NameIn) (why : Refus
 pub record OpensNamed (old new : DiskState) (k : Books) (at : NameIn) (last : LastRead)
     (result : Result Record Refusal) : Type 0 where
   pub stays : StaysButFaults old new
+  pub no_fault : OnOk result (new.faults ≡ old.faults)
   pub going : OnOk result (k.stopped ≡ false)
   pub name_is : OnOk result (is_name at.name.now ≡ true)
   pub good : OnOk result (NameOk at.name.now)

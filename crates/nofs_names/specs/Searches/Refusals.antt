@@ -20,7 +20,7 @@ use Rattle.nofs_history.specs.declared.machine.replies.Found.{Found}
 use Rattle.nofs_agree.specs.Reads.{IsLast, KnowsDirectory}
 use Rattle.nofs_agree.specs.Chain.{AreTrue}
 use Rattle.nofs_agree.specs.declared.reads.LastRead.{LastRead}
-use Rattle.nofs_state.specs.Cores.Steps.{is_plain}
+use Rattle.nofs_state.specs.Cores.Steps.{is_late}
 use Rattle.nofs_state.specs.declared.books.maps.Books.{Books}
 use Rattle.nofs_names.specs.Searches.Slots.{IsFoundEntry, KnowsPaired, Passed}
 use Rattle.nofs_names.specs.declared.searches.slots.Paired.{Paired}
@@ -28,10 +28,10 @@ use Rattle.nofs_names.specs.declared.searches.slots.Unfound.{Unfound}
 use Rattle.nofs_names.specs.declared.searches.slots.Searched.{Searched}
 use Rattle.nofs_names.specs.declared.searches.slots.Searched.TheVariants as searched
 
--- a part of a step refuses: by the first of these rows of the machine, or because a read failed
+-- a part of a step refuses: by the first of these rows of the machine, and then no read failed, or because one did
 pub data Fails (old new : DiskState) (given : Image → Type 0) (rows : World → List (Option Refusal))
     (why : Refusal) : Type 0 where
-  ByRow : is_plain why ≡ true → InRange why
+  ByRow : is_late why ≡ true → InRange why → new.faults ≡ old.faults
       → (IsTrue old.tells → given old.now → (W : World) → FilesMatch W.files old.now → first_of (rows W) ≡ Some why)
       → Fails old new given rows why
   ByRead : why ≡ refusal.ReadFault → Rose old.faults new.faults → Fails old new given rows why
@@ -59,6 +59,7 @@ missing_rows d name W = missing W d name ∷ []
 pub record OpensDirectory (old new : DiskState) (k : Books) (d g : ℕ) (last : LastRead)
     (result : Result Record Refusal) : Type 0 where
   pub stays : StaysButFaults old new
+  pub no_fault : OnOk result (new.faults ≡ old.faults)
   pub directory : IfOk result (λ r. KnowsDirectory new k.at d r.generation r)
   pub generation : IfOk result (λ r. r.generation ≡ g)
   pub passes : IfOk result (λ r. PartPasses old (KnownTrue k) (directory_rows d g))
@@ -70,6 +71,7 @@ pub record OpensDirectory (old new : DiskState) (k : Books) (d g : ℕ) (last : 
 pub record FindsPair (old new : DiskState) (at : SuperBlock) (d : ℕ) (name : List ℕ) (names records : LastRead)
     (result : Result Paired Refusal) : Type 0 where
   pub stays : StaysButFaults old new
+  pub no_fault : OnOk result (new.faults ≡ old.faults)
   pub known : IfOk result (KnowsPaired new at)
   pub found : IfOk result
       (λ p. IsTrue old.tells → IsThere d old.now → (F : Files) → FilesMatch F old.now → IsFoundEntry F old.now d name p)
@@ -101,6 +103,7 @@ unused_in (searched.Unfound u) = Ok u
 pub record FindsNone (old new : DiskState) (d : ℕ) (name : List ℕ) (names records : LastRead)
     (result : Result Unfound Refusal) : Type 0 where
   pub stays : StaysButFaults old new
+  pub no_fault : OnOk result (new.faults ≡ old.faults)
   pub seen : IfOk result (λ u. IsTrue old.tells → IsThere d old.now → (F : Files) → FilesMatch F old.now
       → Passed F d name true entry_limit 72 u)
   pub kept : OnOk result (IsLast new names × IsLast new records)

@@ -74,6 +74,7 @@ KnowsPaired d at p = KnowsInode d at p.inode p.record × (p.record.kind ≡ Some
 pub record SeesNamed (old new : DiskState) (at : SuperBlock) (link : BackLink) (named : Named) (last : LastRead)
     (result : Result (Option Paired) Failed) : Type 0 where
   pub stays : StaysButFaults old new
+  pub no_fault : OnOk result (new.faults ≡ old.faults)
   pub known : IfOk result (λ it. IfSome it (KnowsPaired new at))
   pub seen : IfOk result (λ it. IsTrue old.tells → IsNamed old.now link named it)
   pub kept : OnOk result (IsLast new last)
@@ -139,6 +140,7 @@ pub record SearchesOn (old new : DiskState) (at : SuperBlock) (d : ℕ) (name : 
     (u v : Unfound) (last : LastRead)
     (result : Result (Option Paired) Failed) : Type 0 where
   pub stays : StaysButFaults old new
+  pub no_fault : OnOk result (new.faults ≡ old.faults)
   pub known : IfOk result (λ it. IfSome it (KnowsPaired new at))
   pub past : IfOk result (λ it. IsTrue old.tells → (F : Files) → FilesMatch F old.now
       → agreed (files_in old.now) d ≡ true → Passed F d name w n k u
@@ -158,6 +160,7 @@ KnowsSearched d at (searched.Unfound u) = Unit {0}
 pub record Searches (old new : DiskState) (at : SuperBlock) (d : ℕ) (name : List ℕ) (w : Bool) (last next : LastRead)
     (result : Result Searched Failed) : Type 0 where
   pub stays : StaysButFaults old new
+  pub no_fault : OnOk result (new.faults ≡ old.faults)
   pub known : IfOk result (KnowsSearched new at)
   pub answer : IfOk result (λ it. IsTrue old.tells → (F : Files) → FilesMatch F old.now
       → agreed (files_in old.now) d ≡ true → IsSearched F old.now d name w it)

@@ -4,6 +4,7 @@ ghost use Rattle.nofs_disk.specs.Number.{put_bytes, zeros};
 ghost use Rattle.nofs_history.specs.Machine as machine;
 ghost use Rattle.nofs_history.specs.declared.machine.steps.Step.TheVariants as step;
 ghost use Rattle.nofs_history.specs.declared.machine.replies.Reply.TheVariants as reply;
+ghost use Rattle.nofs_state.specs.Cores.FirstRows.{RefusesEarly};
 ghost use Rattle.nofs_state.specs.Cores.Steps.{Goes};
 ghost use Rattle.nofs_agree.specs.Reads.{IsLast};
 ghost use Rattle.nofs_history.specs.Claims.{no_claims};
@@ -54,8 +55,9 @@ pub fn drop_name<D: Disk + Drop>(
     name: &[u8],
 ) -> Result<bool, Refusal>
     requires { IsSafe (D.state core.old.disk) core.old.books }
-    ensures { Goes (D.state core.old.disk) core.old.books (D.state core.new.disk) core.new.books
+    ensures goes { Goes (D.state core.old.disk) core.old.books (D.state core.new.disk) core.new.books
         (step.Drop directory generation name.now) no_claims (drop_answer result) }
+    ensures early { RefusesEarly core.old.books (step.Drop directory generation name.now) (drop_answer result) }
 {
     let at = NameIn {
         directory,
@@ -75,8 +77,10 @@ fn drop_with_room<D: Disk + Drop>(
 ) -> Result<bool, Refusal>
     requires safe { IsSafe (D.state core.old.disk) core.old.books }
     requires spare { 2 ≤ (D.state core.old.disk).spare }
-    ensures { DropGoes (D.state core.old.disk) core.old.books (D.state core.new.disk) core.new.books at.entry
+    ensures goes { DropGoes (D.state core.old.disk) core.old.books (D.state core.new.disk) core.new.books at.entry
         (drop_answer result) }
+    ensures early { RefusesEarly core.old.books
+        (step.Drop at.entry.directory at.entry.generation at.entry.name.now) (drop_answer result) }
 {
     let mut names = LastRead::NONE;
     let it = match open_named(&mut core.disk, &core.books, at, &mut names) {

@@ -5,6 +5,7 @@ ghost use Rattle.nofs_history.specs.declared.machine.replies.Reply.TheVariants a
 ghost use Rattle.nofs_dirent.specs.Entries.{HasEntrySpelling, entry_with, spelled_entry};
 ghost use Rattle.nofs_dirent.specs.EntryLaws.{Spells};
 ghost use Rattle.nofs_dirent.specs.Names.{NameOk};
+ghost use Rattle.nofs_state.specs.Cores.FirstRows.{RefusesEarly};
 ghost use Rattle.nofs_state.specs.Cores.Steps.{Goes};
 ghost use Rattle.nofs_agree.specs.Reads.{IsAt};
 ghost use Rattle.nofs_state.specs.Books.Maps.{IsSafe};
@@ -46,8 +47,10 @@ pub fn link<D: Disk + Drop>(
     of: u64,
 ) -> Ended
     requires { IsSafe (D.state core.old.disk) core.old.books }
-    ensures { Goes (D.state core.old.disk) core.old.books (D.state core.new.disk) core.new.books
+    ensures goes { Goes (D.state core.old.disk) core.old.books (D.state core.new.disk) core.new.books
         (step.Link directory generation name.now inode of) result.claims (done_answer reply.Linked result.result) }
+    ensures early { RefusesEarly core.old.books (step.Link directory generation name.now inode of)
+        (done_answer reply.Linked result.result) }
 {
     let at = NameIn {
         directory,
@@ -64,7 +67,9 @@ pub fn link<D: Disk + Drop>(
 fn link_with_room<D: Disk + Drop>(core: &mut Core<D>, alloc: Global, new: NewName<'_>) -> Ended
     requires safe { IsSafe (D.state core.old.disk) core.old.books }
     requires spare { 4 ≤ (D.state core.old.disk).spare }
-    ensures { LinkGoes (D.state core.old.disk) core.old.books (D.state core.new.disk) core.new.books new.entry result }
+    ensures goes { LinkGoes (D.state core.old.disk) core.old.books
+        (D.state core.new.disk) core.new.books new.entry result }
+    ensures early { RefusesEarly core.old.books (link_step new.entry) (done_answer reply.Linked result.result) }
 {
     if core.books.stopped {
         return refused(Refusal::Stopped);

@@ -2,6 +2,7 @@
 ghost use Rattle.std.specs.Prelude.{◌≡◌, ◌≤◌, false, length};
 ghost use Rattle.nofs_inode.specs.InodeRecords.{HasRecordSpelling};
 ghost use Rattle.nofs_history.specs.declared.machine.steps.Step.TheVariants as step;
+ghost use Rattle.nofs_state.specs.Cores.FirstRows.{RefusesEarly};
 ghost use Rattle.nofs_state.specs.Cores.Steps.{Goes};
 ghost use Rattle.nofs_agree.specs.Reads.{IsLast};
 ghost use Rattle.nofs_state.specs.Books.Maps.{IsSafe};
@@ -32,8 +33,10 @@ pub fn make<D: Disk + Drop>(
     kind: FileKind,
 ) -> Ended
     requires { IsSafe (D.state core.old.disk) core.old.books }
-    ensures { Goes (D.state core.old.disk) core.old.books (D.state core.new.disk) core.new.books
+    ensures goes { Goes (D.state core.old.disk) core.old.books (D.state core.new.disk) core.new.books
         (step.Make directory generation name.now kind) result.claims (made_answer result.claims result.result) }
+    ensures early { RefusesEarly core.old.books (step.Make directory generation name.now kind)
+        (made_answer result.claims result.result) }
 {
     let owned = match Name::from_slice(alloc, name) {
         Ok(owned) => owned,
@@ -59,8 +62,11 @@ fn make_with_room<D: Disk + Drop>(
     requires owned { owned ≡ at.name.now }
     requires safe { IsSafe (D.state core.old.disk) core.old.books }
     requires spare { 4 ≤ (D.state core.old.disk).spare }
-    ensures { MakeGoes (D.state core.old.disk) core.old.books (D.state core.new.disk) core.new.books
+    ensures goes { MakeGoes (D.state core.old.disk) core.old.books (D.state core.new.disk) core.new.books
         (step.Make at.entry.directory at.entry.generation at.entry.name.now kind) result }
+    ensures early { RefusesEarly core.old.books
+        (step.Make at.entry.directory at.entry.generation at.entry.name.now kind)
+        (made_answer result.claims result.result) }
 {
     let mut names = LastRead::NONE;
     let it = match open_named(&mut core.disk, &core.books, at, &mut names) {

@@ -1,3 +1,4 @@
+use Rattle.std.proofs.Common.{◌≡◌, true, false, ◌∙◌, refl}
 use Rattle.nofs_disk.specs.Chains.{StaysButFaults-refl}
 use Rattle.nofs_history.specs.declared.machine.steps.Step.TheVariants as step
 use Rattle.nofs_state.proofs.OnCores.Replies.{goes-stopped}
@@ -5,12 +6,13 @@ use Rattle.nofs_names.proofs.OnLists.Answers.{list-unopened, list-unread, list-n
 use Rattle.nofs_names.proofs.OnLists.Answers.{list-failed, list-memory, list-memory-found}
 use Rattle.nofs_names.proofs.OnLists.Answers.{list-memory-read}
 use Rattle.nofs_names.proofs.lists.list.Goals as goal
+use Rattle.nofs_names.proofs.OnSteps.Parts.{fails-quiet}
 
 pub returns-then-core-clause-goes : goal.returns-then-core-clause-goes
 returns-then-core-clause-goes g c =
     goes-stopped (g.D.Disk.state c.args.core.now.disk) (g.D.Disk.state c.args.core.now.disk) c.args.core.now.books
     (step.List c.args.directory c.args.generation c.args.slot) (g.met.D.Disk.is_disk c.args.core.now.disk) c.requires
-    (StaysButFaults-refl (g.D.Disk.state c.args.core.now.disk)) c.if-core.true
+    (StaysButFaults-refl (g.D.Disk.state c.args.core.now.disk)) refl c.if-core.true
 
 pub returns-in-Err-clause-goes : goal.returns-in-Err-clause-goes
 returns-in-Err-clause-goes g c = list-unopened (g.D.Disk.state c.args.core.now.disk) c.args.core.now.books
@@ -53,32 +55,38 @@ returns-in-Err-read_lines-clause-goes g c =
 
 -- it has only read
 pub returns-then-core-clause-memory : goal.returns-then-core-clause-memory
-returns-then-core-clause-memory g c = list-memory (g.D.Disk.state c.args.core.now.disk)
+returns-then-core-clause-memory g c = λ e. list-memory (g.D.Disk.state c.args.core.now.disk)
     c.args.core.now.books c.args.directory c.args.generation c.args.slot
     c.requires (g.D.Disk.state c.args.core.now.disk)
-    (StaysButFaults-refl (g.D.Disk.state c.args.core.now.disk))
+    (StaysButFaults-refl (g.D.Disk.state c.args.core.now.disk)) refl
 
 pub returns-in-Err-clause-memory : goal.returns-in-Err-clause-memory
-returns-in-Err-clause-memory g c = list-memory (g.D.Disk.state c.args.core.now.disk)
+returns-in-Err-clause-memory g c = λ e. list-memory (g.D.Disk.state c.args.core.now.disk)
     c.args.core.now.books c.args.directory c.args.generation c.args.slot
     c.requires (g.D.Disk.state c.open_directory.new.disk) c.open_directory.ensures.stays
+    (fails-quiet _ _ _ _ _ c.in-Err.ensures.refused e)
 
 pub returns-in-Err-find_listed-clause-memory : goal.returns-in-Err-find_listed-clause-memory
-returns-in-Err-find_listed-clause-memory g c = list-memory-found _ _ _ _ _ c.requires _ _ c.open_directory.ensures.stays
-    c.find_listed.ensures.stays
+returns-in-Err-find_listed-clause-memory g c = λ e. absurd (let t : true ≡ false = e in cc t)
 
 pub returns-in-NoMore-clause-memory : goal.returns-in-NoMore-clause-memory
-returns-in-NoMore-clause-memory g c = list-memory-found _ _ _ _ _ c.requires _ _ c.open_directory.ensures.stays
-    c.find_listed.ensures.stays
+returns-in-NoMore-clause-memory g c = λ e.
+    list-memory-found _ _ _ _ _ c.requires _ _ c.open_directory.ensures.stays c.find_listed.ensures.stays
+    (c.in-Ok-find_listed.ensures.no_fault ∙ c.in-Ok.ensures.no_fault)
 
 pub returns-in-Lost-clause-memory : goal.returns-in-Lost-clause-memory
-returns-in-Lost-clause-memory g c = list-memory-found _ _ _ _ _ c.requires _ _ c.open_directory.ensures.stays
-    c.find_listed.ensures.stays
+returns-in-Lost-clause-memory g c = λ e.
+    list-memory-found _ _ _ _ _ c.requires _ _ c.open_directory.ensures.stays c.find_listed.ensures.stays
+    (c.in-Ok-find_listed.ensures.no_fault ∙ c.in-Ok.ensures.no_fault)
 
 pub returns-in-Ok-read_lines-clause-memory : goal.returns-in-Ok-read_lines-clause-memory
-returns-in-Ok-read_lines-clause-memory g c = list-memory-read _ _ _ _ _ c.requires _ _ _ c.open_directory.ensures.stays
+returns-in-Ok-read_lines-clause-memory g c = λ e.
+    list-memory-read _ _ _ _ _ c.requires _ _ _ c.open_directory.ensures.stays
     c.find_listed.ensures.stays c.read_lines.ensures.stays
+    (c.in-Ok-read_lines.ensures.no_fault refl ∙ (c.in-Ok-find_listed.ensures.no_fault ∙ c.in-Ok.ensures.no_fault))
 
 pub returns-in-Err-read_lines-clause-memory : goal.returns-in-Err-read_lines-clause-memory
-returns-in-Err-read_lines-clause-memory g c = list-memory-read _ _ _ _ _ c.requires _ _ _ c.open_directory.ensures.stays
+returns-in-Err-read_lines-clause-memory g c = λ e.
+    list-memory-read _ _ _ _ _ c.requires _ _ _ c.open_directory.ensures.stays
     c.find_listed.ensures.stays c.read_lines.ensures.stays
+    (c.in-Err-read_lines.ensures.no_fault e ∙ (c.in-Ok-find_listed.ensures.no_fault ∙ c.in-Ok.ensures.no_fault))

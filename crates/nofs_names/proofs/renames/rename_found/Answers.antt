@@ -25,13 +25,14 @@ returns-in-Ok-put_entry g c = rename-ends (g.D.Disk.state c.args.core.now.disk) 
     (g.D.Disk.state c.write_one.new.core.disk) c.write_one.new.core.books c.in-Ok.pointer c.hold_entry.new.names.cell
     (record c.hold_entry.new.names.cell { payload = c.put_entry.new.payload }) c.write_one.result
     (g.met.D.Disk.is_disk c.hold_entry.new.disk) (g.met.D.Disk.is_disk c.write_one.new.core.disk)
-    c.hold_entry.ensures.stays c.in-Ok.ensures.area c.in-Ok.ensures.held c.in-Ok.ensures.cell c.put_entry.ensures.whole
+    c.hold_entry.ensures.stays c.in-Ok.ensures.no_fault c.in-Ok.ensures.area c.in-Ok.ensures.held c.in-Ok.ensures.cell
+    c.put_entry.ensures.whole
     c.put_entry.ensures.spells
     c.in-Ok-put_entry.ensures.put refl c.write_one.ensures
 
 pub returns-in-Err-put_entry : goal.returns-in-Err-put_entry
 returns-in-Err-put_entry g c = goes-memory (g.D.Disk.state c.args.core.now.disk) (g.D.Disk.state c.hold_entry.new.disk)
     (reads-keep (g.D.Disk.state c.args.core.now.disk) (g.D.Disk.state c.hold_entry.new.disk) c.hold_entry.ensures.stays)
-    c.args.core.now.books
+    c.in-Ok.ensures.no_fault c.args.core.now.books
     (step.Rename c.args.pair.at.directory c.args.pair.at.generation c.args.pair.at.name.now c.args.new.now)
     no_claims c.requires.safe

@@ -1,4 +1,4 @@
-use Rattle.std.proofs.Common.{Ok}
+use Rattle.std.proofs.Common.{Ok, refl}
 use Rattle.nofs_names.proofs.OnDrops.Blocks.{inode-marks}
 use Rattle.nofs_names.proofs.drops.blocks.owned_blocks.Goals as goal
 
@@ -11,4 +11,10 @@ returns g c =
     c.mark_slots-2.new.owned c.mark_slots.new.last c.mark_far.new.last c.mark_slots-2.new.last
     (Ok tt) c.new-owned.ensures c.in_ok-mark_slots.ensures
     c.in_ok-mark_far.ensures c.in_ok-mark_slots-2.ensures in
-    record { stays = marks.stays; owned = marks.owned; kept = marks.kept; refused = tt }
+    record {
+      stays = marks.stays;
+      no_fault = λ e. marks.no_fault refl;
+      owned = marks.owned;
+      kept = marks.kept;
+      refused = tt;
+    }

@@ -8,7 +8,8 @@ returns-in-Ok-write_two g c = removed-ends _ _ _ c.args.core.now.books c.write_t
     c.args.it c.read_block.new.last.cell
     c.with_record.new.table c.args.freed.now c.table_block-block.result (Ok tt)
     (g.met.D.Disk.is_disk c.read_block.new.disk)
-    (g.met.D.Disk.is_disk c.write_two.new.core.disk) c.read_block.ensures.stays c.requires.cleared c.requires.loses
+    (g.met.D.Disk.is_disk c.write_two.new.core.disk) c.read_block.ensures.stays c.in-Ok.ensures.no_fault
+    c.requires.cleared c.requires.loses
     c.table_block-block.ensures
     c.in-Ok.ensures.cell c.with_record.ensures c.requires.freed
     c.in-Ok-write_two.ensures (λ e. c.free_all.ensures) (λ why e. cc e)
@@ -19,7 +20,8 @@ returns-in-Err-write_two g c =
     c.read_block.new.last.cell c.with_record.new.table c.args.freed.now c.table_block-block.result
     (Err c.in-Err-write_two.why)
     (g.met.D.Disk.is_disk c.read_block.new.disk)
-    (g.met.D.Disk.is_disk c.write_two.new.core.disk) c.read_block.ensures.stays c.requires.cleared
+    (g.met.D.Disk.is_disk c.write_two.new.core.disk) c.read_block.ensures.stays c.in-Ok.ensures.no_fault
+    c.requires.cleared
     c.requires.loses c.table_block-block.ensures c.in-Ok.ensures.cell c.with_record.ensures c.requires.freed
     c.in-Err-write_two.ensures (λ e. cc e)
     (λ why e. refl)

@@ -36,7 +36,9 @@ drop_file-requires-clause-loses g c =
 pub returns-in-Ok-true : goal.returns-in-Ok-true
 returns-in-Ok-true g c = subst (λ (r : Reply). DropGoes (g.D.Disk.state c.args.core.now.disk) c.args.core.now.books
     (g.D.Disk.state c.drop_link.new.core.disk) c.drop_link.new.core.books c.args.it.pair.at r) (sym c.dropped.ensures)
-    (goes-after _ _ (reads-keep _ _ c.keeps_name.ensures.stays) _ _ _ _ _ _ c.drop_link.ensures)
+    (goes-after _ _ (reads-keep _ _ c.keeps_name.ensures.stays) c.in-Ok-true.ensures.no_fault _ _ _ _ _ _
+    c.drop_link.ensures)
 
 pub returns-in-Ok-false : goal.returns-in-Ok-false
-returns-in-Ok-false g c = goes-after _ _ (reads-keep _ _ c.keeps_name.ensures.stays) _ _ _ _ _ _ c.drop_file.ensures
+returns-in-Ok-false g c = goes-after _ _ (reads-keep _ _ c.keeps_name.ensures.stays) c.in-Ok-false.ensures.no_fault
+    _ _ _ _ _ _ c.drop_file.ensures

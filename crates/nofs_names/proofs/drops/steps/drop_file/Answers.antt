@@ -1,4 +1,4 @@
-use Rattle.std.proofs.Common.{true, sym, subst}
+use Rattle.std.proofs.Common.{true, sym, subst, refl}
 use Rattle.nofs_history.specs.declared.machine.replies.Reply.{Reply}
 use Rattle.nofs_state.proofs.OnCores.Unchanged.{goes-after, reads-keep}
 use Rattle.nofs_names.specs.Drops.Answers.{DropGoes}
@@ -14,7 +14,8 @@ returns-in-Err g c =
     c.args.it.pair.at.generation c.args.it.pair.at.name.now c.args.it.pair.it c.args.it.pair.found
     (g.met.D.Disk.is_disk c.args.core.now.disk)
     c.requires.cleared.safe c.requires.cleared.going
-    c.requires.cleared.finds c.in-Err.why c.owned_blocks.ensures.stays c.in-Err.ensures.refused
+    c.requires.cleared.finds c.in-Err.why c.owned_blocks.ensures.stays c.in-Err.ensures.no_fault
+    c.in-Err.ensures.refused
 
 pub remove_file-requires-clause-cleared : goal.remove_file-requires-clause-cleared
 remove_file-requires-clause-cleared g c = cleared-on _ _ c.owned_blocks.ensures.stays _ _ c.requires.cleared
@@ -29,4 +30,5 @@ pub returns-in-Ok : goal.returns-in-Ok
 returns-in-Ok g c = subst (λ (r : Reply). DropGoes (g.D.Disk.state c.args.core.now.disk) c.args.core.now.books
     (g.D.Disk.state c.remove_file.new.core.disk) c.remove_file.new.core.books c.args.it.pair.at r)
     (sym c.dropped.ensures)
-    (goes-after _ _ (reads-keep _ _ c.owned_blocks.ensures.stays) _ _ _ _ _ _ c.remove_file.ensures)
+    (goes-after _ _ (reads-keep _ _ c.owned_blocks.ensures.stays) (c.in-Ok.ensures.no_fault refl) _ _ _ _ _ _
+    c.remove_file.ensures)

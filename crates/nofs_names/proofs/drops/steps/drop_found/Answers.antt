@@ -39,6 +39,7 @@ drop_cleared-requires g c =
 pub returns-in-Ok : goal.returns-in-Ok
 returns-in-Ok g c = goes-after (g.D.Disk.state c.args.core.now.disk) (g.D.Disk.state c.hold_entry.new.disk)
     (reads-keep (g.D.Disk.state c.args.core.now.disk) (g.D.Disk.state c.hold_entry.new.disk) c.hold_entry.ensures.stays)
+    c.in-Ok.ensures.no_fault
     (g.D.Disk.state c.drop_cleared.new.core.disk) c.args.core.now.books c.drop_cleared.new.core.books
     (step.Drop c.args.pair.at.directory c.args.pair.at.generation c.args.pair.at.name.now) no_claims
     (drop_answer c.drop_cleared.result) c.drop_cleared.ensures

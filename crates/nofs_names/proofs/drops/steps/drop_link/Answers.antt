@@ -24,7 +24,8 @@ returns-in-Ok g c = drop-ends (g.D.Disk.state c.args.core.now.disk) (g.D.Disk.st
     c.args.it.pointer
     c.args.it.cell c.read_block.new.last.cell c.with_record.new.table c.args.it.pair.found c.write_two.result
     (g.met.D.Disk.is_disk c.read_block.new.disk) (g.met.D.Disk.is_disk c.write_two.new.core.disk)
-    c.read_block.ensures.stays c.requires.cleared.safe c.requires.cleared.going c.requires.cleared.finds.directory
+    c.read_block.ensures.stays c.in-Ok.ensures.no_fault c.requires.cleared.safe c.requires.cleared.going
+    c.requires.cleared.finds.directory
     c.requires.cleared.finds.generation
     c.requires.cleared.finds.there
     c.requires.cleared.finds.known.0 c.requires.cleared.finds.found c.requires.cleared.finds.no_names

@@ -23,7 +23,8 @@ returns-in-Err-take_blocks g c =
     link-refused _ _ _ c.args.new c.refused-in-Err-take_blocks.result _ c.refused-in-Err-take_blocks.ensures
     (link-untaken _ _ _ _ _ _ _ (g.met.D.Disk.is_disk c.args.core.now.disk) c.requires.safe c.requires.going
     c.requires.stands.name_is c.requires.stands.there c.args.entry c.requires.places.place c.requires.lead
-    _ c.find_entry_slot.ensures.stays _ (link-needed _ _ c.args.new c.args.both.now c.args.link c.args.entry
+    _ c.find_entry_slot.ensures.stays c.in-Ok.ensures.no_fault _
+    (link-needed _ _ c.args.new c.args.both.now c.args.link c.args.entry
     c.requires.safe c.requires.stands c.requires.places c.in-Ok.slot c.in-Ok.ensures.fits c.in-Ok.ensures.found _
     c.blocks-needed.ensures) c.take_blocks.result _ c.take_blocks.ensures c.in-Err-take_blocks.is)
 
@@ -33,7 +34,8 @@ returns-in-Err-named_entry g c =
     c.refused-in-Err-named_entry.result _ c.refused-in-Err-named_entry.ensures
     (goes-memory (g.D.Disk.state c.args.core.now.disk) (g.D.Disk.state c.find_entry_slot.new.disk)
     (reads-keep (g.D.Disk.state c.args.core.now.disk)
-    (g.D.Disk.state c.find_entry_slot.new.disk) c.find_entry_slot.ensures.stays) c.args.core.now.books
+    (g.D.Disk.state c.find_entry_slot.new.disk) c.find_entry_slot.ensures.stays) c.in-Ok.ensures.no_fault
+    c.args.core.now.books
     (step.Link c.args.new.at.directory c.args.new.at.generation c.args.new.at.name.now c.args.new.inode c.args.new.of)
     no_claims c.requires.safe)
 
@@ -58,7 +60,8 @@ link_named-requires-clause-known g c =
     c.named_entry.ensures.spells
     (link-passes _ _ _ _ _ _ _ (g.met.D.Disk.is_disk c.args.core.now.disk) c.requires.safe c.requires.going
     c.requires.stands.name_is c.requires.stands.there c.args.entry c.requires.places.place c.requires.lead
-    _ c.find_entry_slot.ensures.stays _ (link-needed _ _ c.args.new c.args.both.now c.args.link c.args.entry
+    _ c.find_entry_slot.ensures.stays c.in-Ok.ensures.no_fault _
+    (link-needed _ _ c.args.new c.args.both.now c.args.link c.args.entry
     c.requires.safe c.requires.stands c.requires.places c.in-Ok.slot c.in-Ok.ensures.fits c.in-Ok.ensures.found _
     c.blocks-needed.ensures) c.in-Ok-take_blocks.blocks c.in-Ok-take_blocks.ensures) refl)
 
@@ -70,7 +73,7 @@ returns g c = subst (λ (it : Entry). Goes (g.D.Disk.state c.args.core.now.disk)
     (done_answer reply.Linked c.link_named.result.result)) c.in-Ok-named_entry.ensures.value
     (goes-after (g.D.Disk.state c.args.core.now.disk) (g.D.Disk.state c.find_entry_slot.new.disk)
     (reads-keep (g.D.Disk.state c.args.core.now.disk)
-    (g.D.Disk.state c.find_entry_slot.new.disk) c.find_entry_slot.ensures.stays)
+    (g.D.Disk.state c.find_entry_slot.new.disk) c.find_entry_slot.ensures.stays) c.in-Ok.ensures.no_fault
     (g.D.Disk.state c.link_named.new.core.disk) c.args.core.now.books c.link_named.new.core.books
     (step.Link c.args.new.at.directory c.args.new.at.generation c.in-Ok-named_entry.named.name
     c.in-Ok-named_entry.named.inode

@@ -23,7 +23,7 @@ returns-in-Err g c = subst (λ (r : Ended). Goes (g.D.Disk.state c.args.core.now
 pub returns : goal.returns
 returns g c = goes-after (g.D.Disk.state c.args.core.now.disk) (g.D.Disk.state c.read_tables.new.disk)
     (reads-keep (g.D.Disk.state c.args.core.now.disk)
-    (g.D.Disk.state c.read_tables.new.disk) c.read_tables.ensures.stays)
+    (g.D.Disk.state c.read_tables.new.disk) c.read_tables.ensures.stays) c.in-Ok.ensures.no_fault
     (g.D.Disk.state c.enter.new.core.disk) c.args.core.now.books c.enter.new.core.books
     (step.Link c.args.at.directory c.args.at.generation c.args.named.now.name c.args.named.now.inode
     c.args.named.now.generation) c.enter.result.claims

@@ -76,6 +76,7 @@ returns-in-Ok-entry_place g c = goes-after (g.D.Disk.state c.args.core.now.disk)
     (StaysButFaults-trans (g.D.Disk.state c.args.core.now.disk) (g.D.Disk.state c.find_unused.new.disk)
     (g.D.Disk.state c.link_place.new.disk)
     c.in-Ok.ensures.stays c.in-Ok-link_place.ensures.stays))
+    (c.in-Ok-link_place.ensures.no_fault ∙ c.in-Ok.ensures.no_fault)
     (g.D.Disk.state c.link_at.new.core.disk) c.args.core.now.books c.link_at.new.core.books
     (step.Link c.args.new.at.directory c.args.new.at.generation c.args.new.at.name.now c.args.new.inode c.args.new.of)
     c.link_at.result.claims

@@ -97,7 +97,7 @@ returns g c =
     (sym c.with_inode.ensures.result)
     (goes-after (g.D.Disk.state c.args.core.now.disk) (g.D.Disk.state c.read_tables.new.disk)
     (reads-keep (g.D.Disk.state c.args.core.now.disk)
-    (g.D.Disk.state c.read_tables.new.disk) c.read_tables.ensures.stays)
+    (g.D.Disk.state c.read_tables.new.disk) c.read_tables.ensures.stays) c.in-Ok.ensures.no_fault
     (g.D.Disk.state c.enter-ended.new.core.disk) c.args.core.now.books c.enter-ended.new.core.books
     (step.Make c.args.to.directory c.args.to.generation c.args.name c.args.to.kind) _ _
     (entered-goes (g.D.Disk.state c.read_tables.new.disk)

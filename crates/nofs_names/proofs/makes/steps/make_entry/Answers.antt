@@ -26,7 +26,8 @@ pub returns-in-Err-free_inode : goal.returns-in-Err-free_inode
 returns-in-Err-free_inode g c =
     refused-goes _ _ _ _ _ _ _ c.refused-in-Err-free_inode.result _ c.refused-in-Err-free_inode.ensures
     (no-inode-goes _ _ _ c.args.to _ _
-    (g.met.D.Disk.is_disk c.find_entry_slot.new.disk) c.find_entry_slot.ensures.stays c.requires.safe c.requires.going
+    (g.met.D.Disk.is_disk c.find_entry_slot.new.disk) c.find_entry_slot.ensures.stays c.in-Ok.ensures.no_fault
+    c.requires.safe c.requires.going
     c.requires.goes_in c.requires.rows _ _ c.free_inode.ensures c.in-Err-free_inode.is)
 
 pub take_blocks-requires-clause-needed : goal.take_blocks-requires-clause-needed
@@ -37,7 +38,8 @@ pub returns-in-Err-take_blocks : goal.returns-in-Err-take_blocks
 returns-in-Err-take_blocks g c =
     refused-goes _ _ _ _ _ _ _ c.refused-in-Err-take_blocks.result _ c.refused-in-Err-take_blocks.ensures
     (no-blocks-goes _ _ _ c.args.to _ _
-    (g.met.D.Disk.is_disk c.find_entry_slot.new.disk) c.find_entry_slot.ensures.stays c.requires.safe c.requires.going
+    (g.met.D.Disk.is_disk c.find_entry_slot.new.disk) c.find_entry_slot.ensures.stays c.in-Ok.ensures.no_fault
+    c.requires.safe c.requires.going
     c.requires.goes_in c.requires.rows c.find_entry_slot.new.names c.in-Ok.slot c.in-Ok.ensures c.in-Ok-free_inode.inode
     c.in-Ok-free_inode.ensures
     c.blocks-2.result c.blocks-2.ensures _ _ c.take_blocks.ensures c.in-Err-take_blocks.is)
@@ -45,7 +47,8 @@ returns-in-Err-take_blocks g c =
 pub make_at-requires-clause-rows : goal.make_at-requires-clause-rows
 make_at-requires-clause-rows g c =
     blocks-pass (g.D.Disk.state c.args.core.now.disk) _ c.args.core.now.books c.args.to c.args.name c.args.entry
-    (g.met.D.Disk.is_disk c.find_entry_slot.new.disk) c.find_entry_slot.ensures.stays c.requires.safe c.requires.going
+    (g.met.D.Disk.is_disk c.find_entry_slot.new.disk) c.find_entry_slot.ensures.stays c.in-Ok.ensures.no_fault
+    c.requires.safe c.requires.going
     c.requires.goes_in c.requires.rows
     c.find_entry_slot.new.names c.in-Ok.slot c.in-Ok.ensures c.in-Ok-free_inode.inode
     c.in-Ok-free_inode.ensures c.blocks-2.result c.blocks-2.ensures
@@ -86,7 +89,7 @@ pub returns-in-Ok-take_blocks : goal.returns-in-Ok-take_blocks
 returns-in-Ok-take_blocks g c =
     goes-after (g.D.Disk.state c.args.core.now.disk) (g.D.Disk.state c.find_entry_slot.new.disk)
     (reads-keep (g.D.Disk.state c.args.core.now.disk)
-    (g.D.Disk.state c.find_entry_slot.new.disk) c.find_entry_slot.ensures.stays)
+    (g.D.Disk.state c.find_entry_slot.new.disk) c.find_entry_slot.ensures.stays) c.in-Ok.ensures.no_fault
     (g.D.Disk.state c.make_at.new.core.disk) c.args.core.now.books c.make_at.new.core.books
     (step.Make c.args.to.directory c.args.to.generation c.args.name c.args.to.kind) c.make_at.result.claims
     (made_answer c.make_at.result.claims c.make_at.result.result) c.make_at.ensures

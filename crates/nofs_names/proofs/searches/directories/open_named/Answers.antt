@@ -7,21 +7,23 @@ use Rattle.nofs_names.proofs.searches.directories.open_named.Goals as goal
 pub returns-then-books : goal.returns-then-books
 returns-then-books g c = record {
   stays = StaysButFaults-refl (g.D.Disk.state c.args.disk.now);
+  no_fault = tt;
   going = tt;
   name_is = tt;
   good = tt;
   opened = tt;
-  refused = ByStop c.if-books.true refl;
+  refused = ByStop c.if-books.true refl refl;
 }
 
 pub returns-then-not-name_ok : goal.returns-then-not-name_ok
 returns-then-not-name_ok g c = record {
   stays = StaysButFaults-refl (g.D.Disk.state c.args.disk.now);
+  no_fault = tt;
   going = tt;
   name_is = tt;
   good = tt;
   opened = tt;
-  refused = ByName c.if-books.false (sym c.if-not-name_ok.ensures.value) refl;
+  refused = ByName c.if-books.false (sym c.if-not-name_ok.ensures.value) refl refl;
 }
 
 pub returns : goal.returns
