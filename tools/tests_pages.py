@@ -72,6 +72,24 @@ class Pages(unittest.TestCase):
 
         self.each(lost)
 
+    def test_a_call_of_the_table_of_promises_can_be_called(self):
+        """A function stands in the crate's lib.rt, and so does the type of a method; a trait in that of its own crate."""
+        traits = "\n".join(read(f"crates/{it}/src/lib.rt") for it in ("nofs_filedisk", "nofs_turn"))
+        table = read("docs/PROMISES.md").split("\n## The calls\n")[1]
+        lost, seen = [], 0
+        for cell in (line.split("|")[1] for line in table.splitlines() if line.startswith("| `nofs_")):
+            for part in re.split(r"; (?=`nofs_)", cell):
+                crate, item = re.search(r"`(nofs_[a-z]+)(?:::(\w+))?", part).groups()
+                exported, text = read(f"crates/{crate}/src/lib.rt") + traits, sources(crate)
+                words = [item] if item else []
+                words += [name.split("::")[0] for name in re.findall(r"`([a-zA-Z_:]+)`", part) if not name.startswith("nofs_")]
+                for word in filter(None, words):
+                    seen += 1
+                    if not re.search(rf"\b{word}\b", exported) and not re.search(rf"^ +(?:pub )?fn {word}\b", text, re.M):
+                        lost.append(f"{crate}: {word}")
+        self.assertEqual(lost, [])
+        self.assertGreater(seen, 100)
+
     def test_a_path_that_is_named_is_there(self):
         def lost(path, page):
             for name in names_in(page):
