@@ -14,8 +14,8 @@ CRATE = re.compile(r"\bnofs_[a-z_]+")
 ITEM = re.compile(r"\b(nofs_[a-z_]+)::((?:\w+::)*)(\w+)")
 PATH = re.compile(r"(?:crates|docs|tools|bench)/[\w./-]*\w|nofs_\w+/[\w./-]*\w")
 LINK = re.compile(r"\]\(([^)#\s]*)(?:#([^)\s]*))?\)")
-# What is no crate though its name looks so: a package of tools/ and the files of the client in C.
-OTHERS = {"nofs_mount", "nofs_client_h", "nofs_format", "nofs_example"}
+# What is no crate though its name looks so: a package of tools/, the files of the client in C, calls of the reader in C.
+OTHERS = {"nofs_mount", "nofs_client_h", "nofs_format", "nofs_example", "nofs_reader_look", "nofs_reader_next"}
 
 
 def read(path):

@@ -472,11 +472,19 @@ class ReaderPage(Read):
     def block(self, language):
         """The lines of a language in README that call the reader."""
         page = read(os.path.join(HOME, "README.md")).decode()
-        return re.search(rf"```{language}\n(.*?nofs_reader_.*?)```", page, re.S).group(1)
+        return re.search(rf"```{language}\n(.*?nofs_reader.*?)```", page, re.S).group(1)
 
-    def test_the_lines_of_c_list_the_names_and_copy_a_file(self):
+    def test_the_lines_of_c_copy_a_file_and_names_are_listed(self):
         source = self.at("page.c")
-        write(source, self.block("c").encode() + b'''
+        write(source, b"#include <stdio.h>\n#include <string.h>\n#include \"nofs_reader.h\"\n" + self.block("c").encode() + b'''
+static void tree(const uint8_t *image, size_t size, uint32_t directory, int depth)
+{
+    struct nofs_reader_line line = {0};
+    for (uint32_t at = 0; !nofs_reader_next(image, size, directory, at, &line) && line.what; at = line.place + 1) {
+        printf("%*s%.*s%s\\n", 2 * depth, "", (int)line.length, line.name, line.what == NOFS_READER_ENTRY ? "" : " (lost)");
+        if (line.kind == NOFS_READER_DIRECTORY) tree(image, size, line.inode, depth + 1);
+    }
+}
 int main(int count, char **words)
 {
     static uint8_t image[300 * 1056];
@@ -494,20 +502,14 @@ int main(int count, char **words)
         self.assertEqual(run([program, self.image, "g"])[0], self.content)
         self.assertEqual(run([program, self.image, "d"], status=1)[0], b"")
 
-    def test_the_lines_of_python_list_the_names_and_copy_a_file(self):
-        os.symlink(os.path.join(HOME, "crates"), self.at("crates"))
-        lines = self.block("python") + "print(*tree(1)); found = {path: inode for inode, path in tree(1)}; print(content(found[b'/g']).hex())\n"
-        done = subprocess.run([sys.executable, "-c", lines], cwd=self.room, stdout=subprocess.PIPE, check=True)
-        f, d, e = (int(re.search(rb"\((\d+), b'%s'\)" % path, done.stdout).group(1)) for path in (b"/g", b"/d/", b"/d/e/"))
-        names = f"({d}, b'/d/') ({f}, b'/d/f') ({e}, b'/d/e/') ({f}, b'/g')"
-        self.assertEqual(done.stdout.decode().splitlines(), [names, self.content.hex()])
-        block = next(block for block, (_, slot) in nofs.Tree(nofs.Image(self.image)).owners().items() if slot.wanted.kind == nofs.CONTENT)
-        laid = Laying(read(self.image))
-        laid.tag(str(block), "stamp", "77")
-        write(self.image, laid.data)
-        done = subprocess.run([sys.executable, "-c", lines], cwd=self.room, stdout=subprocess.PIPE, stderr=subprocess.PIPE)
-        self.assertEqual((done.returncode, done.stdout.decode()), (1, names + "\n"))
-        self.assertRegex(done.stderr.decode().splitlines()[-1], rf"^OSError: slot \d+ of inode {f} is lost$")
+    def test_the_lines_of_python_list_the_names(self):
+        for name in ("crates", "tools"):
+            os.symlink(os.path.join(HOME, name), self.at(name))
+        os.rename(self.image, self.at("plain.img"))
+        done = subprocess.run([sys.executable, "-c", self.block("python")], cwd=self.room, stdout=subprocess.PIPE, check=True)
+        directory, file = done.stdout.decode().splitlines()
+        self.assertRegex(directory, r"^d \(2, 1, \d+, 0\)$")
+        self.assertRegex(file, r"^g \(1, 2, \d+, 70000\)$")
 
     def test_unpacking_by_the_reader_and_by_the_program_gives_the_same(self):
         for name in ("day2", "lost"):
