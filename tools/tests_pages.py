@@ -129,6 +129,10 @@ class Pages(unittest.TestCase):
 
         self.each(long)
 
+    def test_no_table_is_cut_in_two(self):
+        """Behind a blank line the first row has a row of dashes below it."""
+        self.each(lambda path, page: [row for row in re.findall(r"\n\n(\|[^\n]*)\n(?!\|-[-|]*\n)", re.sub(r"```.*?```", "", page, flags=re.S))])
+
     def test_long_pages_begin_with_their_contents(self):
         for path in ("docs/PROMISES.md", "docs/FORMAT.md", "docs/PROOFS.md", "docs/DECISIONS.md"):
             page = read(path)
