@@ -3,6 +3,7 @@ use Rattle.std.proofs.Common.{◌≡◌, ◌⊎◌, inl, inr, ℕ, true, false, 
 use Rattle.std.specs.Prelude.{Result, Ok, Err, OnOk}
 use Rattle.nofs_disk.specs.Disk.{DiskState}
 use Rattle.nofs_history.specs.Claims.{no_claims}
+use Rattle.nofs_history.specs.Faults.{is_fault}
 use Rattle.nofs_history.specs.Steps.{Fits, is_out_of_memory}
 use Rattle.nofs_history.specs.declared.machine.history.Claims.{Claims}
 use Rattle.nofs_history.specs.declared.machine.replies.Reply.{Reply}
@@ -38,8 +39,8 @@ see-reads-none _ see reads = cc see
 
 -- and memory is not wanting for it
 pub see-has-memory : (s : Step) (r : Reply) → is_see s ≡ true → (is_see s ≡ true → is_out_of_memory r ≡ false)
-    → (reads_content s ≡ true) ⊎ (is_out_of_memory r ≡ true) → ⊥
-see-has-memory s r see has (inl reads) = see-reads-none s see reads
+    → ((reads_content s ≡ true) × (is_fault r ≡ false)) ⊎ (is_out_of_memory r ≡ true) → ⊥
+see-has-memory s r see has (inl reads) = see-reads-none s see reads.0
 see-has-memory s r see has (inr mem) = let had = has see in cc (had, mem)
 
 -- a step without memory, or without memory for its entry, goes as one that found none
@@ -48,10 +49,10 @@ memory-is (reply.Refused refusal.OutOfMemory) e = refl
 memory-is _ e = cc e
 
 pub goes-unmade : (old new : DiskState) (k l : Books) (s : Step) (c : Claims) (r : Reply) → Goes old k new l s c r
-    → (reads_content s ≡ true → Goes old k new l s no_claims (reply.Refused refusal.OutOfMemory))
-    → (reads_content s ≡ true) ⊎ (is_out_of_memory r ≡ true)
+    → (reads_content s ≡ true → is_fault r ≡ false → Goes old k new l s no_claims (reply.Refused refusal.OutOfMemory))
+    → ((reads_content s ≡ true) × (is_fault r ≡ false)) ⊎ (is_out_of_memory r ≡ true)
     → (of : Claims) × Goes old k new l s of (reply.Refused refusal.OutOfMemory)
-goes-unmade old new k l s c r goes reads (inl content) = (no_claims, reads content)
+goes-unmade old new k l s c r goes reads (inl content) = (no_claims, reads content.0 content.1)
 goes-unmade old new k l s c r goes reads (inr mem) =
     (c, subst (λ (x : Reply). Goes old k new l s c x) (memory-is r mem) goes)
 

@@ -53,7 +53,7 @@ module _ (index : Index) (s : Step) (it : Found) (told : IsTold index s it) wher
     told-order = LeavesDisk refl (KeepsCells-refl d) refl
 
     pub told-safely : IsSafe d k → IsSafeStep d k d k (reply.Found it)
-    told-safely safe = safely-answer d d k safe (StaysButFaults-refl d) (reply.Found it) refl refl going
+    told-safely safe = safely-answer d d k safe (StaysButFaults-refl d) refl (reply.Found it) refl refl going
 
     module _ (found : DiskState) (first : ℕ) (is : IsDisk d) (m : IsMount found d first k) (caller : ℕ)
         (t : IsTrueIndex found d k index) where

@@ -39,6 +39,7 @@ causes-kept old new k l r h g = record {
   not_stopped = g.cause.not_stopped;
   read = g.cause.read;
   write = g.cause.write;
+  no_fault = g.cause.no_fault;
   fault = g.cause.fault;
   refused = g.cause.refused;
   memory = λ e. ap (λ (b : Books). record b { history = h }) (g.cause.memory e);
@@ -60,6 +61,7 @@ causes-roomed old new k l r h g = record {
   not_stopped = g.not_stopped;
   read = g.read;
   write = g.write;
+  no_fault = g.no_fault;
   fault = g.fault;
   refused = g.refused;
   memory = g.memory;
@@ -76,6 +78,7 @@ causes-unroomed d k h = record {
   not_stopped = λ e. absurd (cc e);
   read = λ e. absurd (cc e);
   write = λ e. absurd (cc e);
+  no_fault = λ e. refl;
   fault = λ e. absurd (cc e);
   refused = λ e f. record { now = refl; may = refl; moment = refl };
   memory = λ e. refl;

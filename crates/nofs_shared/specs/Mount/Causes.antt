@@ -3,6 +3,7 @@ use Rattle.std.specs.Prelude.{◌≡◌, ◌<◌, ◌≤◌, true, false, List, 
 use Rattle.nofs_disk.specs.Disk.{DiskState, IsSameDisk, KeepsCells, KeepsPast, Rose}
 use Rattle.nofs_model.specs.Files.{Files}
 use Rattle.nofs_history.specs.Since.{agreed_files, files_along}
+use Rattle.nofs_history.specs.Faults.{is_fault}
 use Rattle.nofs_history.specs.Machine.{is_write_fault, is_refused}
 use Rattle.nofs_history.specs.Steps.{is_out_of_memory}
 use Rattle.nofs_history.specs.declared.machine.replies.Refusal.TheVariants as refusal
@@ -25,6 +26,8 @@ pub record StepCauses (old new : DiskState) (k l : Books) (r : Reply) : Type 0 w
   pub not_stopped : r ≡ reply.Refused refusal.Stopped → k.stopped ≡ true
   pub read : r ≡ reply.Refused refusal.ReadFault → Rose old.faults new.faults
   pub write : r ≡ reply.Refused refusal.WriteFault → Rose old.faults new.faults × (old.moment < new.moment)
+  -- no other answer comes where a call has failed: it was not made again in silence
+  pub no_fault : is_fault r ≡ false → new.faults ≡ old.faults
   pub fault : r ≡ reply.Refused refusal.WriteFault → l.stopped ≡ true
   -- every other refusal leaves the cells, and want of memory leaves all but the room for entries
   pub refused : is_refused r ≡ true → is_write_fault r ≡ false → KeepsCells old new

@@ -1,6 +1,7 @@
 //! One step at a mount: each kind of step by its step function.
 ghost use Rattle.std.specs.Prelude.{◌≡◌, true, false};
 ghost use Rattle.nofs_history.specs.Claims.{no_claims};
+ghost use Rattle.nofs_history.specs.Faults.{is_fault};
 ghost use Rattle.nofs_history.specs.Steps.{Fits, is_out_of_memory};
 ghost use Rattle.nofs_history.specs.declared.machine.replies.Refusal.TheVariants as refusal;
 ghost use Rattle.nofs_history.specs.declared.machine.replies.Reply.TheVariants as reply;
@@ -35,7 +36,8 @@ fn get_content<D: Disk + Drop>(
     requires { IsSafe (D.state core.old.disk) core.old.books }
     ensures goes { Goes (D.state core.old.disk) core.old.books (D.state core.new.disk) core.new.books
         (step.Get inode generation slot) result.claims result.reply }
-    ensures memory { Goes (D.state core.old.disk) core.old.books (D.state core.new.disk) core.new.books
+    ensures memory { is_fault result.reply ≡ false
+        → Goes (D.state core.old.disk) core.old.books (D.state core.new.disk) core.new.books
         (step.Get inode generation slot) no_claims (reply.Refused refusal.OutOfMemory) }
     ensures fits { Fits (step.Get inode generation slot) result.reply }
 {
@@ -53,7 +55,8 @@ fn act_on_names<D: Disk + Drop>(core: &mut Core<D>, alloc: Global, step: &Step) 
     requires names { is_on_names step.now ≡ true }
     ensures goes { Goes (D.state core.old.disk) core.old.books
         (D.state core.new.disk) core.new.books step.now result.claims result.reply }
-    ensures memory { reads_content step.now ≡ true → Goes (D.state core.old.disk) core.old.books
+    ensures memory { reads_content step.now ≡ true → is_fault result.reply ≡ false
+        → Goes (D.state core.old.disk) core.old.books
         (D.state core.new.disk) core.new.books step.now no_claims (reply.Refused refusal.OutOfMemory) }
     ensures fits { Fits step.now result.reply }
 {
@@ -117,7 +120,8 @@ pub(crate) fn act<D: Disk + Drop>(core: &mut Core<D>, alloc: Global, step: &Step
     requires { IsSafe (D.state core.old.disk) core.old.books }
     ensures goes { Goes (D.state core.old.disk) core.old.books
         (D.state core.new.disk) core.new.books step.now result.claims result.reply }
-    ensures memory { reads_content step.now ≡ true → Goes (D.state core.old.disk) core.old.books
+    ensures memory { reads_content step.now ≡ true → is_fault result.reply ≡ false
+        → Goes (D.state core.old.disk) core.old.books
         (D.state core.new.disk) core.new.books step.now no_claims (reply.Refused refusal.OutOfMemory) }
     ensures fits { Fits step.now result.reply }
     ensures sees { is_see step.now ≡ true → is_out_of_memory result.reply ≡ false }

@@ -1,5 +1,6 @@
 //! A second reply: the caller gets one, and the history keeps the other.
 ghost use Rattle.std.specs.Prelude.{◌≡◌, ◌⊎◌, true, false, IfOk, OnErr};
+ghost use Rattle.nofs_history.specs.Faults.{is_fault};
 ghost use Rattle.nofs_history.specs.Steps.{Fits, is_out_of_memory};
 ghost use Rattle.nofs_history.specs.declared.machine.steps.Step.{Step};
 ghost use Rattle.nofs_shared.specs.Acts.Contents.{reads_content};
@@ -30,7 +31,8 @@ fn copy_lines(alloc: Global, lines: &[NameLine]) -> Result<NameList, AllocError>
 // The same reply once more. It takes memory only where the reply has the content of a slot.
 fn copy_reply(alloc: Global, reply: &Reply) -> Result<Reply, AllocError>
     ensures same { IfOk result (λ copy. copy ≡ reply.now) }
-    ensures memory { OnErr result ((s : Step) → Fits s reply.now → reads_content s ≡ true) }
+    ensures memory { OnErr result ((s : Step) → Fits s reply.now
+        → (reads_content s ≡ true) × (is_fault reply.now ≡ false)) }
 {
     match reply {
         Reply::Found(it) => Ok(Reply::Found(*it)),
@@ -67,7 +69,7 @@ pub(crate) fn kept_reply(alloc: Global, reply: &Reply) -> Result<Reply, AllocErr
     ensures same { IfOk result (λ kept. kept ≡ reply.now) }
     ensures made { IfOk result (λ kept. is_out_of_memory reply.now ≡ false) }
     ensures memory { OnErr result ((s : Step) → Fits s reply.now
-        → (reads_content s ≡ true) ⊎ (is_out_of_memory reply.now ≡ true)) }
+        → ((reads_content s ≡ true) × (is_fault reply.now ≡ false)) ⊎ (is_out_of_memory reply.now ≡ true)) }
 {
     if reply.is_out_of_memory() {
         return Err(AllocError);
