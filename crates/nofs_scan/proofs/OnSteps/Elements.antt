@@ -77,10 +77,10 @@ module _ (old new : DiskState) (k l : Books) (s : Step) (within : is_beyond s k.
     no_fault = λ e. absurd (cc e);
   }
 
-not-above : (m n : ℕ) → m ≤ n → leb m n ≡ true
+pub not-above : (m n : ℕ) → m ≤ n → leb m n ≡ true
 not-above m n h = grind (arith, nat_tests)
 
-above : (m n : ℕ) → n < m → leb m n ≡ false
+pub above : (m n : ℕ) → n < m → leb m n ≡ false
 above m n h = grind (arith, nat_tests)
 
 -- an element of these books: its verdict, what the books learn of it, and the scan's verdict

@@ -3,7 +3,6 @@ use Rattle.std.proofs.Common.{◌≡◌, ℕ, ◌+◌, ◌/◌, ◌<◌, ◌≤�
 use Rattle.std.proofs.Common.{length, map, take, get_or, IsTrue}
 use Rattle.std.proofs.Common.{Result, Ok, Err, refl, sym, ap, ◌∙◌, subst, arith, le_refl}
 use Rattle.std.specs.List.{All}
-use Rattle.std.proofs.lemmas.Bool.Decides.{nat_tests}
 use Rattle.std.proofs.lemmas.List.Elements.{All-nil, All-push}
 use Rattle.std.proofs.lemmas.List.{map-append, take_all, take_more}
 use Rattle.nofs_disk.specs.declared.Failed.{Failed}
@@ -30,6 +29,7 @@ use Rattle.nofs_scan.specs.declared.sights.sights.InodeSight.{InodeSight}
 use Rattle.nofs_scan.specs.declared.sights.sights.Sight.{Sight}
 use Rattle.nofs_scan.specs.declared.sights.sights.Sight.TheVariants as sight
 use Rattle.nofs_scan.proofs.OnSights.Verdicts.{judged-is}
+use Rattle.nofs_scan.proofs.OnSteps.Elements.{above, not-above}
 
 -- what was read of an element gives the verdict of the scan
 right-of : (old new : DiskState) (at : SuperBlock) (known more : List (Option Bool)) (kind : ElementKind) (item : ℕ)
@@ -83,12 +83,6 @@ block-if X b f e = ap (λ (t : Bool). cond t (sight.Fixed b) (sight.Block (block
 fixed-as : (old : DiskState) (at : SuperBlock) (b : ℕ) (f : Bool) → IsAt old at
     → leb b (at.inodes / 4) ≡ f → IsTrue old.tells → is_fixed_block old.now b ≡ f
 fixed-as old at b f is e tells = ap (λ (n : SuperBlock). leb b (n.inodes / 4)) (is.same tells) ∙ e
-
-not-above : (b n : ℕ) → b ≤ n → leb b n ≡ true
-not-above b n h = grind (arith, nat_tests)
-
-above : (b n : ℕ) → n < b → leb b n ≡ false
-above b n h = grind (arith, nat_tests)
 
 pub fixed-looked : (old : DiskState) (at : SuperBlock) (known : List (Option Bool)) (b : ℕ) → IsAt old at
     → HasElement element.Block at b → b ≤ at.inodes / 4
