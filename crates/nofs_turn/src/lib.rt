@@ -2,9 +2,9 @@
 //!
 //! Promise: one pass at a time has the value. A section adds at most one entry, so the list behind the turn grows by
 //! whole sections, and each pass has seen a beginning of it. A pass keeps the places of its own entries; no place
-//! belongs to two passes, and at the end the places joined are all that were added. A call that runs a section runs one,
-//! and tells what it did to the value. Nothing is promised of who comes first, or that a waiting pass ever gets on.
-//! `docs/TURN.md` explains it.
+//! belongs to two passes, and at the end the places joined are all that were added. A call that runs a section runs
+//! one, and tells what it did to the value. Nothing is promised of who comes first, or that a waiting pass ever gets
+//! on. `docs/TURN.md` explains it.
 //!
 //! The parts, from the lowest up:
 //!

@@ -168,7 +168,15 @@ module _ {T E F : Type 0} (entries : T → List E) (fixed : T → F) (f : F) (st
 -- the maker's seat is as the others, once it has split them
 pub last_is : {E F : Type 0} (v : View E F) (seats : ℕ) → Deals v 0 seats → v ≡ newcomer v
 last_is v seats d =
-    λ i. record v { mine = d.3 i; has = d.2 i; splits = d.0 i; stands = d.1 i; looks = d.4 i; last = d.5 i; runs = d.8 i }
+    λ i. record v {
+      mine = d.3 i;
+      has = d.2 i;
+      splits = d.0 i;
+      stands = d.1 i;
+      looks = d.4 i;
+      last = d.5 i;
+      runs = d.8 i;
+    }
 
 -- the rule holds at the start
 pub starts : {T E F : Type 0} (entries : T → List E) (fixed : T → F) (x : T) (seats : ℕ)

@@ -38,8 +38,9 @@ returns-in-Err-clause-stopped g c =
       cause = (let r = s.cause in let f = e.disk.faults in omega (arith, r, f));
       began = (let b = s.began in let m = e.cells.moment in omega (arith, b, m));
       most = (let b = s.most in let m = e.cells.moment in omega (arith, b, m));
-      now = subst (λ (X : List Cell). ((g.D.Disk.state c.write_second.new.disk).now ≡ X) ⊎ ((g.D.Disk.state c.write_second.new.disk).now
-          ≡ set X 0 (super_cell (second c.in_ok-old.old)))) e.cells.now s.now;
+      now = subst (λ (X : List Cell). ((g.D.Disk.state c.write_second.new.disk).now ≡ X)
+          ⊎ ((g.D.Disk.state c.write_second.new.disk).now ≡ set X 0 (super_cell (second c.in_ok-old.old))))
+          e.cells.now s.now;
       kept = λ b x has. s.kept b x (subst (λ (may : ℕ → List Cell). Contains (may b) x) (sym e.cells.may) has);
       others = λ b apart. s.others b apart ∙ (λ j. e.cells.may j b);
       cells = cells-written _ _ _ c.in_ok-old.old (is c.args.disk.now) (is c.prepare.new.disk)
