@@ -75,6 +75,9 @@ module _ (found old new : DiskState) (before : SuperBlock) (disk : IsSameDisk fo
     mounts = mounts;
     cause = (let r = s.cause in let f = disk.faults in omega (arith, r, f));
     began = (let b = s.began in let e = cells.moment in omega (arith, b, e));
+    most = (let b = s.most in let e = cells.moment in omega (arith, b, e));
+    kept = λ b c has. s.kept b c (subst (λ (may : ℕ → List Cell). Contains (may b) c) (sym cells.may) has);
+    others = λ b apart. s.others b apart ∙ (λ j. cells.may j b);
     now = subst (λ (X : Image). (new.now ≡ X) ⊎ (new.now ≡ set X 0 (super_cell it))) cells.now s.now;
     cells = λ b c has. subst (λ (may : ℕ → List Cell). Contains (may b) c ⊎ IsSuperCell it b c) cells.may
         (adds.cells b c has);

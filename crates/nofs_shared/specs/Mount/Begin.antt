@@ -84,7 +84,11 @@ pub record IsBeginStopped (old new : DiskState) : Type 0 where
   pub mounts : MountsBy old before
   pub cause : Rose old.faults new.faults
   pub began : old.moment < new.moment
+  pub most : new.moment ≤ old.moment + 4
   pub now : (new.now ≡ old.now) ⊎ (new.now ≡ slice_set old.now 0 (super_cell (raised before)))
+  -- nothing was made durable: what a block might hold before it may still hold, and only block 0 holds more
+  pub kept : (b : ℕ) (c : Cell) → Contains (old.may b) c → Contains (new.may b) c
+  pub others : (b : ℕ) → b ≢ 0 → new.may b ≡ old.may b
   pub cells : (b : ℕ) (c : Cell) → Contains (new.may b) c → WasOr (IsSuperCell (raised before)) old b c
   pub during : LeavesRaised old new (raised before)
 
