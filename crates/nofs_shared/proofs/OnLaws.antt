@@ -3,3 +3,4 @@ pub mod Images
 pub mod After
 pub mod OneMount
 pub mod Lives
+pub mod LastFlush

@@ -1,5 +1,6 @@
 -- Mounts of one device, with crashes and upgrades between them.
-use Rattle.std.specs.Prelude.{◌≡◌, ◌≢◌, ◌⊎◌, ℕ, ◌<◌, ◌≤◌, IsTrue, true, List, [], ◌∷◌, ◌++◌, length, get_or, slice_set}
+use Rattle.std.specs.Prelude.{◌≡◌, ◌≢◌, ◌⊎◌, ℕ, ◌<◌, ◌≤◌, IsTrue, Bool, true, false, List}
+use Rattle.std.specs.Prelude.{[], ◌∷◌, ◌++◌, length, get_or, slice_set}
 use Rattle.nofs_disk.specs.Disk.{DiskState, IsSameDisk, IsSettled, KeepsCells, Picks}
 use Rattle.nofs_super.specs.Format.{IsFormatted, super_cell}
 use Rattle.nofs_super.specs.Raise.{raised}
@@ -9,12 +10,20 @@ use Rattle.nofs_model.specs.Geometry.{Image, inode, super_at}
 use Rattle.nofs_model.specs.Slots.{record_pointer, value}
 use Rattle.nofs_model.specs.declared.image.value.Value.TheVariants.{Bytes}
 use Rattle.nofs_history.specs.Since.{agreed_files, is_generation}
+use Rattle.nofs_history.specs.Faults.{has_fault}
 use Rattle.nofs_history.specs.HistoryState.{HistoryState}
+use Rattle.nofs_history.specs.Steps.{is_out_of_memory}
+use Rattle.nofs_history.specs.declared.machine.history.Entry1.{Entry1}
+use Rattle.nofs_history.specs.declared.machine.replies.Reply.{Reply}
+use Rattle.nofs_history.specs.declared.machine.replies.Reply.TheVariants as reply
+use Rattle.nofs_history.specs.declared.machine.steps.Step.TheVariants as step
 use Rattle.nofs_history.specs.World.{World}
 use Rattle.nofs_crashlaw.specs.Lives.{GivenBy, HasSuperCell, IsLife, Life, Lives, NextLife, Raised, Rising}
 use Rattle.nofs_crashlaw.specs.Lives.{SameOrUpgraded, Upgraded, claimed_in}
 use Rattle.nofs_shared.specs.Mount.End.{Ends}
+use Rattle.nofs_shared.specs.Mount.Forms.{Forms}
 use Rattle.nofs_shared.specs.Mount.Invariant.{IsSoundDisk}
+use Rattle.nofs_shared.specs.Passes.Entries.{TellsStep}
 use Rattle.nofs_upgrade.specs.Upgrades.{StaysOrUpgrades}
 
 -- A mount that found a sound disk, and what it said at its end: `found` is the disk as the mount found it, `last` the
@@ -175,3 +184,10 @@ LawMountContents state = (later : List (Mount state)) (mount : Mount state) (ear
     → (i g k : ℕ) (content : List ℕ) → k < slot_limit
     → is_generation (base_of mount) i g ≡ true → value (base_of mount) i k ≡ Bytes content
     → ∥ GivenOver earlier i g k content ∥₁
+
+-- The last flush, over any disk: where a history of this form ends with a Flush of the whole disk that found memory,
+-- and nothing failed in it, that flush was made
+abbrev pub LawLastFlush : Type 0
+LawLastFlush = (H K : List Entry1) (from to : ℕ) (last : Bool) (caller : ℕ) (r : Reply)
+    → Forms from false K to last → TellsStep caller (step.Flush 0 0) H K r → is_out_of_memory r ≡ false
+    → has_fault K ≡ false → r ≡ reply.Flushed

@@ -2,9 +2,11 @@
 //!
 //! Promise: what a mount says of itself at its end makes it a life, and one that finds what a crash of
 //! another may leave is the life after that. So over all mounts since a format, contents come from
-//! entries, and no generation and no stamp is claimed twice.
+//! entries, and no generation and no stamp is claimed twice. A last flush of the whole disk was made where nothing
+//! failed before it.
 
-ghost use Rattle.nofs_shared.specs.Laws.{LawFirstDisk, LawFoundSound, LawInRaise, LawKeptAfter, LawMountContents};
+ghost use Rattle.nofs_shared.specs.Laws.{LawFirstDisk, LawFoundSound, LawInRaise, LawKeptAfter, LawLastFlush};
+ghost use Rattle.nofs_shared.specs.Laws.{LawMountContents};
 ghost use Rattle.nofs_shared.specs.Laws.{LawMountLife, LawMountLives};
 ghost use Rattle.nofs_shared.specs.Laws.{LawMountOnce, LawNextMount, LawSettledAfter, LawUpgradedAfter};
 
@@ -38,4 +40,10 @@ pub fn law_mounts<D: Disk>()
     ensures lives { LawMountLives D.state }
     ensures once { LawMountOnce D.state }
     ensures contents { LawMountContents D.state }
+{}
+
+/// Of the history of a mount over any disk, in which no call of the device failed: a Flush of the whole disk that is
+/// its last step, and found memory, was made.
+pub fn law_last_flush()
+    ensures { LawLastFlush }
 {}

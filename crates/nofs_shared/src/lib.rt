@@ -21,7 +21,7 @@ mod laws;
 mod mount;
 mod passes;
 
-pub use laws::{law_comes_after, law_mount_life, law_mounts};
+pub use laws::{law_comes_after, law_last_flush, law_mount_life, law_mounts};
 pub use mount::mount::{BeginFault, Mount};
 pub use mount::serves::Serves;
 pub use passes::shared_mount::{ShareFault, SharedMount, SharedOut};
