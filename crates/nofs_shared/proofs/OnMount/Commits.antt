@@ -1,5 +1,6 @@
 -- A mount stands after a verdict of an earlier state is committed.
-use Rattle.std.proofs.Common.{◌≡◌, ℕ, ◌^◌, ◌<◌, ◌≤◌, arith, Bool, true, false, [], ◌∷◌, ◌++◌, set, IsTrue, ◌⊎◌, inl}
+use Rattle.std.proofs.Common.{◌≡◌, ℕ, ◌^◌, ◌<◌, ◌≤◌, arith, Bool, true, false, List, [], ◌∷◌, ◌++◌}
+use Rattle.std.proofs.Common.{set, IsTrue, ◌⊎◌, inl}
 use Rattle.std.proofs.Common.{inr, refl, sym, ap, ◌∙◌, subst, le_refl}
 use Rattle.nofs_disk.specs.Disk.{DiskState}
 use Rattle.nofs_disk.specs.Chains.{IsSameDisk-refl, KeepsCells-refl, KeepsPast-refl}
@@ -14,7 +15,7 @@ use Rattle.nofs_history.specs.declared.machine.steps.Step.{Step}
 use Rattle.nofs_history.specs.declared.machine.replies.Reply.{Reply}
 use Rattle.nofs_history.specs.declared.machine.replies.Reply.TheVariants as reply
 use Rattle.nofs_history.specs.declared.machine.replies.Refusal.TheVariants as refusal
-use Rattle.nofs_history.specs.Steps.{Fits}
+use Rattle.nofs_history.specs.Steps.{Fits, is_out_of_memory}
 use Rattle.nofs_state.specs.Books.Maps.{with_history}
 use Rattle.nofs_state.specs.Cores.Invariant.{IsOpen, IsStopped, Past}
 use Rattle.nofs_state.specs.Cores.Steps.{IsSafeStep, LeavesDisk, entry}
@@ -25,6 +26,7 @@ use Rattle.nofs_scan.specs.Steps.Commits.{Commits, WasOpen}
 use Rattle.nofs_shared.specs.Mount.Flushes.{names_whole}
 use Rattle.nofs_shared.specs.Mount.Commits.{IsCommit, SeesVerdict}
 use Rattle.nofs_shared.specs.Mount.Earlier.{IsOfBooks}
+use Rattle.nofs_shared.specs.Mount.Entries.{AddsStep}
 use Rattle.nofs_shared.specs.Acts.Sees.{is_see}
 use Rattle.nofs_shared.specs.Mount.Invariant.{IsMount, IsSoundDisk, MountStands}
 use Rattle.nofs_shared.proofs.OnMount.Histories.{entry_at}
@@ -182,6 +184,19 @@ commit-beside found d k l h kind item used r c = record {
       λ running memory. sees-beside k l h kind item used r (c.seen running memory);
   right = c.right;
 }
+
+-- the entry of a step of a mount that is stopped
+pub adds-stopped : (caller : ℕ) (s : Step) (r : Reply) (e : Entry1) (H K : List Entry1)
+    → r ≡ reply.Refused refusal.Stopped → K ≡ H ++ e ∷ [] → e.caller ≡ caller → e.step ≡ s
+    → e.reply ≡ reply.Refused refusal.Stopped → AddsStep caller s r H K
+adds-stopped caller s r e H K is whole by step answer = record {
+  none = λ m. absurd (let z : false ≡ true = sym (ap is_out_of_memory is) ∙ m in cc z);
+  one = λ m. (e, whole, by, step, answer ∙ sym is);
+}
+
+pub fits-stopped : (kind : ElementKind) (item : ℕ) (r : Reply) → r ≡ reply.Refused refusal.Stopped
+    → Fits (see_step kind item) r
+fits-stopped kind item r is = subst (λ (q : Reply). Fits (see_step kind item) q) (sym is) tt
 
 -- what a See step's reply may be
 pub fits-seen : (kind : ElementKind) (item : ℕ) (used : Bool) → Fits (see_step kind item) (reply.Seen used)

@@ -23,7 +23,7 @@ use Rattle.nofs_workers.specs.Sweep.{see_of}
 use Rattle.nofs_shared.specs.Mount.Commits.{CommitRan}
 use Rattle.nofs_shared.specs.Acts.Sees.{FindsRoom, is_see, is_sweeper, sweep_entries}
 use Rattle.nofs_shared.specs.Passes.Entries.{TellsStep}
-use Rattle.nofs_shared.specs.Passes.Rooms.{LacksRoom, StepRan}
+use Rattle.nofs_shared.specs.Passes.Rooms.{LacksRoom}
 use Rattle.nofs_shared.specs.Passes.Seats.{SameSeat}
 use Rattle.nofs_shared.proofs.OnPasses.Entries.{ran-less}
 
@@ -82,15 +82,17 @@ knows-looked tells P v w (Ok e) h p = knows-left tells v w (Ok e) h (P e) p
 knows-looked tells P v w (Err x) h p = tt
 
 -- where a step on an element found no memory, the pass lacks room for those of the sweeps
-pub step-lacks : {F : Type 0} (room : F → ℕ) (caller : ℕ) (s : Step) (v w : View Entry1 F) (r : Reply)
-    → StepRan room caller s v w r → is_see s ≡ true → is_out_of_memory r ≡ true → LacksRoom room caller w
+pub step-lacks : {F : Type 0} {Done : F → List Entry1 → List Entry1 → Reply → Type 0} (room : F → ℕ) (caller : ℕ)
+    (s : Step) (v w : View Entry1 F) (r : Reply)
+    → Ran (λ f xs ys q. (TellsStep caller s xs ys q × FindsRoom (room f) caller s xs q) × Done f xs ys q) v w r
+    → is_see s ≡ true → is_out_of_memory r ≡ true → LacksRoom room caller w
 step-lacks {F = F} room caller s v w r h see out sweeper =
-    let same : w.seen ≡ h.before = ap (λ (u : View Entry1 F). u.seen) h.now ∙ h.told.0.adds.none out in (
+    let same : w.seen ≡ h.before = ap (λ (u : View Entry1 F). u.seen) h.now ∙ h.told.0.0.adds.none out in (
       h.part,
       ap (λ (u : View Entry1 F). u.fixed) h.now ∙ h.same_part,
       subst (λ (H : List Entry1). room h.part ≤ sweep_entries H) (sym same)
           (dite (dec_lt (sweep_entries h.before) (room h.part))
-          (λ fewer. absurd (let found = h.told.1 (both-true (is_sweeper caller) (is_see s) sweeper see) fewer in
+          (λ fewer. absurd (let found = h.told.0.1 (both-true (is_sweeper caller) (is_see s) sweeper see) fewer in
           cc (found, out)))
           (λ not. omega (arith, not))),
     )
@@ -100,12 +102,16 @@ step-lacks {F = F} room caller s v w r h see out sweeper =
     both-true false b e q = e
 
 -- what a commit tells: its step with the room for it, and what it says of the list that it met
-module _ {F : Type 0} (commits : F → List Entry1 → Reply → Type 0) (room : F → ℕ) (caller : ℕ) (s : Step)
+module _ {F : Type 0} {Done : F → List Entry1 → List Entry1 → Reply → Type 0}
+    (commits : F → List Entry1 → Reply → Type 0) (room : F → ℕ) (caller : ℕ) (s : Step)
     (v w : View Entry1 F) (r : Reply)
-    (h : Ran (λ f xs ys q. TellsStep caller s xs ys q × commits f xs q × FindsRoom (room f) caller s xs q) v w r) where
-  pub commit-step : StepRan room caller s v w r
-  commit-step = ran-less _ (λ f xs ys q. TellsStep caller s xs ys q × FindsRoom (room f) caller s xs q)
-      (λ f xs ys q t. (t.0, t.2)) h
+    (h : Ran (λ f xs ys q. (TellsStep caller s xs ys q × commits f xs q × FindsRoom (room f) caller s xs q)
+    × Done f xs ys q) v w r) where
+  pub commit-step :
+      Ran (λ f xs ys q. (TellsStep caller s xs ys q × FindsRoom (room f) caller s xs q) × Done f xs ys q) v w r
+  commit-step = ran-less _
+      (λ f xs ys q. (TellsStep caller s xs ys q × FindsRoom (room f) caller s xs q) × Done f xs ys q)
+      (λ f xs ys q t. ((t.0.0, t.0.2), t.1)) h
 
   pub commit-ran : CommitRan commits v w r
   commit-ran = record {
@@ -116,7 +122,7 @@ module _ {F : Type 0} (commits : F → List Entry1 → Reply → Type 0) (room :
     keeps = subst (λ (l : List Entry1). IsPrefix h.before l) (sym (ap (λ (u : View Entry1 F). u.seen) h.now)) h.keeps;
     at_most_one = subst (λ (l : List Entry1). length l ≤ length h.before + 1)
         (sym (ap (λ (u : View Entry1 F). u.seen) h.now)) h.at_most_one;
-    says = h.told.1;
+    says = h.told.0.1;
   }
 
 -- the step that examines an element is one, whether a sweeper makes it or a scan

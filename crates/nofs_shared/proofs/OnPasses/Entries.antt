@@ -16,7 +16,6 @@ use Rattle.nofs_history.specs.declared.machine.replies.Reply.{Reply}
 use Rattle.nofs_history.specs.Callers.{done_of, is_by}
 use Rattle.nofs_shared.specs.Mount.Entries.{AddsStep}
 use Rattle.nofs_shared.specs.Passes.Entries.{TellsStep, all_by, own_steps}
-use Rattle.nofs_shared.specs.Passes.Rooms.{StepRan}
 
 -- the entries that a step added
 record News (c : ℕ) (s : Step) (r : Reply) (H K : List Entry1) : Type 0 where
@@ -76,9 +75,11 @@ ran-less tells less to h = record {
 }
 
 -- a step through a pass is one
-pub step-ran : {F : Type 0} (room : F → ℕ) (caller : ℕ) (s : Step) (v w : View Entry1 F) (r : Reply)
-    → StepRan room caller s v w r → Ran (λ f xs ys q. TellsStep caller s xs ys q) v w r
-step-ran room caller s v w r h = ran-less _ (λ f xs ys q. TellsStep caller s xs ys q) (λ f xs ys q t. t.0) h
+pub step-ran : {F : Type 0} {Also Done : F → List Entry1 → List Entry1 → Reply → Type 0} (caller : ℕ) (s : Step)
+    (v w : View Entry1 F) (r : Reply)
+    → Ran (λ f xs ys q. (TellsStep caller s xs ys q × Also f xs ys q) × Done f xs ys q) v w r
+    → Ran (λ f xs ys q. TellsStep caller s xs ys q) v w r
+step-ran caller s v w r h = ran-less _ (λ f xs ys q. TellsStep caller s xs ys q) (λ f xs ys q t. t.0.0) h
 
 module _ {F : Type 0} (c : ℕ) (s : Step) (r : Reply) (v w : View Entry1 F)
     (h : Ran (λ (f : F) xs ys q. TellsStep c s xs ys q) v w r) where
@@ -98,13 +99,13 @@ module _ {F : Type 0} (c : ℕ) (s : Step) (r : Reply) (v w : View Entry1 F)
       ∙ new_ones.made (own_steps v.mine) (length h.before))
 
 -- the same of a try
-pub tried_owns : {B F : Type 0} (Same : B → Type 0) (room : F → ℕ) (c : ℕ) (s : Step) (res : Result Reply B)
-    (word : B → ℕ) (v w : View Entry1 F)
-    → IfOk res (StepRan room c s v w)
+pub tried_owns : {B F : Type 0} (Also Done : F → List Entry1 → List Entry1 → Reply → Type 0) (Same : B → Type 0)
+    (c : ℕ) (s : Step) (res : Result Reply B) (word : B → ℕ) (v w : View Entry1 F)
+    → IfOk res (λ r. Ran (λ f xs ys q. (TellsStep c s xs ys q × Also f xs ys q) × Done f xs ys q) v w r)
     → IfErr res (λ b. Same b × (word b % 2 ≡ 1) × (w ≡ looked v (word b)))
     → all_by c v.mine ≡ true → all_by c w.mine ≡ true
-tried_owns Same room c s (Ok r) word v w ok err e = ran_owns c s r v w (step-ran room c s v w r ok) e
-tried_owns {F = F} Same room c s (Err b) word v w ok err e =
+tried_owns Also Done Same c s (Ok r) word v w ok err e = ran_owns c s r v w (step-ran c s v w r ok) e
+tried_owns {F = F} Also Done Same c s (Err b) word v w ok err e =
     subst (λ (u : View Entry1 F). all_by c u.mine ≡ true) (sym err.2) e
 
 -- a history grows by one entry at most

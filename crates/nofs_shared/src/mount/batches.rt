@@ -1,10 +1,15 @@
 //! Several elements of a mount are looked at together, and their verdicts committed one by one.
-ghost use Rattle.std.specs.Prelude.{◌≡◌, ◌≤◌, ℕ, true, false, All, IfOk, IfErr, length};
-ghost use Rattle.nofs_disk.specs.Disk.{KeepsCells, StaysButFaults};
+ghost use Rattle.std.specs.Prelude.{◌≡◌, ◌-◌, ◌++◌, ◌∷◌, ◌<◌, ◌≤◌, ℕ, [], true, false, All, IfOk, IfErr, length};
+ghost use Rattle.nofs_history.specs.Claims.{no_claims};
 ghost use Rattle.nofs_history.specs.Steps.{is_out_of_memory};
+ghost use Rattle.nofs_history.specs.Writes.{makes_calls};
+ghost use Rattle.nofs_state.specs.Books.Maps.{with_history};
+ghost use Rattle.nofs_state.specs.Cores.Steps.{entry};
 ghost use Rattle.nofs_state.specs.Books.Agreement.{with_agreement};
 ghost use Rattle.nofs_scan.specs.Steps.Elements.{HasElement, items_of, see_step, verdict_at};
+ghost use Rattle.nofs_scan.specs.Steps.Looks.{OnlyLearns};
 ghost use Rattle.nofs_shared.specs.Index.Truths.{IsTrueIndex};
+ghost use Rattle.nofs_shared.specs.declared.index.Index.{Index};
 ghost use Rattle.nofs_shared.specs.Mount.Batches as batches;
 ghost use Rattle.nofs_shared.specs.Mount.Commits.{IsCommit, IsVerdict};
 ghost use Rattle.nofs_shared.specs.Mount.Earlier.{IsEarlier, IsOfBooks};
@@ -14,11 +19,9 @@ ghost use Rattle.nofs_shared.specs.Passes.Entries.{TellsStep};
 ghost use Rattle.nofs_shared.specs.Acts.Sees.{TakesKept};
 
 use crate::acts::room::take_room;
-use crate::index::Index;
 use crate::mount::mount::Mount;
-use crate::mount::steps::step_in;
 use nofs_disk::Disk;
-use nofs_history::{ElementKind, NO_CLAIMS, Refusal, Reply};
+use nofs_history::{ElementKind, NO_CLAIMS, Refusal, Reply, Step};
 use nofs_scan::{Evidence, commit, look_batch, step_of};
 use nofs_state::Core;
 use nofs_super::SuperBlock;
@@ -48,12 +51,35 @@ fn are_elements(kind: ElementKind, at: &SuperBlock, items: &[u64]) -> bool
     true
 }
 
-// Commits a verdict of an earlier state of the mount, with its entry. It takes no memory.
+// Adds the entry of a step of a mount that is stopped. It takes no memory, and asks nothing of the device.
+fn keep_stopped<D: Disk + Drop>(core: &mut Core<D>, caller: u32, step: Step) -> Reply
+    requires { 0 < core.old.books.history.spare }
+    ensures answer { result ≡ Reply.Refused Refusal.Stopped }
+    ensures disk { core.new.disk ≡ core.old.disk }
+    ensures books { core.new.books ≡ with_history core.old.books (record {
+      start = core.old.books.history.start;
+      entries = core.old.books.history.entries
+          ++ entry caller (D.state core.old.disk) (D.state core.old.disk) step no_claims
+          (Reply.Refused Refusal.Stopped) ∷ [];
+      spare = core.old.books.history.spare - 1;
+    }) }
+{
+    let from = core.disk.moment();
+    core.keep_step(
+        caller,
+        from,
+        step,
+        Reply::Refused(Refusal::Stopped),
+        NO_CLAIMS,
+    );
+    Reply::Refused(Refusal::Stopped)
+}
+
+// Commits a verdict of an earlier state of the mount, with its entry. It takes no memory, and asks nothing of the
+// device.
 fn commit_in<D: Disk + Drop>(
     core: &mut Core<D>,
-    index: &mut Index,
     caller: u32,
-    alloc: Global,
     evidence: &Evidence<D>,
     at: u32,
     used: bool,
@@ -64,13 +90,12 @@ fn commit_in<D: Disk + Drop>(
     ensures keeps { (found : D) (first : ℕ)
         → IsMount (D.state found) (D.state evidence.now.core.value.disk) first evidence.now.core.value.books
         → IsMount (D.state found) (D.state core.old.disk) first core.old.books
-        → IsTrueIndex (D.state found) (D.state core.old.disk) core.old.books index.old
         → IsMount (D.state found) (D.state core.new.disk) first core.new.books }
-    ensures notes { (found : D) (first : ℕ)
+    ensures notes { (found : D) (first : ℕ) (index : Index)
         → IsMount (D.state found) (D.state evidence.now.core.value.disk) first evidence.now.core.value.books
         → IsMount (D.state found) (D.state core.old.disk) first core.old.books
-        → IsTrueIndex (D.state found) (D.state core.old.disk) core.old.books index.old
-        → IsTrueIndex (D.state found) (D.state core.new.disk) core.new.books index.new }
+        → IsTrueIndex (D.state found) (D.state core.old.disk) core.old.books index
+        → IsTrueIndex (D.state found) (D.state core.new.disk) core.new.books index }
     ensures commits { (found : D) (first : ℕ)
         → IsMount (D.state found) (D.state evidence.now.core.value.disk) first evidence.now.core.value.books
         → IsMount (D.state found) (D.state core.old.disk) first core.old.books
@@ -80,13 +105,13 @@ fn commit_in<D: Disk + Drop>(
         core.old.books.history.entries core.new.books.history.entries result }
     ensures goes_on { BooksGoOn (D.state core.new.disk) core.old.books core.new.books }
     ensures sees { is_out_of_memory result ≡ false }
-    ensures leaves { KeepsCells (D.state core.old.disk) (D.state core.new.disk) }
-    ensures dirty { (D.state core.new.disk).dirty ≡ (D.state core.old.disk).dirty }
+    ensures quiet { makes_calls result ≡ false }
+    ensures disk { core.new.disk ≡ core.old.disk }
 {
     let item = evidence.verdicts.item(at);
     let step = step_of(evidence.kind, item);
     if core.books.stopped {
-        return step_in(core, index, alloc, caller, step);
+        return keep_stopped(core, caller, step);
     }
     let from = core.disk.moment();
     let stands = commit(core, evidence, at, used);
@@ -111,7 +136,8 @@ impl<D: Disk + Drop> Mount<D> {
         requires count { (1 ≤ length items.now) × (length items.now ≤ 64) }
         ensures same { (self.new.core.books ≡ with_agreement self.old.core.books self.new.core.books.agreement)
             × (self.new.found ≡ self.old.found) × (self.new.first ≡ self.old.first) × (self.new.kept ≡ self.old.kept) }
-        ensures stays { StaysButFaults (D.state self.old.core.disk) (D.state self.new.core.disk) }
+        ensures learns { OnlyLearns (D.state self.old.core.disk) self.old.core.books
+            (D.state self.new.core.disk) self.new.core.books }
         ensures refused { IfErr result (batches.BatchFails (D.state self.old.core.disk) self.old.core.books
             (D.state self.new.core.disk) kind items.now) }
         ensures beyond { (All (HasElement kind self.old.core.books.at) items.now → ⊥) → result ≡ Err Refusal.BadRange }
@@ -130,16 +156,9 @@ impl<D: Disk + Drop> Mount<D> {
     }
 
     /// Commits a verdict of this mount's as one See step: it is set where the element was not examined
-    /// since, and else the one that stands stays and is the answer. Over a disk that tells and was found
-    /// sound, the answer is the verdict of the disk as it is now.
-    pub fn commit(
-        &mut self,
-        alloc: Global,
-        caller: u32,
-        evidence: &Evidence<D>,
-        at: u32,
-        used: bool,
-    ) -> Reply
+    /// since, and else the one that stands stays and is the answer. Nothing is asked of the device. Over a disk that
+    /// tells and was found sound, the answer is the verdict of the disk as it is now.
+    pub fn commit(&mut self, caller: u32, evidence: &Evidence<D>, at: u32, used: bool) -> Reply
         requires own { IsEarlier (D.state self.old.found.value)
             (D.state evidence.now.core.value.disk) evidence.now.core.value.books
             self.old.first self.old.core.books.history.start self.old.core.books.at
@@ -155,8 +174,7 @@ impl<D: Disk + Drop> Mount<D> {
             × (self.new.core.books.at ≡ self.old.core.books.at) }
         ensures kept { TakesKept caller
             (see_step evidence.now.kind (verdict_at evidence.now.verdicts at).item) result self.old.kept self.new.kept }
-        ensures leaves { KeepsCells (D.state self.old.core.disk) (D.state self.new.core.disk) }
-        ensures dirty { (D.state self.new.core.disk).dirty ≡ (D.state self.old.core.disk).dirty }
+        ensures disk { self.new.core.disk ≡ self.old.core.disk }
         ensures own { IsEarlier (D.state self.new.found.value)
             (D.state evidence.now.core.value.disk) evidence.now.core.value.books
             self.new.first self.new.core.books.history.start self.new.core.books.at
@@ -169,15 +187,7 @@ impl<D: Disk + Drop> Mount<D> {
             None => Reply::Refused(Refusal::OutOfMemory),
             Some(left) => {
                 self.kept = left;
-                commit_in(
-                    &mut self.core,
-                    &mut self.index,
-                    caller,
-                    alloc,
-                    evidence,
-                    at,
-                    used,
-                )
+                commit_in(&mut self.core, caller, evidence, at, used)
             }
         }
     }

@@ -71,7 +71,10 @@ pub trait Serves: Kept<Entry = Entry1> + Drop {
     /// What a step did to the device, from the value before it to the value after it.
     ghost does: { Self → Self → Step → Reply → Type 0 };
 
-    /// What a look, or a commit of what it found, leaves of the device.
+    /// What a look leaves of the device, and what the value learns by it.
+    ghost learns: { Self → Self → Type 0 };
+
+    /// What a commit of what was found leaves of the device.
     ghost stays: { Self → Self → Type 0 };
 
     /// What a commit of the verdict at a place says, where the entries before it were these.
@@ -96,22 +99,15 @@ pub trait Serves: Kept<Entry = Entry1> + Drop {
         ensures entries { Self.entries self.new ≡ Self.entries self.old }
         ensures asked { IfOk result (λ e. (kind_of e ≡ kind) × (items_in e ≡ items.now)) }
         ensures own { IfOk result (λ e. is_of e (Self.fixed self.new) (Self.entries self.new)) }
-        ensures stays { stays self.old self.new };
+        ensures learns { learns self.old self.new };
 
     /// The verdict at a place, as it was found.
     fn judge(evidence: &Self::Evidence, at: u32) -> bool
         requires { at < length (items_in evidence.now) }
         ensures { result ≡ verdict_in evidence.now at };
 
-    /// Commits the verdict at a place as one step of a caller.
-    fn settle(
-        &mut self,
-        alloc: Global,
-        caller: u32,
-        evidence: &Self::Evidence,
-        at: u32,
-        used: bool,
-    ) -> Reply
+    /// Commits the verdict at a place as one step of a caller. It takes no memory.
+    fn settle(&mut self, caller: u32, evidence: &Self::Evidence, at: u32, used: bool) -> Reply
         requires own { is_of evidence.now (Self.fixed self.old) (Self.entries self.old) }
         requires within { at < length (items_in evidence.now) }
         requires used { used ≡ verdict_in evidence.now at }
@@ -131,7 +127,7 @@ pub trait Serves: Kept<Entry = Entry1> + Drop {
 
 impl<D: Disk + Drop> Serves for Mount<D> {
     ghost use Rattle.nofs_scan.specs.Steps.Elements.{items_of, verdict_at};
-    ghost use Rattle.nofs_disk.specs.Disk.{KeepsCells};
+    ghost use Rattle.nofs_scan.specs.Steps.Looks.{OnlyLearns};
     ghost use Rattle.nofs_shared.specs.Mount.Causes.{MeetsSound, StepCauses, StepOrder};
     ghost use Rattle.nofs_shared.specs.Mount.Commits.{CommitsAt};
     ghost use Rattle.nofs_shared.specs.Mount.Earlier.{IsEarlier, earlier-more};
@@ -156,8 +152,10 @@ impl<D: Disk + Drop> Serves for Mount<D> {
         (MeetsSound (D.state old.found.value) (D.state old.core.disk) old.core.books) s r
         new.core.books.history.entries };
 
-    ghost stays = { λ old new. KeepsCells (D.state old.core.disk) (D.state new.core.disk)
-        × ((D.state new.core.disk).dirty ≡ (D.state old.core.disk).dirty) };
+    ghost learns = { λ old new. OnlyLearns (D.state old.core.disk) old.core.books
+        (D.state new.core.disk) new.core.books };
+
+    ghost stays = { λ old new. new.core.disk ≡ old.core.disk };
 
     ghost commits = { λ e at f xs r. ∥ CommitsAt D.state f.found f.first xs e.kind
         (verdict_at e.verdicts at).item (verdict_at e.verdicts at).used r ∥₁ };
@@ -179,15 +177,8 @@ impl<D: Disk + Drop> Serves for Mount<D> {
         judge(evidence, at)
     }
 
-    fn settle(
-        &mut self,
-        alloc: Global,
-        caller: u32,
-        found: &Evidence<D>,
-        at: u32,
-        used: bool,
-    ) -> Reply {
-        self.commit(alloc, caller, found, at, used)
+    fn settle(&mut self, caller: u32, found: &Evidence<D>, at: u32, used: bool) -> Reply {
+        self.commit(caller, found, at, used)
     }
 
     fn write_out(&mut self) -> Result<Option<u64>, OutFault> {

@@ -6,7 +6,7 @@ ghost use Rattle.nofs_history.specs.Steps.{Fits, with_made};
 ghost use Rattle.nofs_scan.specs.Steps.Elements as elements;
 ghost use Rattle.nofs_shared.specs.Mount.Commits.{CommitRan};
 ghost use Rattle.nofs_shared.specs.Passes.Entries.{own_steps};
-ghost use Rattle.nofs_shared.specs.Passes.Rooms.{StepRan};
+ghost use Rattle.nofs_shared.specs.Passes.Rooms.{LookRan, StepRan};
 ghost use Rattle.nofs_shared.specs.Passes.Seats.{SameSeat};
 
 use crate::mount::serves::Serves;
@@ -35,6 +35,8 @@ impl<V: Serves> Section<V> for Look<'_> {
     ghost tells = { λ s f xs ys r. (ys ≡ xs) × IfOk r (λ e. (V.kind_of e ≡ s.kind) × (V.items_in e ≡ s.items.now))
         × IfOk r (λ e. V.is_of e f ys) };
 
+    ghost does = { λ _ x y _. V.learns x y };
+
     ghost lasts = { λ _ _ _ _ asked. asked };
 
     fn run(self, value: &mut V) -> Result<V::Evidence, Refusal> {
@@ -45,7 +47,6 @@ impl<V: Serves> Section<V> for Look<'_> {
 // A commit, under the turn.
 #[derive(Drop)]
 struct Settle<'a, V: Serves> {
-    alloc: Global,
     caller: u32,
     evidence: &'a V::Evidence,
     at: u32,
@@ -69,15 +70,18 @@ impl<V: Serves> Section<V> for Settle<'_, V> {
         × FindsRoom (V.room_in f) s.caller
         (see_step (V.kind_of s.evidence.now) (get_or (V.items_in s.evidence.now) s.at 0)) xs r };
 
+    ghost does = { λ _ x y _. V.stays x y };
+
     ghost lasts = { λ s f xs ys asked. (V.is_of_more s.evidence.now f xs ys asked.0, asked.1, asked.2) };
 
     fn run(self, value: &mut V) -> Reply {
-        value.settle(self.alloc, self.caller, self.evidence, self.at, self.used)
+        value.settle(self.caller, self.evidence, self.at, self.used)
     }
 }
 
 impl<R: Wait, V: Serves> SharedPass<'_, R, V> {
-    /// Looks at 1 to 64 elements, in one section. It makes no entry.
+    /// Looks at 1 to 64 elements, in one section. It makes no entry, and of the value it does what `Serves` says of a
+    /// look.
     pub fn look_batch(&mut self, kind: ElementKind, items: &[u64]) -> Result<V::Evidence, Refusal>
         requires count { (1 ≤ length items.now) × (length items.now ≤ 64) }
         ensures same { (self.new.turn.now ≡ self.old.turn.now) × (self.new.caller ≡ self.old.caller)
@@ -85,6 +89,7 @@ impl<R: Wait, V: Serves> SharedPass<'_, R, V> {
         ensures made { own_steps (view_of self.new.pass).mine ≡ own_steps (view_of self.old.pass).mine }
         ensures asked { IfOk result (λ e. (V.kind_of e ≡ kind) × (V.items_in e ≡ items.now)) }
         ensures own { IfOk result (λ e. MayRun (V.is_of e) (view_of self.new.pass)) }
+        ensures ran { LookRan V.entries V.fixed V.learns (view_of self.old.pass) (view_of self.new.pass) result }
     {
         let look = Look {
             alloc: self.alloc,
@@ -94,9 +99,9 @@ impl<R: Wait, V: Serves> SharedPass<'_, R, V> {
         self.turn.with(self.rt, &mut self.pass, look)
     }
 
-    /// Commits the verdict at a place, in one section, as one step of this caller. What a commit says holds of the
-    /// entries that it met: at a mount over a disk that tells and was found sound, the answer is the verdict of the
-    /// disk of that moment.
+    /// Commits the verdict at a place, in one section, as one step of this caller, which leaves of the device what
+    /// `Serves` says of a commit. What a commit says holds of the entries that it met: at a mount over a disk that
+    /// tells and was found sound, the answer is the verdict of the disk of that moment.
     pub fn commit(&mut self, evidence: &V::Evidence, at: u32, used: bool) -> Reply
         requires own { MayRun (V.is_of evidence.now) (view_of self.old.pass) }
         requires within { at < length (V.items_in evidence.now) }
@@ -109,12 +114,11 @@ impl<R: Wait, V: Serves> SharedPass<'_, R, V> {
             (elements.see_step (V.kind_of evidence.now) (get_or (V.items_in evidence.now) at 0)) result }
         ensures own { MayRun (V.is_of evidence.now) (view_of self.new.pass) }
         ensures right { CommitRan (V.commits evidence.now at) (view_of self.old.pass) (view_of self.new.pass) result }
-        ensures ran { StepRan V.room_in self.old.caller
+        ensures ran { StepRan V.entries V.fixed V.room_in (λ x y _ _. V.stays x y) self.old.caller
             (elements.see_step (V.kind_of evidence.now) (get_or (V.items_in evidence.now) at 0))
             (view_of self.old.pass) (view_of self.new.pass) result }
     {
         let settle = Settle {
-            alloc: self.alloc,
             caller: self.caller,
             evidence,
             at,

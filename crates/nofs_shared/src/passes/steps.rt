@@ -1,9 +1,10 @@
 //! Passes by which callers make steps at a shared mount. Workers take one as their way to it.
 //!
 //! Promise: a step is made under one turn, and its entry is the pass's own and lies behind all that the pass had seen.
-//! A step of a sweep wants for no memory while room for its entry was taken. A batch is looked at under one turn, and
-//! each of its verdicts is committed under a later one. A write-out makes no step, and takes the turn only where a
-//! block may be kept back.
+//! Under that turn nothing else is done: the value does what `Serves` says of the step, which orders no write and
+//! writes no block out. A step of a sweep wants for no memory while room for its entry was taken. A batch is looked at
+//! under one turn, and each of its verdicts is committed under a later one. A write-out makes no step, and takes the
+//! turn only where a block may be kept back.
 ghost use Rattle.std.specs.Prelude.{◌≡◌, ℕ, ◌+◌, ◌/◌, ◌%◌, ◌<◌, ◌≤◌, true, [], length, IfOk, IfErr, OnErr};
 ghost use Rattle.nofs_turn.specs.Turn.{view_of, IsPassOf};
 ghost use Rattle.nofs_turn.specs.Rule.Views.{looked};
@@ -29,8 +30,6 @@ struct Move<'a> {
 }
 
 impl<V: Serves> Section<V> for Move<'_> {
-    ghost use mathlib.Core.List.{IsPrefix};
-    ghost use Rattle.std.specs.Prelude.{◌≡◌, ◌+◌, ◌≤◌, length};
     ghost use Rattle.nofs_shared.specs.Acts.Sees.{FindsRoom};
     ghost use Rattle.nofs_shared.specs.Passes.Entries.{TellsStep};
 
@@ -41,16 +40,11 @@ impl<V: Serves> Section<V> for Move<'_> {
     ghost tells = { λ s f xs ys r. TellsStep s.caller s.step xs ys r
         × FindsRoom (V.room_in f) s.caller s.step xs r };
 
+    ghost does = { λ s x y r. V.does x y s.step r };
+
     ghost lasts = { λ _ _ _ _ _. tt };
 
-    fn run(self, value: &mut V) -> Reply
-        ensures fixed { V.fixed value.new ≡ V.fixed value.old }
-        ensures keeps { IsPrefix (V.entries value.old) (V.entries value.new) }
-        ensures at_most_one { length (V.entries value.new) ≤ length (V.entries value.old) + 1 }
-        ensures tells { TellsStep self.entry.caller self.entry.step (V.entries value.old) (V.entries value.new) result
-            × FindsRoom (V.room_in (V.fixed value.old)) self.entry.caller self.entry.step (V.entries value.old) result }
-        ensures does { V.does value.old value.new self.entry.step result }
-    {
+    fn run(self, value: &mut V) -> Reply {
         self.clean.store(false, Ordering::SeqCst);
         value.serve(self.alloc, self.caller, self.step)
     }
@@ -111,7 +105,8 @@ impl<'a, R, V: Serves> SharedPass<'a, R, V> {
             (λ r. (own_steps (view_of self.new.pass).mine ≡ with_made (own_steps (view_of self.old.pass).mine) step r)
             × Fits step r) }
         ensures ran { IfOk result
-            (StepRan V.room_in self.old.caller step (view_of self.old.pass) (view_of self.new.pass)) }
+            (StepRan V.entries V.fixed V.room_in V.does self.old.caller step
+            (view_of self.old.pass) (view_of self.new.pass)) }
         ensures one_look { (view_of self.new.pass).looks ≡ (view_of self.old.pass).looks + 1 }
         ensures busy { IfErr result (λ b. (b.step ≡ step) × (b.word % 2 ≡ 1)
             × (view_of self.new.pass ≡ looked (view_of self.old.pass) b.word)) }
@@ -179,7 +174,8 @@ impl<R: Wait, V: Serves> Steps for SharedPass<'_, R, V> {
         ensures fits { Fits step result }
         ensures goes { (self.new.turn.now ≡ self.old.turn.now) × (self.new.caller ≡ self.old.caller)
             × SameSeat (view_of self.old.pass) (view_of self.new.pass) }
-        ensures ran { StepRan V.room_in self.old.caller step (view_of self.old.pass) (view_of self.new.pass) result }
+        ensures ran { StepRan V.entries V.fixed V.room_in V.does self.old.caller step
+            (view_of self.old.pass) (view_of self.new.pass) result }
     {
         let section = Move {
             alloc: self.alloc,

@@ -33,6 +33,8 @@ impl<V: Serves> Section<V> for WriteOut<'_> {
 
     ghost tells = { λ _ _ xs ys _. ys ≡ xs };
 
+    ghost does = { λ _ _ _ _. Unit {0} };
+
     ghost lasts = { λ _ _ _ _ _. tt };
 
     fn run(self, value: &mut V) -> Result<Option<u64>, OutFault> {

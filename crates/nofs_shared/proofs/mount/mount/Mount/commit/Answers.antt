@@ -13,6 +13,7 @@ use Rattle.nofs_shared.proofs.OnPasses.Entries.{adds-prefix}
 use Rattle.nofs_shared.proofs.OnMount.Commits.{commit-beside, commit-unmade}
 use Rattle.nofs_shared.proofs.OnActs.OtherRoom.{roomed, with-room}
 use Rattle.nofs_shared.proofs.OnActs.Room.{adds-none, few-left, taken-left, taken-same, takes-kept}
+use Rattle.nofs_shared.proofs.OnMount.Calls.{made-on, made-quiet, rests-none}
 use Rattle.nofs_shared.proofs.mount.mount.Mount.commit.Goals as goal
 
 pub commit_in-requires-clause-earlier : goal.commit_in-requires-clause-earlier
@@ -28,10 +29,31 @@ pub invariant_of-self : goal.invariant_of-self
 invariant_of-self g c = let s = c.args.self.now in
     let is = roomed _ _ _ _ c.take_room.new.history _ s.index c.take_room.ensures.stays c.take_room.ensures.kept s.few
     s.taken s.safe s.stands s.indexed in
-    record { few = is.few; room = is.room; taken = is.taken; safe = is.safe; stands = is.stands; indexed = is.indexed }
+    record {
+      few = is.few;
+      room = is.room;
+      taken = is.taken;
+      safe = is.safe;
+      stands = is.stands;
+      indexed = is.indexed;
+      asked = ∥∥₁_elim s.asked ∥∥₁_prop (λ a. ∣ made-on g.D.Disk.state s.core.books.history.start
+          c.take_room.new.history.start s.core.books.history.entries c.take_room.new.history.entries s.core.disk
+          s.core.disk c.take_room.ensures.stays.1 c.take_room.ensures.stays.0
+          (rests-none (g.D.Disk.state s.core.disk)) a ∣₁);
+    }
 
 pub invariant_of-self-in-Some : goal.invariant_of-self-in-Some
 invariant_of-self-in-Some g c = record {
+  asked = ∥∥₁_elim c.args.self.now.asked ∥∥₁_prop (λ a. ∣ made-quiet g.D.Disk.state c.take_room.new.history.start
+      c.commit_in.new.core.books.history.start c.take_room.new.history.entries
+      c.commit_in.new.core.books.history.entries c.args.self.now.core.disk c.commit_in.new.core.disk c.args.caller
+      (see_step c.args.evidence.now.kind (verdict_at c.args.evidence.now.verdicts c.args.at).item) c.commit_in.result
+      c.commit_in.ensures.goes_on.same.0 c.commit_in.ensures.disk c.commit_in.ensures.quiet
+      c.commit_in.ensures.tells.adds
+      (made-on g.D.Disk.state c.args.self.now.core.books.history.start c.take_room.new.history.start
+      c.args.self.now.core.books.history.entries c.take_room.new.history.entries c.args.self.now.core.disk
+      c.args.self.now.core.disk c.take_room.ensures.stays.1 c.take_room.ensures.stays.0
+      (rests-none (g.D.Disk.state c.args.self.now.core.disk)) a) ∣₁);
   few = few-left c.args.caller
       (see_step c.args.evidence.now.kind (verdict_at c.args.evidence.now.verdicts c.args.at).item)
       c.commit_in.result c.take_room.new.history.entries c.commit_in.new.core.books.history.entries c.in-Some.left
@@ -43,12 +65,13 @@ invariant_of-self-in-Some g c = record {
       with-room (g.D.Disk.state c.args.self.now.found.value) (g.D.Disk.state c.args.self.now.core.disk)
       c.args.self.now.first c.args.self.now.core.books c.take_room.new.history c.args.self.now.index _
       c.take_room.ensures.stays c.args.self.now.stands c.args.self.now.indexed
-      (λ m t. c.commit_in.ensures.keeps c.args.self.now.found.value c.args.self.now.first then m t));
+      (λ m t. c.commit_in.ensures.keeps c.args.self.now.found.value c.args.self.now.first then m));
   indexed = ∥∥₁_elim c.requires.own.stood ∥∥₁_prop (λ then.
       with-room (g.D.Disk.state c.args.self.now.found.value) (g.D.Disk.state c.args.self.now.core.disk)
       c.args.self.now.first c.args.self.now.core.books c.take_room.new.history c.args.self.now.index _
       c.take_room.ensures.stays c.args.self.now.stands c.args.self.now.indexed
-      (λ m t. c.commit_in.ensures.notes c.args.self.now.found.value c.args.self.now.first then m t));
+      (λ m t. c.commit_in.ensures.notes c.args.self.now.found.value c.args.self.now.first
+      c.args.self.now.index then m t));
   taken =
       (let same = c.step_of-step.ensures ∙ ap (see_step c.args.evidence.now.kind) c.item-item.ensures in
       subst (λ (s : SuperBlock).

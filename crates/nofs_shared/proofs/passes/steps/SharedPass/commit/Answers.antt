@@ -6,7 +6,7 @@ use Rattle.nofs_shared.proofs.passes.steps.SharedPass.commit.Goals as goal
 pub invariant_of-self : goal.invariant_of-self
 invariant_of-self g c = record {
   of = c.with.ensures.of;
-  own = ran_owns _ _ _ _ _ (step-ran g.V.Serves.room_in _ _ _ _ _
+  own = ran_owns _ _ _ _ _ (step-ran _ _ _ _ _
       (commit-step _ g.V.Serves.room_in _ _ _ _ _ c.with.ensures.ran)) c.args.self.now.own;
 }
 
@@ -14,7 +14,7 @@ pub returns-clause-same : goal.returns-clause-same
 returns-clause-same g c = (refl, refl, seat-stays _ _ _ _ c.with.ensures.ran)
 
 pub returns-clause-made : goal.returns-clause-made
-returns-clause-made g c = ran_made _ _ _ _ _ (step-ran g.V.Serves.room_in _ _ _ _ _
+returns-clause-made g c = ran_made _ _ _ _ _ (step-ran _ _ _ _ _
     (commit-step _ g.V.Serves.room_in _ _ _ _ _ c.with.ensures.ran))
 
 pub returns-clause-own : goal.returns-clause-own

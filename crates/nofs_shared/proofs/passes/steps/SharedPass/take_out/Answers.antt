@@ -8,7 +8,7 @@ pub invariant_of-self : goal.invariant_of-self
 invariant_of-self g c = record {
   of = c.with.ensures.of;
   own = subst (λ (l : List (ℕ × Entry1)). all_by c.args.self.now.caller l ≡ true)
-      (sym (mine-stays _ _ _ _ c.with.ensures.ran c.with.ensures.ran.told))
+      (sym (mine-stays _ _ _ _ c.with.ensures.ran c.with.ensures.ran.told.0))
       c.args.self.now.own;
 }
 
@@ -16,7 +16,7 @@ pub returns-clause-same : goal.returns-clause-same
 returns-clause-same g c = (refl, refl, seat-stays _ _ _ _ c.with.ensures.ran)
 
 pub returns-clause-made : goal.returns-clause-made
-returns-clause-made g c = ap own_steps (mine-stays _ _ _ _ c.with.ensures.ran c.with.ensures.ran.told)
+returns-clause-made g c = ap own_steps (mine-stays _ _ _ _ c.with.ensures.ran c.with.ensures.ran.told.0)
 
 pub returns-clause-looked : goal.returns-clause-looked
 returns-clause-looked g c = looks-more _ _ _ _ c.with.ensures.ran

@@ -7,13 +7,13 @@ pub invariant_of-self : goal.invariant_of-self
 invariant_of-self g c = record {
   of = c.try_with.ensures.of;
   own =
-      tried_owns (λ b. _) g.V.Serves.room_in _ _ c.try_with.result
+      tried_owns _ _ (λ b. _) _ _ c.try_with.result
       (λ b. b.word) _ _ c.try_with.ensures.ran c.try_with.ensures.busy c.args.self.now.own;
 }
 
 pub returns-in-Ok-clause-made : goal.returns-in-Ok-clause-made
 returns-in-Ok-clause-made g c =
-    (ran_made _ _ _ _ _ (step-ran g.V.Serves.room_in _ _ _ _ _ c.in-Ok.ensures.ran), c.in-Ok.ensures.ran.told.0.fits)
+    (ran_made _ _ _ _ _ (step-ran _ _ _ _ _ c.in-Ok.ensures.ran), c.in-Ok.ensures.ran.told.0.0.fits)
 
 pub returns-in-Ok-clause-same : goal.returns-in-Ok-clause-same
 returns-in-Ok-clause-same g c = (refl, refl, seat-stays _ _ _ _ c.in-Ok.ensures.ran)
