@@ -9,6 +9,7 @@ pub mod Looks
 pub mod Scans
 pub mod WriteOuts
 pub mod Causes
+pub mod Calls
 pub mod Refusals
 pub mod Begin
 pub mod Beginnings

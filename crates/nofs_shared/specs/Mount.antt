@@ -10,4 +10,5 @@ pub mod Commits
 pub mod Flushes
 pub mod Books
 pub mod Causes
+pub mod Calls
 pub mod Begin

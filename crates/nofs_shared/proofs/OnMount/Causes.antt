@@ -1,10 +1,10 @@
 -- Why a step of a mount was refused: what its step function says, whatever becomes of the history.
-use Rattle.std.proofs.Common.{◌≡◌, ℕ, ◌⊎◌, inl, inr, Bool, true, IsTrue, List, [], ◌∷◌, length, eqb-true, eq-eqb}
+use Rattle.std.proofs.Common.{◌≡◌, ℕ, ◌⊎◌, inl, inr, Bool, IsTrue, List, [], ◌∷◌, length, eqb-true, eq-eqb}
 use Rattle.std.proofs.Common.{refl, sym, ap, ◌∙◌, subst, arith}
 use Rattle.std.proofs.Math.Logic.{∥∥₁_elim, ∥∥₁_prop}
 use mathlib.Core.Bool.{Bool-set}
 use Rattle.nofs_disk.specs.declared.tag.Cell.{Cell}
-use Rattle.nofs_disk.specs.Disk.{DiskState, KeepsCells}
+use Rattle.nofs_disk.specs.Disk.{DiskState}
 use Rattle.nofs_disk.specs.Chains.{KeepsCells-refl}
 use Rattle.nofs_disk.specs.Order.{IsApart, WritesOnce}
 use Rattle.nofs_model.specs.Files.{Files}
@@ -18,11 +18,9 @@ use Rattle.nofs_history.specs.declared.machine.replies.Reply.TheVariants as repl
 use Rattle.nofs_history.specs.declared.machine.history.Claims.{Claims}
 use Rattle.nofs_history.specs.declared.machine.history.Entry1.{Entry1}
 use Rattle.nofs_history.specs.declared.machine.steps.Step.{Step}
-use Rattle.nofs_history.specs.declared.machine.steps.Step.TheVariants as step
 use Rattle.nofs_history.specs.Claims.{no_claims}
 use Rattle.nofs_state.proofs.OnCores.Rows.{open-with}
 use Rattle.nofs_state.specs.Cores.Steps.{FlushesAlone, IsSafeStep, LeavesDisk, MeetsOpen, NoOrder, WritesAlone}
-use Rattle.nofs_shared.specs.Acts.Sees.{is_see}
 use Rattle.nofs_state.specs.declared.books.maps.Books.{Books}
 use Rattle.nofs_shared.specs.Mount.Causes.{MeetsSound, StepCauses, StepOrder}
 use Rattle.nofs_state.specs.Cores.Invariant.{IsOpen, IsStopped, Past}
@@ -108,7 +106,7 @@ number-known : (a b : ℕ) → ∥ a ≡ b ∥₁ → a ≡ b
 number-known a b known = eqb-true a b (∥∥₁_elim known (Bool-set _ _) (λ e. eq-eqb a b e))
 
 -- a step owes the same where it is known that the device tells
-order-known : (old new : DiskState) (P Q : Files → Type 0) (s : Step) (c : Claims) (r : Reply)
+pub order-known : (old new : DiskState) (P Q : Files → Type 0) (s : Step) (c : Claims) (r : Reply)
     → ((F : Files) → Q F → ∥ P F ∥₁)
     → NoOrder old new P s c r → NoOrder old new Q s c r
 order-known old new P Q s c r known (LeavesDisk none cells dirty) = LeavesDisk none cells dirty
@@ -164,31 +162,3 @@ pub order-unroomed : (d : DiskState) (P : Files → Type 0) (s : Step) (K : List
     → StepOrder d d P s (reply.Refused refusal.OutOfMemory) K
 order-unroomed d P s K =
     record { claims = no_claims; entry = λ e. cc; order = LeavesDisk refl (KeepsCells-refl d) refl }
-
--- a step that examines an element writes nothing out
-pub see-dirty : (old new : DiskState) (P : Files → Type 0) (s : Step) (r : Reply) (K : List Entry1) → is_see s ≡ true
-    → StepOrder old new P s r K
-    → new.dirty ≡ old.dirty
-see-dirty old new P s r K e o = go s e o.order
-  where
-    go : (s : Step) → is_see s ≡ true → NoOrder old new P s o.claims r → new.dirty ≡ old.dirty
-    go s e (LeavesDisk none cells dirty) = dirty
-    go (step.SeeInode i) e (FlushesAlone is quick f) = absurd (cc is)
-    go (step.SeeInode i) e (WritesAlone made w) = absurd w.count
-    go (step.SeeBlock b) e (FlushesAlone is quick f) = absurd (cc is)
-    go (step.SeeBlock b) e (WritesAlone made w) = absurd w.count
-    go _ e _ = absurd (cc e)
-
--- and leaves the device
-pub see-leaves : (old new : DiskState) (P : Files → Type 0) (s : Step) (r : Reply) (K : List Entry1) → is_see s ≡ true
-    → StepOrder old new P s r K
-    → KeepsCells old new
-see-leaves old new P s r K e o = go s e o.order
-  where
-    go : (s : Step) → is_see s ≡ true → NoOrder old new P s o.claims r → KeepsCells old new
-    go s e (LeavesDisk none cells dirty) = cells
-    go (step.SeeInode i) e (FlushesAlone is quick f) = absurd (cc is)
-    go (step.SeeInode i) e (WritesAlone made w) = absurd w.count
-    go (step.SeeBlock b) e (FlushesAlone is quick f) = absurd (cc is)
-    go (step.SeeBlock b) e (WritesAlone made w) = absurd w.count
-    go _ e _ = absurd (cc e)

@@ -1,6 +1,7 @@
 //! A mounted disk with its history.
 //!
-//! Promise: one history stands over one base, from the flush of the mount on; what holds of it at the end is `Ends`.
+//! Promise: one history stands over one base, from the flush of the mount on; what holds of it at the end is `Ends`,
+//! and `MadeCalls` names the calls by which it came there.
 //!
 //! What a mount goes through (the ghost field `stands`, `IsMount`):
 //!
@@ -31,6 +32,7 @@ ghost use Rattle.nofs_shared.specs.Mount.Invariant.{IsMount, IsSoundDisk};
 ghost use Rattle.nofs_shared.specs.Passes.Entries.{TellsStep};
 ghost use Rattle.nofs_shared.specs.Acts.Sees.{TakesKept, sweep_entries};
 ghost use Rattle.nofs_shared.specs.Mount.Flushes.{Settles};
+ghost use Rattle.nofs_shared.specs.Mount.Calls.{MadeCalls};
 ghost use Rattle.nofs_shared.specs.Mount.Causes.{MeetsSound, StepCauses, StepOrder};
 
 use crate::acts::room::take_room;
@@ -60,6 +62,7 @@ pub struct Mount<D: Disk + Drop> {
     ghost safe: { IsSafe (D.state core.disk) core.books },
     ghost stands: { ∥ IsMount (D.state found.value) (D.state core.disk) first core.books ∥₁ },
     ghost indexed: { ∥ IsTrueIndex (D.state found.value) (D.state core.disk) core.books index ∥₁ },
+    ghost asked: { ∥ MadeCalls D.state core.books.history.start core.books.history.entries core.disk ∥₁ },
 }
 
 /// Why a disk was not mounted. It comes back.
@@ -176,10 +179,12 @@ impl<D: Disk + Drop> Mount<D> {
         &self.core.books.history
     }
 
-    /// The device and the history.
+    /// The device and the history. Since the history starts the device made the calls of its entries that write or
+    /// flush, in their order, and no other.
     pub fn end(self) -> (D, History)
         ensures is { (result.0 ≡ self.core.disk) × (result.1 ≡ self.core.books.history) }
         ensures ends { ∥ Ends (D.state self.found.value) (D.state result.0) self.first result.1 ∥₁ }
+        ensures asked { ∥ MadeCalls D.state result.1.start result.1.entries result.0 ∥₁ }
     {
         let Mount { core, .. } = self;
         let Core { disk, books } = core;

@@ -13,6 +13,9 @@ use Rattle.nofs_state.specs.Books.Maps.{IsSafe}
 use Rattle.nofs_shared.specs.Mount.Invariant.{IsMount}
 use Rattle.nofs_shared.proofs.OnMount.Beginnings.{leaves-found, mounts-on, stopped-found}
 use Rattle.nofs_shared.proofs.OnMount.Begin.{begin-mount, at-raised, sounds-raised, sounds-rest, sound-on}
+use Rattle.nofs_history.specs.declared.machine.history.Entry1.{Entry1}
+use Rattle.nofs_shared.specs.Mount.Calls.{CallsAlong}
+use Rattle.nofs_shared.proofs.OnMount.Calls.{rests-none}
 use Rattle.nofs_shared.proofs.mount.mount.Mount.begin.Goals as goal
 
 pub returns-in-Err-clause-fault : goal.returns-in-Err-clause-fault
@@ -63,6 +66,12 @@ invariant_of-result g c =
       room = c.over.ensures.begun.spare;
       safe = subst H (sym c.over.ensures.disk) c.over.ensures.safe;
       indexed = ∣ (λ q going. c.empty.ensures _) ∣₁;
+      asked = ∣ (
+        c.over.result.disk,
+        ap (λ (d : g.row.D.Denot). (S d).moment) c.over.ensures.disk ∙ sym c.over.ensures.begun.start,
+        subst (λ (H : List Entry1). CallsAlong S c.over.result.disk H c.over.result.disk)
+            (sym c.over.ensures.begun.empty) (rests-none (S c.over.result.disk)),
+      ) ∣₁;
       stands = ∣ subst F (sym c.of-found.ensures) (subst G (sym c.over.ensures.disk) m) ∣₁;
       taken = (let i = ap (λ (s : SuperBlock). s.inodes) c.over.ensures.begun.at in
           let b = ap (λ (s : SuperBlock). s.blocks) c.over.ensures.begun.at in omega (arith, i, b));

@@ -4,10 +4,19 @@ use Rattle.nofs_state.specs.declared.books.maps.Books.{Books}
 use Rattle.nofs_shared.specs.Acts.Sees.{sweep_entries}
 use Rattle.nofs_shared.proofs.OnIndex.Mounts.{index-same}
 use Rattle.nofs_shared.proofs.OnMount.Looks.{looked-own, mount-looked, safe-looked}
+use Rattle.nofs_shared.proofs.OnMount.Calls.{made-on, rests-reads}
 use Rattle.nofs_shared.proofs.mount.mount.Mount.look_batch.Goals as goal
 
 pub invariant_of-self : goal.invariant_of-self
 invariant_of-self g c = record {
+  asked = ∥∥₁_elim c.args.self.now.asked ∥∥₁_prop (λ a. ∣ made-on g.D.Disk.state
+      c.args.self.now.core.books.history.start
+      c.look_batch.new.core.books.history.start c.args.self.now.core.books.history.entries
+      c.look_batch.new.core.books.history.entries c.args.self.now.core.disk c.look_batch.new.core.disk
+      (ap (λ (b : Books). b.history.start) c.look_batch.ensures.only.books)
+      (ap (λ (b : Books). b.history.entries) c.look_batch.ensures.only.books)
+      (rests-reads (g.D.Disk.state c.args.self.now.core.disk) (g.D.Disk.state c.look_batch.new.core.disk)
+      c.look_batch.ensures.only.stays) a ∣₁);
   few = subst (λ (b : Books). length b.history.entries + c.args.self.now.kept ≤ 2 ^ 62)
       (sym c.look_batch.ensures.only.books) c.args.self.now.few;
   room = subst (λ (b : Books). c.args.self.now.kept ≤ b.history.spare)

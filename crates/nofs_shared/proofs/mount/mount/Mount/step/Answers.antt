@@ -8,10 +8,21 @@ use Rattle.nofs_shared.proofs.OnMount.Causes.{causes-roomed, causes-unroomed, or
 use Rattle.nofs_shared.proofs.OnMount.Claims.{unowned-none}
 use Rattle.nofs_shared.proofs.OnActs.OtherRoom.{roomed, with-room}
 use Rattle.nofs_shared.proofs.OnActs.Room.{adds-none, few-left, settles-memory, taken-left, taken-same, takes-kept}
+use Rattle.std.proofs.Math.Logic.{∥∥₁_elim, ∥∥₁_prop}
+use Rattle.nofs_shared.proofs.OnMount.Calls.{made-on, made-step, rests-none}
 use Rattle.nofs_shared.proofs.mount.mount.Mount.step.Goals as goal
 
 pub invariant_of-self-in-Some : goal.invariant_of-self-in-Some
 invariant_of-self-in-Some g c = record {
+  asked = ∥∥₁_elim c.args.self.now.asked ∥∥₁_prop (λ a. ∣ made-step g.D.Disk.state c.take_room.new.history.start
+      c.step_in.new.core.books.history.start c.take_room.new.history.entries
+      c.step_in.new.core.books.history.entries c.args.self.now.core.disk c.step_in.new.core.disk _ c.args.caller
+      c.args.step c.step_in.result c.step_in.ensures.goes_on.same.0 c.step_in.ensures.causes.disk
+      c.step_in.ensures.order c.step_in.ensures.tells.adds
+      (made-on g.D.Disk.state c.args.self.now.core.books.history.start c.take_room.new.history.start
+      c.args.self.now.core.books.history.entries c.take_room.new.history.entries c.args.self.now.core.disk
+      c.args.self.now.core.disk c.take_room.ensures.stays.1 c.take_room.ensures.stays.0
+      (rests-none (g.D.Disk.state c.args.self.now.core.disk)) a) ∣₁);
   few = few-left c.args.caller c.args.step c.step_in.result c.take_room.new.history.entries
       c.step_in.new.core.books.history.entries c.in-Some.left
       c.step_in.ensures.tells.adds c.in-Some.ensures.few;
@@ -40,7 +51,18 @@ pub invariant_of-self : goal.invariant_of-self
 invariant_of-self g c = let s = c.args.self.now in
     let is = roomed _ _ _ _ c.take_room.new.history _ s.index c.take_room.ensures.stays c.take_room.ensures.kept s.few
     s.taken s.safe s.stands s.indexed in
-    record { few = is.few; room = is.room; taken = is.taken; safe = is.safe; stands = is.stands; indexed = is.indexed }
+    record {
+      few = is.few;
+      room = is.room;
+      taken = is.taken;
+      safe = is.safe;
+      stands = is.stands;
+      indexed = is.indexed;
+      asked = ∥∥₁_elim s.asked ∥∥₁_prop (λ a. ∣ made-on g.D.Disk.state s.core.books.history.start
+          c.take_room.new.history.start s.core.books.history.entries c.take_room.new.history.entries s.core.disk
+          s.core.disk c.take_room.ensures.stays.1 c.take_room.ensures.stays.0
+          (rests-none (g.D.Disk.state s.core.disk)) a ∣₁);
+    }
 
 pub returns-in-None-clause-tells : goal.returns-in-None-clause-tells
 returns-in-None-clause-tells g c = record {

@@ -6,6 +6,7 @@ use Rattle.nofs_state.proofs.OnCores.WriteOuts.{safe-out}
 use Rattle.nofs_shared.specs.Acts.Sees.{sweep_entries}
 use Rattle.nofs_shared.proofs.OnIndex.Mounts.{index-same}
 use Rattle.nofs_shared.proofs.OnMount.WriteOuts.{mount-out-of}
+use Rattle.nofs_shared.proofs.OnMount.Calls.{made-on, rests-out}
 use Rattle.nofs_shared.proofs.mount.mount.Mount.write_out.Goals as goal
 
 pub invariant_of-self : goal.invariant_of-self
@@ -14,6 +15,11 @@ invariant_of-self g c =
     let same = c.write_out.ensures.books in
     let out = c.write_out.ensures.out in
     record {
+      asked = ∥∥₁_elim c.args.self.now.asked ∥∥₁_prop (λ a. ∣ made-on S c.args.self.now.core.books.history.start
+          c.write_out.new.self.books.history.start c.args.self.now.core.books.history.entries
+          c.write_out.new.self.books.history.entries c.args.self.now.core.disk c.write_out.new.self.disk
+          (ap (λ (b : Books). b.history.start) same) (ap (λ (b : Books). b.history.entries) same)
+          (rests-out (S c.args.self.now.core.disk) (S c.write_out.new.self.disk) _ out) a ∣₁);
       few = subst (λ (b : Books). length b.history.entries + c.args.self.now.kept ≤ 2 ^ 62)
           (sym same) c.args.self.now.few;
       room = subst (λ (b : Books). c.args.self.now.kept ≤ b.history.spare) (sym same) c.args.self.now.room;
