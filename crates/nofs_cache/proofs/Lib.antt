@@ -1,2 +1,3 @@
 pub mod OnCached
 pub mod OnDirty
+pub mod OnGathered

@@ -158,17 +158,24 @@ pub record SpendsOne (old new : DiskState) (before after : List DirtyEntry) : Ty
 -- a write below was done: one entry is less, and no fault was added
 pub record WroteBelow (old new : DiskState) (before after : List DirtyEntry) : Type 0 where
   pub fewer : length after ≡ length before - 1
+  pub calls : new.moment + 2 * length after ≡ old.moment + 2 * length before
   pub spare : old.spare + length after ≤ new.spare + length before
   pub no_fault : new.faults ≡ old.faults
 
 -- every write below was done
 pub record WroteAllBelow (old new : DiskState) (before after : List DirtyEntry) : Type 0 where
   pub clean : after ≡ []
+  pub calls : new.moment ≡ old.moment + 2 * length before
   pub spare : old.spare ≤ new.spare + length before
   pub no_fault : new.faults ≡ old.faults
 
+-- of the calls below each but the last one wrote a block that is dirty no more
+abbrev pub CallsOnce : DiskState → DiskState → ℕ → ℕ → Type 0
+CallsOnce old new before after = new.moment + 2 * after ≡ old.moment + 2 * before + 2
+
 -- a write below failed, after some
 pub record Stopped (old new : DiskState) (before after : List DirtyEntry) : Type 0 where
+  pub calls : CallsOnce old new (length before) (length after)
   pub spare : old.spare + length after ≤ new.spare + length before + 1
   pub cause : Rose old.faults new.faults
 

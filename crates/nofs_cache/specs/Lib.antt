@@ -1,3 +1,4 @@
 pub mod Dirty
 pub mod Cached
 pub mod Laws
+pub mod Gathered

@@ -21,7 +21,7 @@ ghost use Rattle.nofs_disk.specs.declared.tag.Cell.{Cell};
 ghost use Rattle.nofs_cache.specs.Dirty.Blocks.{block_count, entries_of, room_of};
 ghost use Rattle.nofs_cache.specs.Laws.{CacheKeeps};
 ghost use Rattle.nofs_disk.specs.Disk.{Flushes, Reads, Writes, WritesOut, cell_at};
-ghost use Rattle.nofs_cache.specs.Cached.{IsMarked, LeavesAll, WritesRising};
+ghost use Rattle.nofs_cache.specs.Cached.{CallsOnce, IsMarked, LeavesAll, WritesRising};
 ghost use Rattle.nofs_cache.specs.Dirty.Past.{cache_calls};
 
 use crate::dirty::cells::DirtyBlocks;
@@ -207,13 +207,16 @@ impl<D: Disk + Drop> Disk for Cached<D> {
         Ok(())
     }
 
-    /// Every dirty block is written below in rising order, and then the disk below is flushed. What
-    /// that disk may leave meanwhile, this one may leave at its moment during the call.
+    /// Every dirty block is written below in rising order, each once, and then the disk below is flushed,
+    /// once. What that disk may leave meanwhile, this one may leave at its moment during the call.
     fn flush(&mut self) -> Result<(), Failed>
         requires { 1 ≤ (⟦<Cached<D> as Disk>⟧.state self.old).spare }
         ensures rising { WritesRising (⟦<Cached<D> as Disk>⟧.state self.old).dirty
             (⟦<Cached<D> as Disk>⟧.state self.new).dirty }
         ensures flushes { Flushes (⟦<Cached<D> as Disk>⟧.state self.old) (⟦<Cached<D> as Disk>⟧.state self.new) result }
+        ensures calls { CallsOnce (D.state self.old.under) (D.state self.new.under)
+            (length (⟦<Cached<D> as Disk>⟧.state self.old).dirty)
+            (length (⟦<Cached<D> as Disk>⟧.state self.new).dirty) }
         ensures left { LeavesAll (D.state self.old.under).moment (D.state self.new.under)
             (⟦<Cached<D> as Disk>⟧.state self.new) ((⟦<Cached<D> as Disk>⟧.state self.old).moment + 1) }
     {

@@ -7,11 +7,14 @@
 //!
 //! - `dirty`: the blocks that are yet to be written, and what became of the calls.
 //! - `cached`: the cached disk.
+//! - `gathered`: a disk that writes nothing out between two flushes.
 //!
 //! `specs/Laws.antt` says that a cached disk is a disk; `proofs/On..` has the lemmas of each part.
 #![tactic(auto)]
 
 mod cached;
 mod dirty;
+mod gathered;
 
 pub use cached::{CacheFault, Cached};
+pub use gathered::Gathered;

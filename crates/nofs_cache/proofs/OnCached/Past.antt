@@ -7,14 +7,15 @@ use Rattle.nofs_disk.specs.Chains.{IsSameDisk-refl}
 use Rattle.nofs_disk.specs.declared.disk.Disk.{Ghosts}
 use Rattle.nofs_disk.specs.declared.Failed.{Failed}
 use Rattle.nofs_disk.specs.declared.tag.Cell.{Cell}
-use Rattle.nofs_disk.specs.Disk.{DiskState, Flushes, IsDisk, IsSameDisk, IsSizedCell, MakesReady, Reads, Rose}
+use Rattle.nofs_disk.specs.Disk.{DiskState, Flushes, IsDisk, IsSameDisk, IsSizedCell, MakesReady, Reads}
 use Rattle.nofs_disk.specs.Disk.{StaysButFaults, Writes, WritesOut}
 use Rattle.nofs_cache.specs.declared.cached.Cached.{Cached}
 use Rattle.nofs_cache.specs.declared.dirty.cells.DirtyBlocks.{DirtyBlocks}
 use Rattle.nofs_cache.specs.declared.dirty.cells.DirtyEntry.{DirtyEntry}
 use Rattle.nofs_cache.specs.declared.dirty.past.CacheCall.{CacheCall}
 use Rattle.nofs_cache.specs.declared.dirty.past.CacheCall.TheVariants.{Write, Flush}
-use Rattle.nofs_cache.specs.Cached.{IsMarked, LeavesAll, SettlesDirty, TakesOut, WroteBelow, WrittenBack, began}
+use Rattle.nofs_cache.specs.Cached.{IsMarked, LeavesAll, SettlesDirty, Stopped, TakesOut, WroteBelow, WrittenBack}
+use Rattle.nofs_cache.specs.Cached.{began}
 use Rattle.nofs_cache.specs.Cached.{cache_state, ended_at}
 use Rattle.nofs_cache.specs.Dirty.Blocks.{block_count, entries_of, room_of}
 use Rattle.nofs_cache.specs.Dirty.Entries.{HasCell, IsClean, PutsDirtyEntry}
@@ -30,6 +31,11 @@ use Rattle.nofs_cache.proofs.OnCached.Writes.{cache_writes, placed_distinct, put
 part_of_ok : {A P Q : Type 0} (result : Result A Failed) → OnOk result P → (P → Q) → OnOk result Q
 part_of_ok (Ok x) holds part = part holds
 part_of_ok (Err failed) holds part = tt
+
+-- and where it failed
+part_of_err : {A P Q : Type 0} (result : Result A Failed) → OnErr result P → (P → Q) → OnErr result Q
+part_of_err (Ok x) holds part = tt
+part_of_err (Err failed) holds part = part holds
 
 -- what the ghost fields of a cached disk say
 abbrev pub Holds : DiskState → DiskState → List CacheCall → DirtyBlocks → ℕ → ℕ → Type 0
@@ -167,11 +173,12 @@ module _ {D : Type 0} {δ : Ghosts D} (old : Cached D δ) where
 
   pub out_does : {new : DiskState} {after : List DirtyEntry} {result : Result (Option ℕ) Failed}
       → WrittenBack under new before after
-      → TakesOut before after result → OnErr result (Rose under.faults new.faults)
+      → TakesOut before after result → OnErr result (Stopped under new before after)
       → OnOk result (WroteBelow under new before after) → 1 ≤ old.spare
       → WritesOut seen (cache_state new first calls after (old.spare - 1)) result
-  out_does {new} {after} {result} wrote out cause one some =
-      cache_writes_out under new first calls before after old.spare (old.spare - 1) result wrote out cause
+  out_does {new} {after} {result} wrote out stopped one some =
+      cache_writes_out under new first calls before after old.spare (old.spare - 1) result wrote out
+      (part_of_err result stopped (λ (s : Stopped under new before after). s.cause))
       (part_of_ok result one (λ (w : WroteBelow under new before after). w.no_fault)) old.marked (omega arith)
 
   -- a write of a cell, and its snapshot

@@ -219,15 +219,15 @@ impl DirtyBlocks {
     }
 
     /// The last entry; `None` where no block is dirty.
-    pub fn last(&self) -> Option<DirtyEntry>
-        ensures some { IfSome result (HasLast (entries_of self.now) (block_count self.now)) }
+    pub fn last(&self) -> Option<&DirtyEntry>
+        ensures some { IfSome result (λ e. HasLast (entries_of self.now) (block_count self.now) e.now) }
         ensures none { IfNone result (entries_of self.now ≡ []) }
     {
         let count = self.entries.len();
         if count == 0 {
             return None;
         }
-        Some(self.entries[count - 1])
+        Some(&self.entries[count - 1])
     }
 
     /// Removes the last entry, whose block is then clean.

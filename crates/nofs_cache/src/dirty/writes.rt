@@ -4,11 +4,10 @@
 //! leaves its block dirty. Any order is safe: what is written below is always the cell that a read
 //! gives. A flush writes in rising order, so that neighbouring cells follow one another.
 ghost use Rattle.std.specs.Prelude.{◌≡◌, ◌+◌, ◌<◌, ◌≤◌, OnOk, OnErr, length, map};
-ghost use Rattle.nofs_disk.specs.Disk.{Rose};
 ghost use Rattle.nofs_cache.specs.Dirty.Blocks.{block_count, entries_of, order_of, room_of};
 ghost use Rattle.nofs_cache.specs.Dirty.Entries.{AreLeft, IsOrder, Rises};
 ghost use Rattle.nofs_cache.specs.Cached.{WrittenBack, WritesRising, SettlesDirty, TakesOut, Shrinks, SpendsOne};
-ghost use Rattle.nofs_cache.specs.Cached.{KeepsOrder, WroteBelow, WroteAllBelow, Stopped};
+ghost use Rattle.nofs_cache.specs.Cached.{CallsOnce, KeepsOrder, WroteBelow, WroteAllBelow, Stopped};
 
 use crate::dirty::cells::DirtyBlocks;
 use nofs_disk::{Disk, Failed};
@@ -27,17 +26,21 @@ pub(crate) fn write_back<D: Disk>(
     ensures spends { SpendsOne (D.state under.old) (D.state under.new) (entries_of dirty.old) (entries_of dirty.new) }
     ensures wrote { OnOk result
         (WroteBelow (D.state under.old) (D.state under.new) (entries_of dirty.old) (entries_of dirty.new)) }
-    ensures cause { OnErr result (Rose (D.state under.old).faults (D.state under.new).faults) }
+    ensures stopped { OnErr result
+        (Stopped (D.state under.old) (D.state under.new) (entries_of dirty.old) (entries_of dirty.new)) }
 {
     match dirty.last() {
         None => Ok(None),
-        Some(entry) => match under.write(entry.block, &entry.cell) {
-            Ok(()) => {
-                dirty.pop();
-                Ok(Some(entry.block))
+        Some(entry) => {
+            let block = entry.block;
+            match under.write(block, &entry.cell) {
+                Ok(()) => {
+                    dirty.pop();
+                    Ok(Some(block))
+                }
+                Err(failed) => Err(failed),
             }
-            Err(failed) => Err(failed),
-        },
+        }
     }
 }
 
@@ -113,6 +116,8 @@ pub(crate) fn write_back_and_flush<D: Disk>(
     ensures no_more { length (entries_of dirty.new) ≤ length (entries_of dirty.old) }
     ensures spare { (D.state under.old).spare + length (entries_of dirty.new)
         ≤ (D.state under.new).spare + length (entries_of dirty.old) + 1 }
+    ensures calls { CallsOnce (D.state under.old) (D.state under.new) (length (entries_of dirty.old))
+        (length (entries_of dirty.new)) }
 {
     dirty.set_order();
     match write_back_all(under, dirty) {

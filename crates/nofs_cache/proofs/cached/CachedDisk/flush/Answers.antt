@@ -1,4 +1,6 @@
 use Rattle.std.proofs.Common.{arith}
+use Rattle.std.proofs.lemmas.List.{length-map}
+use Rattle.nofs_cache.specs.Dirty.Blocks.{entries_of}
 use Rattle.nofs_cache.specs.declared.dirty.past.CacheCall.TheVariants.{Flush}
 use Rattle.nofs_cache.proofs.OnCached.Past.{call_leaves, flush_does, flush_holds}
 use Rattle.nofs_cache.proofs.cached.CachedDisk.flush.Goals as goal
@@ -28,3 +30,10 @@ returns-clause-left g c =
     rw c.add.ensures
     (call_leaves c.args.self.now (Flush c.is_ok.result c.moment-began.result c.moment-ended.result) _ _
     c.moment-began.ensures c.moment-ended.ensures)
+
+pub returns-clause-calls : goal.returns-clause-calls
+returns-clause-calls g c =
+    let calls = c.write_back_and_flush-result.ensures.calls in
+    let before = length-map (entries_of c.args.self.now.dirty) (λ e. e.block) in
+    let after = length-map (entries_of c.write_back_and_flush-result.new.dirty) (λ e. e.block) in
+    omega arith

@@ -16,7 +16,7 @@ invariant_of-self g c =
 pub returns-clause-writes_out : goal.returns-clause-writes_out
 returns-clause-writes_out g c =
     let did = c.write_back.ensures in
-    out_does c.args.self.now did.writes_back did.out did.cause did.wrote c.requires
+    out_does c.args.self.now did.writes_back did.out did.stopped did.wrote c.requires
 
 pub returns-clause-left : goal.returns-clause-left
 returns-clause-left g c = out_leaves c.args.self.now _ _

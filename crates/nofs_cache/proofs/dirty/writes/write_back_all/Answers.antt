@@ -13,6 +13,7 @@ loop-place-init g c = (
   omega arith,
   record { order = refl; blocks = refl; room = omega arith },
   refl,
+  refl,
   left_start _ _ c.requires.order,
 )
 
@@ -46,6 +47,8 @@ loop-place-preserved g c =
     let room_ok = wrote.spare in
     let more = before.3.room in
     let more_room = did.keeps.room in
+    let calls = before.5 in
+    let one_more = wrote.calls in
     let end = c.len-place-end.ensures in
     let low = c.loop-place-test.true in (
       WrittenBack-trans _ _ _ _ _ _ before.0 did.writes_back,
@@ -57,10 +60,11 @@ loop-place-preserved g c =
         room = omega arith;
       },
       wrote.no_fault ∙ before.4,
+      omega arith,
       rw (← before.3.order, ← did.keeps.order) c.in-Ok.ensures.next,
     )
 
 pub returns-clause-rising : goal.returns-clause-rising
 returns-clause-rising g c =
     rising_left (entries_of c.args.dirty.now) _ (order_of c.args.dirty.now) c.loop-place.place c.requires.order
-    c.loop-place.invariant.5
+    c.loop-place.invariant.6

@@ -1,4 +1,4 @@
-use Rattle.std.proofs.Common.{◌≡◌, ◌+◌, ◌≤◌, length}
+use Rattle.std.proofs.Common.{◌≡◌, ◌+◌, ◌*◌, ◌≤◌, length}
 use Rattle.nofs_cache.specs.Dirty.Blocks.{entries_of, order_of}
 use Rattle.nofs_cache.specs.Dirty.Entries.{AreLeft}
 use Rattle.nofs_cache.specs.Cached.{KeepsOrder, WrittenBack}
@@ -13,4 +13,6 @@ invariant-loop-place g l =
     ≤ (g.D.Disk.state l.under).spare + length (entries_of l.initial.dirty))
     × KeepsOrder l.initial.dirty l.dirty
     × ((g.D.Disk.state l.under).faults ≡ (g.D.Disk.state l.initial.under).faults)
+    × ((g.D.Disk.state l.under).moment + 2 * length (entries_of l.dirty)
+    ≡ (g.D.Disk.state l.initial.under).moment + 2 * length (entries_of l.initial.dirty))
     × AreLeft (entries_of l.dirty) (order_of l.initial.dirty) l.place

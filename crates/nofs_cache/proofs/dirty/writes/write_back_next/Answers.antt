@@ -16,8 +16,9 @@ returns-in-Ok-clause-wrote g c =
     let wrote = c.in-Ok.ensures.wrote in
     let fewer = wrote.fewer in
     let spare = wrote.spare in
+    let calls = wrote.calls in
     let len = length_permutation _ _ c.bring_last.ensures.same in
-    record { fewer = omega arith; spare = omega arith; no_fault = wrote.no_fault }
+    record { fewer = omega arith; calls = omega arith; spare = omega arith; no_fault = wrote.no_fault }
 
 pub returns-in-Ok-clause-next : goal.returns-in-Ok-clause-next
 returns-in-Ok-clause-next g c =
@@ -40,9 +41,11 @@ returns-in-Err-clause-writes_back g c =
 
 pub returns-in-Err-clause-stopped : goal.returns-in-Err-clause-stopped
 returns-in-Err-clause-stopped g c =
-    let spends = c.write_back.ensures.spends.all in
+    let stopped = c.in-Err.ensures.stopped in
+    let calls = stopped.calls in
+    let spare = stopped.spare in
     let len = length_permutation _ _ c.bring_last.ensures.same in
-    record { spare = omega arith; cause = c.in-Err.ensures.cause }
+    record { calls = omega arith; spare = omega arith; cause = stopped.cause }
 
 pub returns-in-Err-clause-stays : goal.returns-in-Err-clause-stays
 returns-in-Err-clause-stays g c =
