@@ -13,9 +13,9 @@ ghost use Rattle.nofs_filedisk.specs.Bytes.{IsSynced};
 ghost use Rattle.nofs_tool.specs.Begin.Lines.{fixed_line};
 ghost use Rattle.nofs_tool.specs.Runs.Says.{Prints};
 
-use crate::cached::{tool_cached, tool_mirrored};
+use crate::cached::{tool_cached, tool_gathered, tool_mirrored};
 use crate::image::{ImageChoice, image_of};
-use nofs_cache::Cached;
+use nofs_cache::{Cached, Gathered};
 use nofs_disk::Disk;
 use nofs_filedisk::{FileDisk, HostFile, Positioned};
 use nofs_io::{ReadSource, Sink, Source, WriteSink, write_all};
@@ -81,6 +81,25 @@ fn run_cached<R: Threads + Wait + Sync, S: Source, K: Sink, D: Disk + Drop + Sen
 ) -> u8 {
     match Cached::new(alloc, disk) {
         Ok(cached) => ended(tool_cached(rt, alloc, words, source, sink, cached)),
+        Err(_) => NO_MEMORY,
+    }
+}
+
+// A run on a disk of pages behind a write-back cache. A cell that is written alone costs a read and a write of its
+// page, and a cell more of that page a sync before it: so all are written at a flush, page by page.
+fn run_gathered<R: Threads + Wait + Sync, S: Source, K: Sink, D: Disk + Drop + Send>(
+    rt: &R,
+    alloc: Global,
+    disk: D,
+    words: &[String],
+    source: &mut S,
+    sink: &mut K,
+) -> u8 {
+    match Cached::new(alloc, disk) {
+        Ok(cached) => {
+            let gathered = Gathered::new(cached);
+            ended(tool_gathered(rt, alloc, words, source, sink, gathered))
+        }
         Err(_) => NO_MEMORY,
     }
 }
@@ -153,17 +172,16 @@ fn layout_in(file: &mut HostFile, asked: Layout, anew: bool) -> Result<Layout, I
     }
 }
 
-// The file of an image, made anew in the layout that is asked for, or as it is found.
+// The file of an image in a layout, in which it is made anew, or found.
 fn image_file(
     alloc: Global,
     file: HostFile,
-    asked: Layout,
+    layout: Layout,
     anew: bool,
 ) -> Result<HostImage, ImageFault>
     ensures { IfOk result (λ image. IsSynced (⟦<HostImage as Positioned>⟧.state image)) }
 {
-    let mut file = file;
-    match layout_in(&mut file, asked, anew)? {
+    match layout {
         Layout::Packed => Ok(ImageFile::Packed(file)),
         Layout::Paged => match single_pages(alloc, file, anew) {
             Ok(pages) => Ok(ImageFile::Paged(pages)),
@@ -177,15 +195,28 @@ fn image_file(
 }
 
 // The disk in the file of an image.
+#[derive(Drop)]
+struct ImageDisk {
+    disk: FileDisk<HostImage>,
+    // Whether the file has pages, each of several cells.
+    in_pages: bool,
+}
+
+// The disk in the file of an image, made anew in the layout that is asked for, or as it is found.
 fn image_disk(
     alloc: Global,
     file: HostFile,
     asked: Layout,
     anew: bool,
-) -> Result<FileDisk<HostImage>, ImageFault> {
-    let image = image_file(alloc, file, asked, anew)?;
+) -> Result<ImageDisk, ImageFault> {
+    let mut file = file;
+    let layout = layout_in(&mut file, asked, anew)?;
+    let image = image_file(alloc, file, layout, anew)?;
     match FileDisk::over(alloc, image) {
-        Ok(disk) => Ok(disk),
+        Ok(disk) => Ok(ImageDisk {
+            disk,
+            in_pages: layout != Layout::Packed,
+        }),
         Err(_) => Err(ImageFault::OutOfMemory),
     }
 }
@@ -215,7 +246,8 @@ fn run_in_file<R: Threads + Wait + Sync, S: Source, K: Sink>(
         return no_device(sink);
     };
     match image_disk(alloc, file, layout, makes_anew(words)) {
-        Ok(disk) => run_cached(rt, alloc, disk, words, source, sink),
+        Ok(image) if image.in_pages => run_gathered(rt, alloc, image.disk, words, source, sink),
+        Ok(image) => run_cached(rt, alloc, image.disk, words, source, sink),
         Err(why) => no_image(sink, why),
     }
 }
@@ -248,14 +280,16 @@ fn run_in_mirror<R: Threads + Wait + Sync, S: Source, K: Sink>(
         Err(why) => return no_image(sink, why),
     };
     // A lead that can't be mounted is not copied: it is refused, by its own line, before the other is written.
-    if !anew && read_super(&mut lead).is_err() {
-        return run_cached(rt, alloc, lead, words, source, sink);
+    if !anew && read_super(&mut lead.disk).is_err() {
+        return run_cached(rt, alloc, lead.disk, words, source, sink);
     }
     let other = match image_disk(alloc, other, layout, anew) {
         Ok(disk) => disk,
         Err(why) => return no_image(sink, why),
     };
-    match Mirror::open(lead, other, blocks) {
+    let in_pages = lead.in_pages || other.in_pages;
+    match Mirror::open(lead.disk, other.disk, blocks) {
+        Ok(mirror) if in_pages => run_gathered(rt, alloc, mirror, words, source, sink),
         Ok(mirror) => run_mirrored(rt, alloc, words, source, sink, mirror),
         Err(MirrorFault { cause, .. }) => unopened(sink, cause),
     }
