@@ -1,6 +1,6 @@
-//! What a cached disk keeps back, what a crash drops, and what becomes of calls that fail below.
+//! What a cached disk keeps back, what a crash drops, what becomes of calls that fail below, and what is gathered.
 use crate::tests::disks::{failing, follow};
-use nofs_cache::Cached;
+use nofs_cache::{Cached, Gathered};
 use nofs_disk::Disk;
 use nofs_memdisk::MemDisk;
 use nofs_versions::CallCounts;
@@ -106,4 +106,21 @@ fn a_cache_over_a_cache_writes_out_one_layer_at_a_time(rt: HostRuntime) -> Resul
     let mut inner = outer.below();
     follow(&mut inner, "3?7 out3")?;
     follow(&mut inner.below(), "3?7")
+}
+
+/// Follows a script on a disk that gathers over a cache over a disk of four blocks of which calls fail: which calls
+/// reached that one.
+fn calls_gathered(alloc: Global, calls: &str, script: &str) -> Result<CallCounts, Fail> {
+    let mut disk = Gathered::new(cached(alloc, failing(alloc, 4, calls)?)?);
+    follow(&mut disk, script)?;
+    Ok(disk.below().below().calls())
+}
+
+#[test]
+fn nothing_is_written_out_once_a_flush_has_succeeded(rt: HostRuntime) -> Result<(), Fail> {
+    let script = "out 3=6 out3 out 2=5 flush 3=7 1=8 out 3?7 out flush out 2=9";
+    assert_eq!(rt; calls_gathered(rt.alloc(), "", script)?, counts(0, 4, 2));
+    let script = "3=6 2=5 flush! 1=4 out1 flush 1=5 out";
+    assert_eq!(rt; calls_gathered(rt.alloc(), "flush 1", script)?, counts(0, 3, 2));
+    Ok(())
 }
