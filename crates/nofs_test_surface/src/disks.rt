@@ -5,7 +5,7 @@ ghost use Rattle.nofs_memdisk.specs.Parts.{memory_state};
 ghost use Rattle.nofs_versions.specs.Memory.{PicksVersions};
 ghost use Rattle.std.specs.Prelude.{All, length, ◌+◌, ◌<◌, ◌^◌, ◌≤◌};
 
-use nofs_cache::{CacheFault, Cached};
+use nofs_cache::{CacheFault, Cached, Gathered};
 use nofs_disk::{Cell, Disk, Failed};
 use nofs_filedisk::{FileDisk, HostFile, MemFile, Positioned};
 use nofs_memdisk::{CallCounts, CallKind, FaultAt, MemDisk, Pick};
@@ -176,6 +176,21 @@ pub fn cached_new<D: Disk + Drop>(alloc: Global, under: D) -> Result<Cached<D>, 
 
 /// `nofs_cache::Cached::below`
 pub fn cached_below<D: Disk + Drop>(this: Cached<D>) -> D {
+    this.below()
+}
+
+/// `nofs_cache::Gathered`
+pub fn gathered_itself<D: Disk + Drop>(it: Gathered<D>) -> Gathered<D> {
+    it
+}
+
+/// `nofs_cache::Gathered::new`
+pub fn gathered_new<D: Disk + Drop>(under: D) -> Gathered<D> {
+    Gathered::new(under)
+}
+
+/// `nofs_cache::Gathered::below`
+pub fn gathered_below<D: Disk + Drop>(this: Gathered<D>) -> D {
     this.below()
 }
 
