@@ -209,6 +209,15 @@ class Logged(Folders):
         """What the bytes of a file tell: who wrote them, in either of its two versions."""
         return {b"%02d%04d__" % (user, which) for which in (number, number + 100)}
 
+    def test_a_day_has_as_many_syncs_in_pages_as_in_cells(self):
+        for users in (1, 8):
+            syncs = []
+            for layout in ("", *LAYOUTS):
+                path = self.at(f"{users}{layout[:-1]}.img")
+                serve(layout + path, b"", "new", str(BLOCKS), str(INODES))
+                syncs.append(self.calls(path, path, day(users, users, 8), "run")[0].count(None))
+            self.assertEqual(len(set(syncs)), 1, syncs)
+
     def test_what_a_crash_leaves_of_a_day_is_clean_and_kept_and_of_its_files(self):
         for layout, unit in (("paged:", PAGE), ("twin:", 512), ("twin:", 1)):
             for users in (1, 2, 8):
