@@ -73,7 +73,7 @@ returns-then-core-clause-keeps g c = λ found first then m.
     c.args.caller
     (goes-stopped (g.D.Disk.state c.args.core.now.disk) (g.D.Disk.state c.args.core.now.disk) c.args.core.now.books
     c.step_of-step.result (g.met.D.Disk.is_disk c.args.core.now.disk) c.requires.can.safe
-    (StaysButFaults-refl (g.D.Disk.state c.args.core.now.disk)) c.if-core.true) refl _ refl refl)
+    (StaysButFaults-refl (g.D.Disk.state c.args.core.now.disk)) refl c.if-core.true) refl _ refl refl)
 
 pub returns-then-core-clause-tells : goal.returns-then-core-clause-tells
 returns-then-core-clause-tells g c = record {
