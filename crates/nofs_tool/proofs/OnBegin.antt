@@ -2,4 +2,3 @@
 pub mod Words
 pub mod Formats
 pub mod Causes
-pub mod Lines

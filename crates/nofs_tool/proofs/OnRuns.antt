@@ -4,3 +4,4 @@ pub mod Outcomes
 pub mod Headline
 pub mod Complete
 pub mod Said
+pub mod Parts

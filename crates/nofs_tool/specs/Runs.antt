@@ -5,3 +5,4 @@ pub mod Headline
 pub mod Complete
 pub mod Said
 pub mod Statuses
+pub mod Call

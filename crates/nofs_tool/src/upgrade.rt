@@ -13,12 +13,12 @@ ghost use Rattle.nofs_tool.specs.Runs.Said.{SaysUpgrade};
 ghost use Rattle.nofs_tool.specs.Upgrade.{UpgradeEnds, upgrade_status as status_in};
 
 use crate::begin::lines::{FixedLine, fixed_text, upgrade_text};
-use crate::runs::outcomes::{Outcome, say, told_text};
+use crate::runs::outcomes::{Outcome, told_line};
+use crate::runs::says::say;
 use nofs_disk::Disk;
 use nofs_io::Sink;
 use nofs_super::MountFault;
 use nofs_upgrade::{UpgradeFault, upgrade};
-use std::alloc::Global;
 
 // The status that a refused upgrade ends the program with: 3 for the device, 7 for memory, else 4.
 fn status_of(why: UpgradeFault) -> u8
@@ -47,11 +47,7 @@ fn said<K: Sink>(sink: &mut K) -> u8
 }
 
 /// What comes of an upgrade.
-pub(crate) fn upgrade_outcome<K: Sink, D: Disk + Drop>(
-    alloc: Global,
-    sink: &mut K,
-    disk: D,
-) -> Outcome<D>
+pub(crate) fn upgrade_outcome<K: Sink, D: Disk + Drop>(sink: &mut K, disk: D) -> Outcome<D>
     ensures history { result.history ≡ None }
     ensures ends { UpgradeEnds (D.state disk) (D.state result.disk) (K.state sink.old)
         (K.state sink.new) result.status }
@@ -66,6 +62,6 @@ pub(crate) fn upgrade_outcome<K: Sink, D: Disk + Drop>(
             disk,
             history: None,
         },
-        Err(why) => told_text(sink, disk, status_of(why), upgrade_text(alloc, why)),
+        Err(why) => told_line(sink, disk, status_of(why), upgrade_text(why)),
     }
 }

@@ -13,7 +13,7 @@ use Rattle.nofs_tool.specs.declared.begin.mounts.Cause.TheVariants as cause
 use Rattle.nofs_tool.specs.Begin.Lines.{cause_line, upgrade_line}
 use Rattle.nofs_tool.specs.Begin.Mounts.{status_of}
 use Rattle.nofs_tool.specs.Runs.Said.{SaysCause}
-use Rattle.nofs_tool.specs.Runs.Says.{Prints, PrintsOrNot}
+use Rattle.nofs_tool.specs.Runs.Says.{Prints}
 use Rattle.nofs_tool.specs.Upgrade.{upgrade_status}
 
 -- a text was told at status 3 and 5, and it is this one of the history
@@ -43,30 +43,26 @@ pub prints-nothing : (old new : SinkState) → Prints old new [] → AppendsAll 
 prints-nothing old new (inl all) = all
 prints-nothing old new (inr (part, rose)) = absurd (let few = part.1 in omega (arith, few))
 
-pub prints-nothing-or-not : (old new : SinkState) → PrintsOrNot old new [] → AppendsAll old new []
-prints-nothing-or-not old new (inl p) = prints-nothing old new p
-prints-nothing-or-not old new (inr p) = prints-nothing old new p
-
 -- for want of memory nothing was told
 pub silent-cause : (why : Cause) (old new : SinkState) (status told : ℕ) → status ≡ told → told ≡ status_of why
-    → PrintsOrNot old new (cause_line why) → status ≡ 7 → AppendsAll old new []
+    → Prints old new (cause_line why) → status ≡ 7 → AppendsAll old new []
 silent-cause cause.Device old new status told a b says e = absurd (omega (arith, a, b, e))
-silent-cause cause.NoMemory old new status told a b says e = prints-nothing-or-not old new says
+silent-cause cause.NoMemory old new status told a b says e = prints-nothing old new says
 silent-cause (cause.Format fault) old new status told a b says e = absurd (omega (arith, a, b, e))
 silent-cause (cause.Mount fault) old new status told a b says e = absurd (omega (arith, a, b, e))
 
 -- the line of a cause that this is so of
 pub says-cause : {D : Type 0} (Why : D → Cause → Type 0) (last ran : D) (why : Cause) (old new : SinkState)
-    (status : ℕ) → last ≡ ran → status ≡ status_of why → Why ran why → PrintsOrNot old new (cause_line why)
+    (status : ℕ) → last ≡ ran → status ≡ status_of why → Why ran why → Prints old new (cause_line why)
     → SaysCause (Why last) old new status
 says-cause Why last ran why old new status same is so says =
     (why, subst (λ d. Why d why) (sym same) so, sym is, says)
 
 -- an upgrade for which memory was wanting told nothing
 pub silent-upgrade : (why : UpgradeFault) (old new : SinkState) (status told : ℕ) → status ≡ told
-    → told ≡ upgrade_status why → PrintsOrNot old new (upgrade_line why) → status ≡ 7 → AppendsAll old new []
+    → told ≡ upgrade_status why → Prints old new (upgrade_line why) → status ≡ 7 → AppendsAll old new []
 silent-upgrade upgrade.Already old new status told a b says e = absurd (omega (arith, a, b, e))
-silent-upgrade (upgrade.Mount fault.OutOfMemory) old new status told a b says e = prints-nothing-or-not old new says
+silent-upgrade (upgrade.Mount fault.OutOfMemory) old new status told a b says e = prints-nothing old new says
 silent-upgrade (upgrade.Mount fault.ReadFault) old new status told a b says e = absurd (omega (arith, a, b, e))
 silent-upgrade (upgrade.Mount fault.WriteFault) old new status told a b says e = absurd (omega (arith, a, b, e))
 silent-upgrade (upgrade.Mount (fault.BadMagic x)) old new status told a b says e = absurd (omega (arith, a, b, e))

@@ -1,8 +1,8 @@
 -- Where all is known, the counts of the machine are those of the full scan of the disk.
 use Rattle.std.proofs.Common.{◌≡◌, ◌≢◌, ◌⊎◌, Option, Some, None, Result, Ok, Err, ℕ, zero, suc, ◌+◌, ◌<◌, Bool, true}
 use Rattle.std.proofs.Common.{false}
-use Rattle.std.proofs.Common.{◌&&◌, cond, not, List, [], map, refl}
-use Rattle.std.proofs.Common.{sym, ap, ◌∙◌, subst, arith}
+use Rattle.std.proofs.Common.{◌&&◌, ◌||◌, cond, not, List, [], ◌∷◌, length, drop, slice_get, map, refl, inl, inr}
+use Rattle.std.proofs.Common.{sym, ap, ◌∙◌, subst, subst₂, arith}
 use Rattle.std.specs.Prelude.{IfOk, IfSome, slice_set}
 use Rattle.std.specs.Result.{result_ok}
 use Rattle.std.proofs.Math.Logic.{∥∥₁_elim, ∥∥₁_prop}
@@ -15,6 +15,7 @@ use Rattle.nofs_model.specs.Owners.{is_used_block, is_used_inode}
 use Rattle.nofs_history.specs.Search.{count_below}
 use Rattle.nofs_history.specs.HistoryState.{HistoryState}
 use Rattle.nofs_history.specs.History.{NoWriteFault}
+use Rattle.nofs_history.specs.Machine.{is_write_fault}
 use Rattle.nofs_history.specs.Next.{Run}
 use Rattle.nofs_history.specs.World.{World, uses_block, uses_inode, world_of}
 use Rattle.nofs_io.specs.Calls.{SinkState}
@@ -28,13 +29,15 @@ use Rattle.nofs_state.specs.declared.books.maps.Books.{Books}
 use Rattle.nofs_state.specs.declared.books.maps.Counts.{Counts}
 use Rattle.nofs_shared.specs.Mount.Invariant.{IsMount}
 use Rattle.nofs_state.proofs.OnBooks.Counts.{count-same}
-use Rattle.nofs_tool.specs.Session.Counts.{CountsDisk, CountsMachine, IsCounted, IsScanned, SaysCounts, counts_line}
+use Rattle.nofs_tool.specs.Session.Counts.{CountsDisk, CountsMachine, IsCounted, IsScanText, IsScanned, SaysCounts}
+use Rattle.nofs_tool.specs.Session.Counts.{counts_line, has_write_fault}
 use Rattle.nofs_tool.specs.Runs.Says.{Prints}
-use Rattle.nofs_history.specs.Faults.{has_fault}
+use Rattle.nofs_history.specs.Faults.{has_fault, is_fault}
 use Rattle.nofs_tool.specs.Session.Serve.{IsSessionRun}
 use Rattle.nofs_tool.specs.Session.Whole.{IsMet, IsWholeScan, ShowsDisk, found_world}
 use Rattle.nofs_tool.proofs.OnRuns.Said.{told-text}
-use Rattle.nofs_tool.proofs.OnSession.Whole.{open-still, open-unwritten, shows-past, whole-scan}
+use Rattle.nofs_tool.proofs.OnSession.Known.{no-fault}
+use Rattle.nofs_tool.proofs.OnSession.Whole.{not-write, open-still, open-unwritten, shows-past, whole-scan}
 
 count-none : (P : ℕ → Bool) (n : ℕ) → ((m : ℕ) → m < n → P m ≡ false) → count_below P n ≡ 0
 unfolding count_below
@@ -120,37 +123,93 @@ machine-counted found d first k c none_before stands counts = ∥∥₁_elim sta
       blocks = n.1;
     }) ∣₁)
 
--- the line of the counts that were taken, and what is known of them
-pub counts-told : {E : Type 0} (T : Counts → Type 0) (made : Result (List ℕ) E) (text : Option (List ℕ)) (c : Counts)
-    → text ≡ result_ok made
-    → IfOk made (λ t. t ≡ counts_line c) → T c → IfSome text (λ t. (x : Counts) × (t ≡ counts_line x) × T x)
-counts-told T (Ok t) text c is line known =
-    subst (λ (o : Option (List ℕ)). IfSome o (λ t. (x : Counts) × (t ≡ counts_line x) × T x)) (sym is) (c, line, known)
-counts-told T (Err e) text c is line known =
-    subst (λ (o : Option (List ℕ)). IfSome o (λ t. (x : Counts) × (t ≡ counts_line x) × T x)) (sym is) tt
+-- whether a write failed in an entry or in those behind it, by the first
+pub write-fault-at : (es : List Entry1) (at : ℕ) (e : Entry1) → slice_get es at ≡ Some e
+    → has_write_fault (drop at es) ≡ (is_write_fault e.reply || has_write_fault (drop (at + 1) es))
+write-fault-at [] at e is = absurd (cc is)
+write-fault-at (x ∷ es) zero e is =
+    let same : x ≡ e = cc is in ap (λ (y : Entry1). is_write_fault y.reply || has_write_fault es) same
+write-fault-at (x ∷ es) (suc at) e is =
+    let s : suc at + 1 ≡ suc (at + 1) = omega arith in rw s (write-fault-at es at e is)
+
+-- there is an entry below their number
+pub is-there : (es : List Entry1) (at : ℕ) → at < length es → slice_get es at ≡ None → ⊥
+is-there [] at lt is = omega (arith, lt)
+is-there (x ∷ es) zero lt is = cc is
+is-there (x ∷ es) (suc at) lt is = is-there es at (omega (arith, lt)) is
+
+-- one entry more was looked at
+pub found-more : (all rest found this : Bool) (after : Bool) → all ≡ (found || rest) → rest ≡ (this || after)
+    → all ≡ ((found || this) || after)
+found-more all rest true this after is next = is
+found-more all rest false this after is next = is ∙ next
+
+-- where no call of the device failed, no write did
+pub none-unwritten : (es : List Entry1) → has_fault es ≡ false → has_write_fault es ≡ false
+none-unwritten [] ok = refl
+none-unwritten (e ∷ es) ok =
+    let none = no-fault (is_fault e.reply) (has_fault es) ok in
+    rw (not-write e.reply none.0) (none-unwritten es none.1)
+
+-- no write failed, entry by entry
+pub all-written : (es : List Entry1) → has_write_fault es ≡ false → NoWriteFault es
+all-written [] none = tt
+all-written (e ∷ es) none = let parts = neither (is_write_fault e.reply) (has_write_fault es) none in
+    (parts.0, all-written es parts.1)
+  where
+    neither : (a b : Bool) → (a || b) ≡ false → (a ≡ false) × (b ≡ false)
+    neither true b is = absurd (cc is)
+    neither false b is = (refl, is)
+
+-- the line of counts is the text of a scan in which no write failed
+pub counts-text : {E : Type 0} (entries : List Entry1) (c : Counts) (made : Result (List ℕ) E)
+    → has_write_fault entries ≡ false → IfOk made (λ t. t ≡ counts_line c)
+    → IfOk made (IsScanText entries (λ x. x ≡ c))
+counts-text entries c (Ok t) none is = inl (all-written entries none, (c, is, refl))
+counts-text entries c (Err e) none is = tt
+
+-- what is known of the counts of a scan's text
+pub scan-text-known : (entries : List Entry1) (P T : Counts → Type 0) (text : List ℕ) → ((c : Counts) → P c → T c)
+    → IsScanText entries P text → IsScanText entries T text
+scan-text-known entries P T text more (inl (none, counted)) =
+    inl (none, (counted.0, counted.1, more counted.0 counted.2))
+scan-text-known entries P T text more (inr silent) = inr silent
+
+-- the text of the counts that were taken, and what is known of them
+pub counts-told : {E : Type 0} (T : Counts → Type 0) (entries last : List Entry1) (made : Result (List ℕ) E)
+    (text : Option (List ℕ)) (c : Counts)
+    → text ≡ result_ok made → last ≡ entries
+    → IfOk made (IsScanText entries (λ x. x ≡ c)) → T c → IfSome text (IsScanText last T)
+counts-told T entries last (Ok t) text c is same line known =
+    subst₂ (λ (o : Option (List ℕ)) (es : List Entry1). IfSome o (IsScanText es T)) (sym is) (sym same)
+    (scan-text-known entries (λ x. x ≡ c) T t (λ x e. subst T (sym e) known) line)
+counts-told T entries last (Err e) text c is same line known =
+    subst (λ (o : Option (List ℕ)). IfSome o (IsScanText last T)) (sym is) tt
 
 -- a scan that was told
 pub scan-done : (found last : DiskState) (text : Option (List ℕ)) (ran : HistoryState) (h : Option HistoryState)
     (old new : SinkState) → h ≡ Some ran
     → has_fault ran.entries ≡ false → text ≢ None → IfSome text (AppendsAll old new)
-    → IfSome text (λ t. (c : Counts) × (t ≡ counts_line c) × IsCounted found last ran c)
+    → IfSome text (IsScanText ran.entries (IsCounted found last ran))
     → IsScanned found last h old new
 scan-done found last None ran h old new some ok is a b = absurd (is refl)
-scan-done found last (Some t) ran h old new some ok is a told =
+scan-done found last (Some t) ran h old new some ok is a (inl (none, told)) =
     let (c, line, counts) = told in
     subst (λ (o : Option HistoryState). IsScanned found last o old new) (sym some)
     (ok, (c, subst (AppendsAll old new) line a, ∥∥₁_elim counts.disk ∥∥₁_prop (λ f. ∣ (λ q. f q ok) ∣₁)))
+scan-done found last (Some t) ran h old new some ok is a (inr silent) =
+    absurd (let none = none-unwritten ran.entries ok in let failed = silent.0 in cc (none, failed))
 
 -- its line was told, in part where the run did not end well
 pub scan-said : (found last : DiskState) (text : Option (List ℕ)) (ran : HistoryState) (h : Option HistoryState)
     (status : ℕ) (old new : SinkState)
     → h ≡ Some ran → (text ≡ None → status ≡ 7) → IfSome text (Prints old new)
-    → IfSome text (λ t. (c : Counts) × (t ≡ counts_line c) × IsCounted found last ran c)
+    → IfSome text (IsScanText ran.entries (IsCounted found last ran))
     → (status ≡ 3) ⊎ (status ≡ 5) → SaysCounts found last h old new
 scan-said found last text ran h status old new some unsaid says told =
-    told-text old new (λ t. (c : Counts) × (t ≡ counts_line c) × IsCounted found last ran c)
-    (λ x. (c : Counts) × IsCounted found last x c × Prints old new (counts_line c)) text ran h status some unsaid says
-    told (λ t has said. (has.0, has.2, subst (Prints old new) has.1 said))
+    told-text old new (IsScanText ran.entries (IsCounted found last ran))
+    (λ x. (t : List ℕ) × IsScanText x.entries (IsCounted found last x) t × Prints old new t) text ran h status some
+    unsaid says told (λ t has said. (t, has, said))
 
 -- a run of no users
 pub none-run : {W : Type 0} (ws : List W) (f : W → List Command) (inodes blocks : ℕ) (out : Bool)

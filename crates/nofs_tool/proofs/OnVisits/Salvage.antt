@@ -203,6 +203,7 @@ walk-done picks told inodes blocks out found last first all ran text zero ends w
     let quiet = visit-quiet inodes blocks out ran.entries (run-reads picks told inodes blocks out ran.entries run) in
     record {
       result = told;
+      ended = some;
       walk = walk;
       tells = is;
       whole = ∥∥₁_elim ends ∥∥₁_prop (λ e. ∣ (λ q ok.

@@ -1,5 +1,5 @@
 -- The lines of a run that served no session (docs/FORMAT.md, "Other lines of the program").
-use Rattle.std.specs.Prelude.{ℕ, List, [], codes, ◌++◌}
+use Rattle.std.specs.Prelude.{ℕ, List, [], codes, ◌++◌, flat_map}
 use Rattle.std.specs.Fmt.{decimal}
 use Rattle.hex.specs.Hex.{encode_lower}
 use Rattle.nofs_super.specs.declared.geometry.FormatFault.{FormatFault}
@@ -15,6 +15,18 @@ use Rattle.nofs_tool.specs.declared.begin.mounts.Cause.{Cause}
 use Rattle.nofs_tool.specs.declared.begin.mounts.Cause.TheVariants as cause
 use Rattle.nofs_tool.specs.declared.begin.lines.FixedLine.{FixedLine}
 use Rattle.nofs_tool.specs.declared.begin.lines.FixedLine.TheVariants as fixed
+use Rattle.nofs_tool.specs.declared.begin.lines.Part.{Part}
+use Rattle.nofs_tool.specs.declared.begin.lines.Part.TheVariants as part
+
+-- what a part of a line spells
+abbrev pub part_text : Part → List ℕ
+part_text (part.Words words) = words.now
+part_text (part.Number number) = decimal number
+part_text (part.Bytes bytes) = encode_lower bytes
+
+-- and all of them, in order
+abbrev pub parts_text : List Part → List ℕ
+parts_text parts = flat_map part_text parts
 
 -- a line that is always the same
 unfoldable pub fixed_line : FixedLine → List ℕ

@@ -18,7 +18,7 @@ use Rattle.nofs_tool.specs.Begin.Lines.{cause_line, fixed_line, script_line, upg
 use Rattle.nofs_tool.specs.declared.begin.lines.FixedLine.TheVariants.{Upgraded as UpgradedLine, Usage as UsageLine}
 use Rattle.nofs_tool.specs.declared.begin.lines.FixedLine.TheVariants.{SourceFault as SourceFaultLine}
 use Rattle.nofs_tool.specs.declared.begin.lines.FixedLine.TheVariants.{TooLong as TooLongLine}
-use Rattle.nofs_tool.specs.Runs.Says.{Prints, PrintsOrNot}
+use Rattle.nofs_tool.specs.Runs.Says.{Prints}
 use Rattle.nofs_upgrade.specs.Upgrades.{IsUpgraded}
 use Rattle.nofs_upgrade.specs.declared.fault.UpgradeFault.{UpgradeFault}
 use Rattle.nofs_tool.specs.Runs.Tool.{UnlessWire, WithSession, WithText}
@@ -26,20 +26,19 @@ use Rattle.nofs_tool.specs.Upgrade.{UpgradeFails, upgrade_status}
 
 -- the line of a text that is no session: its first bad line
 abbrev pub SaysFault : SinkState → SinkState → List ℕ → Type 0
-SaysFault old new text = (fault : ScriptFault) × (session_of text ≡ Err fault) × PrintsOrNot old new (script_line fault)
+SaysFault old new text = (fault : ScriptFault) × (session_of text ≡ Err fault) × Prints old new (script_line fault)
 
--- there is a cause of which this is so: the status is that of this very cause, and so is the line; there is none where
--- there was no memory for it
+-- there is a cause of which this is so: the status is that of this very cause, and so is the line
 abbrev pub SaysCause : (Cause → Type 0) → SinkState → SinkState → ℕ → Type 0
 SaysCause Why old new status =
-    (cause : Cause) × Why cause × (status_of cause ≡ status) × PrintsOrNot old new (cause_line cause)
+    (cause : Cause) × Why cause × (status_of cause ≡ status) × Prints old new (cause_line cause)
 
 -- what an upgrade did to the device, and its line: that of an upgrade, or that of its very fault
 abbrev pub SaysUpgrade : DiskState → DiskState → SinkState → SinkState → ℕ → Type 0
 SaysUpgrade found last old new status =
     (((status ≡ 0) ⊎ (status ≡ 5)) × IsUpgraded found last × Prints old new (fixed_line UpgradedLine))
     ⊎ ((why : UpgradeFault) × UpgradeFails found last why × (upgrade_status why ≡ status)
-    × PrintsOrNot old new (upgrade_line why))
+    × Prints old new (upgrade_line why))
 
 -- the text of a session by its history
 abbrev pub SaysSession : SinkState → SinkState → List (List Command) → Option HistoryState → Type 0

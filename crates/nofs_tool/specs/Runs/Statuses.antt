@@ -65,7 +65,8 @@ pub record HoldsOfTask (task : Option Request) (picks : List ℕ → Bool) (sour
   pub upgrade : task ≡ Some Upgrade → IsTrue old.tells → StaysOrUpgrades old new
   -- at status 0 the sink took what is lost in the world that the mount found
   pub salvage : task ≡ Some Salvage → status ≡ 0 → IsSalvaged picks old h sink_old sink_new
-  -- at 3 and 5 with a history it took the line of the mount's counts, and the text of the walk that was made, or a part
+  -- at 3 and 5 with a history it took the line of the mount's counts, or nothing where a write failed, and the text of
+  -- the walk that was made, or a part
   pub scan_told : task ≡ Some Scan → (status ≡ 3) ⊎ (status ≡ 5) → SaysCounts old new h sink_old sink_new
   pub salvage_told : task ≡ Some Salvage → (status ≡ 3) ⊎ (status ≡ 5) → SaysWalk picks old h sink_old sink_new
   -- they are served until they end, and the status is that of their end

@@ -1,10 +1,13 @@
 -- The line of a scan, and the counts of the full scan of a disk.
-use Rattle.std.specs.Prelude.{◌≡◌, ℕ, suc, not, List, codes, ◌++◌, false, IfSome, Some, None}
+use Rattle.std.specs.Prelude.{◌≡◌, ◌⊎◌, ℕ, suc, not, Bool, List, [], ◌∷◌, codes, ◌++◌, true, false, ◌||◌, IfSome}
+use Rattle.std.specs.Prelude.{Some, None}
 use Rattle.std.specs.Fmt.{decimal}
 use Rattle.nofs_model.specs.Geometry.{Image, super_at}
 use Rattle.nofs_model.specs.Owners.{is_used_block, is_used_inode}
 use Rattle.nofs_history.specs.Search.{count_below}
 use Rattle.nofs_history.specs.History.{NoWriteFault}
+use Rattle.nofs_history.specs.Machine.{is_write_fault}
+use Rattle.nofs_history.specs.declared.machine.history.Entry1.{Entry1}
 use Rattle.nofs_history.specs.Next.{Run}
 use Rattle.nofs_history.specs.World.{World}
 use Rattle.nofs_state.specs.Books.Counts.{CountsBlocks, CountsInodes}
@@ -52,10 +55,22 @@ pub record IsCounted (found last : DiskState) (h : HistoryState) (c : Counts) : 
   pub machine : ∥ (IsMet found → NoWriteFault h.entries → CountsMachine found h c) ∥₁
   pub disk : ∥ (IsMet found → has_fault h.entries ≡ false → CountsDisk last.now c) ∥₁
 
--- the line of a scan
+-- whether a write of the device or a flush failed in some step
+abbrev pub has_write_fault : List Entry1 → Bool
+has_write_fault [] = false
+has_write_fault (e ∷ es) = is_write_fault e.reply || has_write_fault es
+
+-- The text of a scan: the line of the counts, of which this is known. Where a write or the last flush failed it is
+-- empty, since the maps of the mount are not used again
+abbrev pub IsScanText : List Entry1 → (Counts → Type 0) → List ℕ → Type 0
+IsScanText entries Known text =
+    (NoWriteFault entries × ((c : Counts) × (text ≡ counts_line c) × Known c))
+    ⊎ ((has_write_fault entries ≡ true) × (text ≡ []))
+
+-- the text of a scan was told
 abbrev pub SaysCounts : DiskState → DiskState → Option HistoryState → SinkState → SinkState → Type 0
-SaysCounts found last h old new =
-    IfSome h (λ x. (c : Counts) × IsCounted found last x c × Prints old new (counts_line c))
+SaysCounts found last h old new = IfSome h
+    (λ x. (text : List ℕ) × IsScanText x.entries (IsCounted found last x) text × Prints old new text)
 
 -- a scan was made: no call of the device failed, and the sink took the line of these counts. Where the premises are
 -- met, they are those of the full scan of the disk handed back

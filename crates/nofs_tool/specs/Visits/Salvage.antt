@@ -1,5 +1,5 @@
 -- What a salvage tells: a line for each loss, by the machine's world as the mount found it.
-use Rattle.std.specs.Prelude.{◌≡◌, ℕ, Bool, true, false, ◌&&◌, List, [], ◌++◌, All, IfOk, IfSome, flat_map, codes}
+use Rattle.std.specs.Prelude.{◌≡◌, ◌≢◌, ℕ, Bool, true, false, ◌&&◌, List, [], ◌++◌, All, IfOk, IfSome, flat_map, codes}
 use Rattle.std.specs.Prelude.{Result, Ok, Err}
 use Rattle.std.specs.Prelude.{if◌then◌else◌, None, Some}
 use Rattle.std.proofs.Common.{refl, sym, subst, append-nil}
@@ -80,10 +80,11 @@ walk_none picks told made is =
       agreed = tt;
     })
 
--- FIRST_USER walked, and the text tells of its walk. Where the premises are met and no call of the device failed, it is
--- that of the report of the world that the mount found
+-- FIRST_USER walked, and the text tells of its walk, which did not end for want of memory, over any disk. Where the
+-- premises are met and no call of the device failed, it is that of the report of the world that the mount found
 pub record IsWalkTold (picks : List ℕ → Bool) (found : DiskState) (h : HistoryState) (text : List ℕ) : Type 0 where
   pub result : Result (List Loss) SalvageFault
+  pub ended : result ≢ Err fault.OutOfMemory
   pub walk : IsWalk picks result [] (steps_by 1 h.entries)
   pub tells : text ≡ walk_text result
   pub whole : ∥ (IsMet found → has_fault h.entries ≡ false → text ≡ salvage_text (found_world found) picks) ∥₁

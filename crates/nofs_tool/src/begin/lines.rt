@@ -1,19 +1,18 @@
 //! The lines of a run that served no session (docs/FORMAT.md, "Other lines of the program").
 //!
-//! Promise: each line is the one that `specs/Begin/Lines.antt` defines, byte by byte. Where there is no memory for a
-//! line, none is given.
+//! Promise: each line is the one that `specs/Begin/Lines.antt` defines, byte by byte. None takes memory: a line is its
+//! parts, of which each is words, a number or bytes.
 
-ghost use Rattle.std.specs.Prelude.{◌≡◌, ◌++◌, IfOk, OnOk, string_bytes};
+ghost use Rattle.std.specs.Prelude.{◌≡◌, ◌++◌};
 ghost use Rattle.std.specs.Fmt.{decimal};
 ghost use Rattle.nofs_tool.specs.Begin.Lines.{cause_line, fixed_line, format_line, geometry_line, magic_line};
-ghost use Rattle.nofs_tool.specs.Begin.Lines.{mount_line, number_line, rest_line};
+ghost use Rattle.nofs_tool.specs.Begin.Lines.{mount_line, parts_text};
 ghost use Rattle.nofs_tool.specs.Begin.Lines.{script_line, script_words, upgrade_line};
 
 use crate::begin::mounts::Cause;
 use nofs_script::{ScriptFault, ScriptKind};
 use nofs_super::{FormatFault, MountFault};
 use nofs_upgrade::UpgradeFault;
-use std::alloc::{AllocError, Global};
 
 /// A line that is always the same.
 #[derive(Clone, Copy, Debug, PartialEq, Eq)]
@@ -46,21 +45,47 @@ pub fn fixed_text(line: FixedLine) -> &'static str
     }
 }
 
-fn push_number(alloc: Global, text: &mut String, words: &str, number: u64) -> Result<(), AllocError>
-    ensures { OnOk result (string_bytes text.new ≡ string_bytes text.old ++ (words.now ++ decimal number)) }
-{
-    text.push_str(words)?;
-    text.push_str(number.to_string(alloc)?.as_str())
+/// A part of a line.
+#[derive(Clone, Copy)]
+pub enum Part {
+    /// Words as they stand.
+    Words(&'static str),
+    /// A number in decimal.
+    Number(u64),
+    /// Bytes in hexadecimal.
+    Bytes([u8; 8]),
 }
 
-// A line of words and a number.
-fn number_text(alloc: Global, words: &str, number: u64) -> Result<String, AllocError>
-    ensures { IfOk result (λ text. string_bytes text ≡ number_line words.now number) }
+/// A line by its parts, in order. One with fewer ends in words that are empty.
+#[derive(Clone, Copy)]
+pub struct PartedLine {
+    pub parts: [Part; 5],
+}
+
+/// A line of words alone.
+pub(crate) fn words_line(words: &'static str) -> PartedLine
+    ensures { parts_text result.parts ≡ words.now }
 {
-    let mut text = String::new(alloc);
-    push_number(alloc, &mut text, words, number)?;
-    text.push_str("\n")?;
-    Ok(text)
+    let none = Part::Words("");
+    PartedLine {
+        parts: [Part::Words(words), none, none, none, none],
+    }
+}
+
+// A line of words, a number and words.
+fn counted_line(words: &'static str, number: u64, rest: &'static str) -> PartedLine
+    ensures { parts_text result.parts ≡ words.now ++ decimal number ++ rest.now }
+{
+    let none = Part::Words("");
+    PartedLine {
+        parts: [
+            Part::Words(words),
+            Part::Number(number),
+            Part::Words(rest),
+            none,
+            none,
+        ],
+    }
 }
 
 fn kind_text(kind: ScriptKind) -> &'static str
@@ -80,99 +105,104 @@ fn kind_text(kind: ScriptKind) -> &'static str
 
 /// The line of a text that is no session.
 #[tactic(auto, unfolding(crate::specs::Begin::Lines::script_line))]
-pub(crate) fn script_text(alloc: Global, fault: ScriptFault) -> Result<String, AllocError>
-    ensures { IfOk result (λ text. string_bytes text ≡ script_line fault) }
+pub(crate) fn script_text(fault: ScriptFault) -> PartedLine
+    ensures { parts_text result.parts ≡ script_line fault }
 {
-    let mut text = String::new(alloc);
-    push_number(alloc, &mut text, "line ", fault.line)?;
-    text.push_str(": ")?;
-    text.push_str(kind_text(fault.kind))?;
-    text.push_str("\n")?;
-    Ok(text)
-}
-
-fn format_text(alloc: Global, fault: FormatFault) -> Result<String, AllocError>
-    ensures { IfOk result (λ text. string_bytes text ≡ format_line fault) }
-{
-    match fault {
-        FormatFault::TooSmall { least } => number_text(alloc, "format: too small, least ", least),
-        FormatFault::TooLarge { most } => number_text(alloc, "format: too large, most ", most),
-        FormatFault::NotMultiple { inodes } => number_text(alloc, "format: bad inodes ", inodes),
-        FormatFault::WriteFault => String::from_str(alloc, fixed_text(FixedLine::DeviceFault)),
-        FormatFault::OutOfMemory => Ok(String::new(alloc)),
+    PartedLine {
+        parts: [
+            Part::Words("line "),
+            Part::Number(fault.line),
+            Part::Words(": "),
+            Part::Words(kind_text(fault.kind)),
+            Part::Words("\n"),
+        ],
     }
 }
 
-fn magic_text(alloc: Global, found: [u8; 8]) -> Result<String, AllocError>
-    ensures { IfOk result (λ text. string_bytes text ≡ magic_line found) }
-{
-    let digits = hex::encode(alloc, found.as_slice())?;
-    let mut text = String::from_str(alloc, "mount: bad magic ")?;
-    text.push_str(digits.as_str())?;
-    text.push_str("\n")?;
-    Ok(text)
-}
-
-fn geometry_text(alloc: Global, blocks: u64, inodes: u64) -> Result<String, AllocError>
-    ensures { IfOk result (λ text. string_bytes text ≡ geometry_line blocks inodes) }
-{
-    let mut text = String::new(alloc);
-    push_number(alloc, &mut text, "mount: bad geometry, blocks ", blocks)?;
-    push_number(alloc, &mut text, ", inodes ", inodes)?;
-    text.push_str("\n")?;
-    Ok(text)
-}
-
-fn rest_text(alloc: Global, at: u64) -> Result<String, AllocError>
-    ensures { IfOk result (λ text. string_bytes text ≡ rest_line at) }
-{
-    let mut text = String::new(alloc);
-    push_number(alloc, &mut text, "mount: byte ", at)?;
-    text.push_str(" is not zero\n")?;
-    Ok(text)
-}
-
-fn mount_text(alloc: Global, fault: MountFault) -> Result<String, AllocError>
-    ensures { IfOk result (λ text. string_bytes text ≡ mount_line fault) }
+fn format_text(fault: FormatFault) -> PartedLine
+    ensures { parts_text result.parts ≡ format_line fault }
 {
     match fault {
-        MountFault::BadMagic { found } => magic_text(alloc, found),
-        MountFault::BadVersion { found } => {
-            number_text(alloc, "mount: bad version ", u64::from(found))
+        FormatFault::TooSmall { least } => {
+            counted_line("format: too small, least ", least, "\n")
         }
-        MountFault::BadGeometry { blocks, inodes } => geometry_text(alloc, blocks, inodes),
+        FormatFault::TooLarge { most } => counted_line("format: too large, most ", most, "\n"),
+        FormatFault::NotMultiple { inodes } => counted_line("format: bad inodes ", inodes, "\n"),
+        FormatFault::WriteFault => words_line(fixed_text(FixedLine::DeviceFault)),
+        FormatFault::OutOfMemory => words_line(""),
+    }
+}
+
+fn magic_text(found: [u8; 8]) -> PartedLine
+    ensures { parts_text result.parts ≡ magic_line found }
+{
+    let none = Part::Words("");
+    PartedLine {
+        parts: [
+            Part::Words("mount: bad magic "),
+            Part::Bytes(found),
+            Part::Words("\n"),
+            none,
+            none,
+        ],
+    }
+}
+
+fn geometry_text(blocks: u64, inodes: u64) -> PartedLine
+    ensures { parts_text result.parts ≡ geometry_line blocks inodes }
+{
+    PartedLine {
+        parts: [
+            Part::Words("mount: bad geometry, blocks "),
+            Part::Number(blocks),
+            Part::Words(", inodes "),
+            Part::Number(inodes),
+            Part::Words("\n"),
+        ],
+    }
+}
+
+fn mount_text(fault: MountFault) -> PartedLine
+    ensures { parts_text result.parts ≡ mount_line fault }
+{
+    match fault {
+        MountFault::BadMagic { found } => magic_text(found),
+        MountFault::BadVersion { found } => {
+            counted_line("mount: bad version ", u64::from(found), "\n")
+        }
+        MountFault::BadGeometry { blocks, inodes } => geometry_text(blocks, inodes),
         MountFault::DeviceTooSmall { has } => {
-            number_text(alloc, "mount: device too small, has ", has)
+            counted_line("mount: device too small, has ", has, "\n")
         }
         MountFault::MountsSpent { found } => {
-            number_text(alloc, "mount: mounts spent, number ", found)
+            counted_line("mount: mounts spent, number ", found, "\n")
         }
-        MountFault::BadRest { at } => rest_text(alloc, at),
+        MountFault::BadRest { at } => counted_line("mount: byte ", at, " is not zero\n"),
         MountFault::ReadFault | MountFault::WriteFault => {
-            String::from_str(alloc, fixed_text(FixedLine::DeviceFault))
+            words_line(fixed_text(FixedLine::DeviceFault))
         }
-        MountFault::OutOfMemory => Ok(String::new(alloc)),
+        MountFault::OutOfMemory => words_line(""),
     }
 }
 
 /// The line of a format or a mount that was refused; nothing is said where memory was wanting.
-pub(crate) fn cause_text(alloc: Global, cause: Cause) -> Result<String, AllocError>
-    ensures { IfOk result (λ text. string_bytes text ≡ cause_line cause) }
+pub(crate) fn cause_text(cause: Cause) -> PartedLine
+    ensures { parts_text result.parts ≡ cause_line cause }
 {
     match cause {
-        Cause::Device => String::from_str(alloc, fixed_text(FixedLine::DeviceFault)),
-        Cause::NoMemory => Ok(String::new(alloc)),
-        Cause::Format(fault) => format_text(alloc, fault),
-        Cause::Mount(fault) => mount_text(alloc, fault),
+        Cause::Device => words_line(fixed_text(FixedLine::DeviceFault)),
+        Cause::NoMemory => words_line(""),
+        Cause::Format(fault) => format_text(fault),
+        Cause::Mount(fault) => mount_text(fault),
     }
 }
 
 /// The line of an upgrade that was refused; nothing is said where memory was wanting.
-pub(crate) fn upgrade_text(alloc: Global, fault: UpgradeFault) -> Result<String, AllocError>
-    ensures { IfOk result (λ text. string_bytes text ≡ upgrade_line fault) }
+pub(crate) fn upgrade_text(fault: UpgradeFault) -> PartedLine
+    ensures { parts_text result.parts ≡ upgrade_line fault }
 {
     match fault {
-        UpgradeFault::Mount(fault) => mount_text(alloc, fault),
-        UpgradeFault::Already => String::from_str(alloc, "upgrade: already version 2\n"),
+        UpgradeFault::Mount(fault) => mount_text(fault),
+        UpgradeFault::Already => words_line("upgrade: already version 2\n"),
     }
 }

@@ -1,25 +1,21 @@
 //! What a run ends with, and what its sink was told.
 
-ghost use Rattle.std.specs.Prelude.{◌≡◌, ◌≢◌, ◌↔◌, ◌⊎◌, [], None, Some, true, false, ℕ, List, IfOk, IfSome, OnErr};
-ghost use Rattle.std.specs.Prelude.{OnOk};
-ghost use Rattle.std.specs.Prelude.{string_bytes};
+ghost use Rattle.std.specs.Prelude.{◌≡◌, ◌≢◌, ◌↔◌, ◌⊎◌, [], None, Some, true, false, ℕ, List, IfSome};
 ghost use Rattle.nofs_disk.specs.Disk.{Rose};
 ghost use Rattle.nofs_io.specs.Texts.{AppendsAll};
-ghost use Rattle.nofs_tool.specs.Begin.Lines.{cause_line};
+ghost use Rattle.nofs_tool.specs.Begin.Lines.{cause_line, parts_text};
 ghost use Rattle.nofs_tool.specs.Begin.Mounts.{status_of as status_in};
 ghost use Rattle.nofs_history.specs.Faults.{has_fault};
-ghost use Rattle.nofs_tool.specs.Runs.Says.{Prints, PrintsOrNot};
+ghost use Rattle.nofs_tool.specs.Runs.Says.{Prints};
 
-use crate::begin::lines::cause_text;
+use crate::begin::lines::{PartedLine, cause_text};
 use crate::begin::mounts::{Refused, status_of};
+use crate::runs::says::{say, say_parts};
 use crate::session::serve::Ran;
 use nofs_dirent::Content;
 use nofs_disk::Disk;
 use nofs_history::History;
-use nofs_io::{Failed, Sink, Source, write_all};
-use std::alloc::{AllocError, Global};
-use std::sync::Wait;
-use std::thread::Threads;
+use nofs_io::Sink;
 
 /// What a run ends with. The history is there exactly where a mount stood.
 #[derive(Drop)]
@@ -27,18 +23,6 @@ pub struct Outcome<D> {
     pub status: u8,
     pub disk: D,
     pub history: Option<History>,
-}
-
-/// Tells a sink a text: where it fails, it has a part of it.
-pub(crate) fn say<K: Sink>(sink: &mut K, text: &[u8]) -> Result<(), Failed>
-    ensures says { Prints (K.state sink.old) (K.state sink.new) text.now }
-    ensures whole { OnOk result (AppendsAll (K.state sink.old) (K.state sink.new) text.now) }
-    ensures cause { OnErr result (Rose (K.state sink.old).faults (K.state sink.new).faults) }
-{
-    match write_all(sink, text) {
-        Ok(()) => Ok(()),
-        Err(failed) => Err(failed),
-    }
 }
 
 /// A run that served nothing, and says why. A sink that fails here changes nothing.
@@ -62,20 +46,22 @@ pub(crate) fn told_nothing<K: Sink, D>(sink: &mut K, disk: D) -> Outcome<D>
     told(sink, disk, 7, "")
 }
 
-/// A run that served nothing, with a line that took memory; where there was none, nothing is said.
-pub(crate) fn told_text<K: Sink, D>(
+/// A run that served nothing, and says why in a line of parts. A sink that fails here changes nothing.
+pub(crate) fn told_line<K: Sink, D>(
     sink: &mut K,
     disk: D,
     status: u8,
-    line: Result<String, AllocError>,
+    line: PartedLine,
 ) -> Outcome<D>
     ensures is { (result.status ≡ status) × (result.disk ≡ disk) × (result.history ≡ None) }
-    ensures says { (text : List ℕ) → IfOk line (λ l. string_bytes l ≡ text)
-        → PrintsOrNot (K.state sink.old) (K.state sink.new) text }
+    ensures says { (text : List ℕ) → parts_text line.parts ≡ text
+        → Prints (K.state sink.old) (K.state sink.new) text }
 {
-    match line {
-        Ok(line) => told(sink, disk, status, line.as_str()),
-        Err(_) => told(sink, disk, status, ""),
+    let _said = say_parts(sink, &line.parts);
+    Outcome {
+        status,
+        disk,
+        history: None,
     }
 }
 
@@ -130,15 +116,11 @@ pub(crate) fn written<K: Sink, D: Disk>(sink: &mut K, ran: Ran<D>) -> Outcome<D>
 }
 
 /// A device that was not mounted.
-pub(crate) fn refused<K: Sink, D: Disk>(
-    alloc: Global,
-    sink: &mut K,
-    refused: Refused<D>,
-) -> Outcome<D>
+pub(crate) fn refused<K: Sink, D: Disk>(sink: &mut K, refused: Refused<D>) -> Outcome<D>
     ensures is { (result.status ≡ status_in refused.cause) × (result.disk ≡ refused.disk) × (result.history ≡ None) }
-    ensures says { PrintsOrNot (K.state sink.old) (K.state sink.new) (cause_line refused.cause) }
+    ensures says { Prints (K.state sink.old) (K.state sink.new) (cause_line refused.cause) }
     ensures silent { result.status ≡ 7 → AppendsAll (K.state sink.old) (K.state sink.new) [] }
 {
     let Refused { disk, cause } = refused;
-    told_text(sink, disk, status_of(cause), cause_text(alloc, cause))
+    told_line(sink, disk, status_of(cause), cause_text(cause))
 }

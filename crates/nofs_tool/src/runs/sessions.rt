@@ -13,7 +13,7 @@ ghost use Rattle.nofs_tool.specs.Runs.Tool.{MountEnds, SessionEnds, WithSession,
 use crate::begin::lines::{FixedLine, fixed_text, script_text};
 use crate::begin::mounts::{Numbers, format_and_mount, mount};
 use crate::begin::words::Request;
-use crate::runs::outcomes::{Outcome, refused, told, told_nothing, told_text, written};
+use crate::runs::outcomes::{Outcome, refused, told, told_line, told_nothing, written};
 use crate::session::serve::run_session;
 use nofs_disk::Disk;
 use nofs_io::{ReadFault, Sink, Source, TEXT_LIMIT, read_all};
@@ -71,7 +71,7 @@ fn new_outcome<R: Threads + Wait + Sync, K: Sink, D: Disk + Drop + Send>(
 {
     match format_and_mount(alloc, disk, numbers) {
         Ok(mount) => mounted(rt, alloc, sink, mount, session),
-        Err(why) => refused(alloc, sink, why),
+        Err(why) => refused(sink, why),
     }
 }
 
@@ -98,7 +98,7 @@ fn run_outcome<R: Threads + Wait + Sync, K: Sink, D: Disk + Drop + Send>(
 {
     match mount(alloc, disk) {
         Ok(mount) => mounted(rt, alloc, sink, mount, session),
-        Err(why) => refused(alloc, sink, why),
+        Err(why) => refused(sink, why),
     }
 }
 
@@ -158,7 +158,7 @@ fn text_outcome<R: Threads + Wait + Sync, K: Sink, D: Disk + Drop + Send>(
 {
     match parse(alloc, text) {
         Ok(session) => session_outcome(rt, alloc, sink, disk, numbers, session),
-        Err(ParseFault::Wrong(fault)) => told_text(sink, disk, 2, script_text(alloc, fault)),
+        Err(ParseFault::Wrong(fault)) => told_line(sink, disk, 2, script_text(fault)),
         Err(ParseFault::OutOfMemory) => told_nothing(sink, disk),
     }
 }

@@ -45,7 +45,7 @@ pub(crate) fn scan_outcome<R: Threads + Wait + Sync, K: Sink, D: Disk + Drop + S
 {
     match mount(alloc, disk) {
         Ok(mount) => written(sink, run_scan(rt, alloc, mount)),
-        Err(why) => refused(alloc, sink, why),
+        Err(why) => refused(sink, why),
     }
 }
 
@@ -72,7 +72,7 @@ pub(crate) fn salvage_outcome<R: Threads + Wait + Sync, K: Sink, D: Disk + Drop 
 {
     match mount(alloc, disk) {
         Ok(mount) => written(sink, run_salvage(rt, alloc, mount, words)),
-        Err(why) => refused(alloc, sink, why),
+        Err(why) => refused(sink, why),
     }
 }
 
@@ -107,6 +107,6 @@ pub(crate) fn drill_outcome<R: Threads + Wait + Sync, K: Sink, D: Disk + Drop + 
 {
     match format_and_mount(alloc, disk, DRILL) {
         Ok(mount) => written(sink, run_drill(rt, alloc, mount, start, steps)),
-        Err(why) => refused(alloc, sink, why),
+        Err(why) => refused(sink, why),
     }
 }

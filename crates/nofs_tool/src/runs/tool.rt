@@ -49,9 +49,8 @@ use std::thread::Threads;
 /// session's text, or a part of it; at status 7 nothing, but for the replies to frames.
 ///
 /// There is no history only where no session was read, or where format or mount refused, and of an upgrade.
-/// `IsUnserved` there says by which fault, what it left of the device, and that the line is that of this very fault; it
-/// may be missing, where there was no memory for it. At 4 and 7 the cells are then as they were, or as a whole format
-/// left them.
+/// `IsUnserved` there says by which fault, what it left of the device, and that the line is that of this very fault,
+/// which takes no memory. At 4 and 7 the cells are then as they were, or as a whole format left them.
 ///
 /// Of its source a task takes only what it reads as a session or as frames (`TakesOnly` in specs/Runs/Statuses.antt).
 ///
@@ -115,7 +114,7 @@ pub fn tool<R: Threads + Wait + Sync, S: Source, K: Sink, D: Disk + Drop + Send>
         Some(Request::Run) => source_outcome(rt, alloc, source, sink, disk, None),
         Some(Request::Scan) => scan_outcome(rt, alloc, sink, disk),
         Some(Request::Drill { start, steps }) => drill_outcome(rt, alloc, sink, disk, start, steps),
-        Some(Request::Upgrade) => upgrade_outcome(alloc, sink, disk),
+        Some(Request::Upgrade) => upgrade_outcome(sink, disk),
         Some(Request::Salvage) => salvage_outcome(rt, alloc, sink, disk, words),
         Some(Request::Wire) => wire_outcome(rt, alloc, source, sink, disk),
     }

@@ -1,11 +1,14 @@
 //! The line of a scan (docs/FORMAT.md, "Other lines of the program").
 //!
-//! Promise: the line spells the counts that it is given.
+//! Promise: the line spells the counts that it is given. There is none where a write or a flush of the device failed:
+//! the maps of such a mount are not used again.
 
-ghost use Rattle.std.specs.Prelude.{◌≡◌, ◌++◌, IfOk, OnOk};
-ghost use Rattle.nofs_tool.specs.Session.Counts.{counts_line, kind_text};
+ghost use Rattle.std.specs.Prelude.{◌≡◌, ◌+◌, ◌<◌, ◌++◌, ◌||◌, IfOk, OnOk, drop, length};
+ghost use Rattle.nofs_history.specs.Machine.{is_write_fault};
+ghost use Rattle.nofs_tool.specs.Session.Counts.{IsScanText, counts_line, has_write_fault, kind_text};
 
 use nofs_dirent::Content;
+use nofs_history::{History, Refusal, Reply};
 use nofs_script::push_number;
 use nofs_state::Counts;
 use std::alloc::{AllocError, Global};
@@ -26,8 +29,8 @@ fn push_counts(
     Ok(())
 }
 
-/// The line that says how many inodes and blocks are used, free and not examined.
-pub(crate) fn counts_text(alloc: Global, counts: &Counts) -> Result<Content, AllocError>
+// The line that says how many inodes and blocks are used, free and not examined.
+fn counts_text(alloc: Global, counts: &Counts) -> Result<Content, AllocError>
     ensures { IfOk result (λ text. text ≡ counts_line counts.now) }
 {
     let inodes = (
@@ -45,4 +48,52 @@ pub(crate) fn counts_text(alloc: Global, counts: &Counts) -> Result<Content, All
     push_counts(alloc, &mut text, ", blocks used ", blocks)?;
     text.push(b'\n')?;
     Ok(Content::from_vec(text))
+}
+
+fn is_write_fault(reply: &Reply) -> bool
+    ensures { result ≡ is_write_fault reply.now }
+{
+    matches!(reply, Reply::Refused(Refusal::WriteFault))
+}
+
+// Whether it failed in the step at a place.
+fn is_unwritten(history: &History, at: u64) -> bool
+    requires { at < length history.now.entries }
+    ensures { has_write_fault (drop at history.now.entries)
+        ≡ (result || has_write_fault (drop (at + 1) history.now.entries)) }
+{
+    match history.entry(at) {
+        Some(entry) => is_write_fault(&entry.reply),
+        None => false,
+    }
+}
+
+// Whether a write of the device or a flush failed in some step. Few histories have a fault of any kind: the others are
+// not looked through.
+fn has_write_fault(history: &History) -> bool
+    ensures { result ≡ has_write_fault history.now.entries }
+{
+    if !history.has_fault() {
+        return false;
+    }
+    let mut found = false;
+    for at in 0..history.len() {
+        found |= is_unwritten(history, at);
+    }
+    found
+}
+
+/// The text of a scan: its line, or nothing where a write of the device or a flush failed.
+pub(crate) fn scan_text(
+    alloc: Global,
+    history: &History,
+    counts: &Counts,
+) -> Result<Content, AllocError>
+    ensures { IfOk result (IsScanText history.now.entries (λ c. c ≡ counts.now)) }
+{
+    if has_write_fault(history) {
+        Ok(Content::new(alloc))
+    } else {
+        counts_text(alloc, counts)
+    }
 }

@@ -15,18 +15,17 @@ ghost use Rattle.nofs_script.specs.Session.{IsSession};
 ghost use Rattle.nofs_script.specs.Text.{text_of};
 ghost use Rattle.nofs_serve.specs.Session.{TeamServed};
 ghost use Rattle.nofs_shared.specs.Mount.Entries.{AddsStep};
-ghost use Rattle.nofs_state.specs.declared.books.maps.Counts.{Counts};
 ghost use Rattle.nofs_tool.specs.Session.Entries.{session_text};
-ghost use Rattle.nofs_tool.specs.Session.Counts.{IsCounted, counts_line};
+ghost use Rattle.nofs_tool.specs.Session.Counts.{IsCounted, IsScanText};
 ghost use Rattle.nofs_tool.specs.Session.Serve.{AreSwept, IsClosed, IsFollowed, IsSessionRun};
 ghost use Rattle.nofs_tool.specs.Session.Whole.{Finished};
 
-use crate::session::counts::counts_text;
+use crate::session::counts::scan_text;
 use nofs_client::{Line, LineList};
 use nofs_dirent::Content;
 use nofs_disk::Disk;
 use nofs_history::{History, MOST_USERS, PROGRAM, Step};
-use nofs_script::{Session, line_text};
+use nofs_script::{Session, add_line};
 use nofs_serve::{Plan, Served, Sweeps, WriteOuts, serve};
 use nofs_shared::Mount;
 use nofs_workers::OpenGate;
@@ -47,7 +46,7 @@ fn add_text(alloc: Global, lines: &[Line], text: &mut Vec<u8>) -> Result<(), All
     ensures { OnOk result (text.new.items ≡ text.old.items ++ flat_map text_of lines.now) }
 {
     for line in lines {
-        text.extend_from_slice(&line_text(alloc, line)?)?;
+        add_line(alloc, text, line)?;
     }
     Ok(())
 }
@@ -207,7 +206,7 @@ pub(crate) fn run_session<R: Threads + Wait + Sync, D: Disk + Drop + Send>(
     ended(mount, lines_text(alloc, &lines).ok())
 }
 
-/// Examines every inode and every block, makes all durable, and says how many are used.
+/// Examines every inode and every block, makes all durable, and says how many are used, where no write failed.
 pub(crate) fn run_scan<R: Threads + Wait + Sync, D: Disk + Drop + Send>(
     rt: &R,
     alloc: Global,
@@ -218,8 +217,8 @@ pub(crate) fn run_scan<R: Threads + Wait + Sync, D: Disk + Drop + Send>(
     ensures ends { ∥ Finished (D.state mount.found.value) (D.state result.disk) mount.first result.history ∥₁ }
     ensures follows { IsFollowed [] mount.core.books.at result.text result.history.entries }
     ensures closed { IfSome result.text (λ _. IsClosed (D.state result.disk) result.history.entries) }
-    ensures counted { IfSome result.text (λ text. (c : Counts) × (text ≡ counts_line c)
-        × IsCounted (D.state mount.found.value) (D.state result.disk) result.history c) }
+    ensures counted { IfSome result.text (IsScanText result.history.entries
+        (IsCounted (D.state mount.found.value) (D.state result.disk) result.history)) }
 {
     let Served {
         mount,
@@ -230,6 +229,6 @@ pub(crate) fn run_scan<R: Threads + Wait + Sync, D: Disk + Drop + Send>(
     if out_of_memory {
         return ended(mount, None);
     }
-    let text = counts_text(alloc, &mount.counts()).ok();
+    let text = scan_text(alloc, mount.history(), &mount.counts()).ok();
     ended(mount, text)
 }

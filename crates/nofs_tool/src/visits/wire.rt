@@ -197,6 +197,6 @@ pub(crate) fn wire_outcome<R: Threads + Wait + Sync, Q: Source, K: Sink, D: Disk
 {
     match mount(alloc, disk) {
         Ok(mount) => mounted(rt, alloc, source, sink, mount),
-        Err(why) => refused(alloc, sink, why),
+        Err(why) => refused(sink, why),
     }
 }

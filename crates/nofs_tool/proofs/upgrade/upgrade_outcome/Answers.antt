@@ -11,12 +11,12 @@ pub returns-in-Err-clause-says : goal.returns-in-Err-clause-says
 returns-in-Err-clause-says g c =
     let S = g.D.Disk.state in inr (
       c.in-Err.why,
-      subst (λ (d : g.row.D.Denot). UpgradeFails (S c.args.disk) (S d) c.in-Err.why) (sym c.told_text.ensures.is.1)
+      subst (λ (d : g.row.D.Denot). UpgradeFails (S c.args.disk) (S d) c.in-Err.why) (sym c.told_line.ensures.is.1)
           (record { stopped = λ e. c.in-Err.ensures.stopped (ap Err e); refused = λ e. c.in-Err.ensures.refused e }),
-      sym (c.told_text.ensures.is.0 ∙ c.status_of.ensures),
-      c.told_text.ensures.says (upgrade_line c.in-Err.why) c.upgrade_text.ensures,
+      sym (c.told_line.ensures.is.0 ∙ c.status_of.ensures),
+      c.told_line.ensures.says (upgrade_line c.in-Err.why) c.upgrade_text.ensures,
     )
 
 pub returns-in-Err-clause-silent : goal.returns-in-Err-clause-silent
-returns-in-Err-clause-silent g c = silent-upgrade c.in-Err.why _ _ _ _ c.told_text.ensures.is.0 c.status_of.ensures
-    (c.told_text.ensures.says (upgrade_line c.in-Err.why) c.upgrade_text.ensures)
+returns-in-Err-clause-silent g c = silent-upgrade c.in-Err.why _ _ _ _ c.told_line.ensures.is.0 c.status_of.ensures
+    (c.told_line.ensures.says (upgrade_line c.in-Err.why) c.upgrade_text.ensures)

@@ -5,7 +5,7 @@ pub returns-in-Ok-clause-unserved : goal.returns-in-Ok-clause-unserved
 returns-in-Ok-clause-unserved g c = λ none. inr (c.session_outcome.ensures.unserved none)
 
 pub returns-in-Err-Wrong-clause-unserved : goal.returns-in-Err-Wrong-clause-unserved
-returns-in-Err-Wrong-clause-unserved g c = λ none. inl (inl c.told_text.ensures.is.0, c.told_text.ensures.is.1)
+returns-in-Err-Wrong-clause-unserved g c = λ none. inl (inl c.told_line.ensures.is.0, c.told_line.ensures.is.1)
 
 pub returns-in-Err-OutOfMemory-clause-unserved : goal.returns-in-Err-OutOfMemory-clause-unserved
 returns-in-Err-OutOfMemory-clause-unserved g c = λ none. let is = c.told_nothing.ensures.is in

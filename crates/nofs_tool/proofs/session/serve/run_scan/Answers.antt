@@ -1,4 +1,4 @@
-use Rattle.std.proofs.Common.{◌∙◌, Bool, false, [], sym, subst}
+use Rattle.std.proofs.Common.{◌∙◌, Bool, false, [], sym, ap, subst}
 use Rattle.nofs_history.specs.HistoryState.{HistoryState}
 use Rattle.nofs_shared.specs.Mount.Invariant.{IsMount}
 use Rattle.nofs_state.specs.declared.books.maps.Counts.{Counts}
@@ -38,6 +38,7 @@ returns-clause-counted g c =
     let known : T before.found.value c.ended-2.result.disk c.ended-2.result.history c.counts.result = subst
     (λ (h : HistoryState). T before.found.value c.ended-2.result.disk h c.counts.result)
     (sym c.ended-2.ensures.history) on_disk in
-    counts-told (T before.found.value c.ended-2.result.disk c.ended-2.result.history) c.counts_text.result
-    c.ended-2.result.text c.counts.result
-    (c.ended-2.ensures.text ∙ c.ok-text.ensures.value) c.counts_text.ensures known
+    counts-told (T before.found.value c.ended-2.result.disk c.ended-2.result.history) c.history.result.now.entries
+    c.ended-2.result.history.entries c.scan_text.result c.ended-2.result.text c.counts.result
+    (c.ended-2.ensures.text ∙ c.ok-text.ensures.value)
+    (ap (λ (h : HistoryState). h.entries) (c.ended-2.ensures.history ∙ sym c.history.ensures)) c.scan_text.ensures known
