@@ -1,10 +1,9 @@
 //! Runs behind a write-back cache, over one disk or over a mirror of two.
 //!
-//! Promise: the headline holds of them word for word, of the cached disk, or of the one that gathers over it.
+//! Promise: all that `tool` says holds of them word for word, of the cached disk, or of the one that gathers over it.
 
-ghost use Rattle.std.specs.Prelude.{IfSome, map, string_bytes};
-ghost use Rattle.nofs_tool.specs.Runs.Headline.{HeadlineIn};
-ghost use Rattle.nofs_tool.specs.Begin.Words.{task_in};
+ghost use Rattle.std.specs.Prelude.{map, string_bytes};
+ghost use Rattle.nofs_tool.specs.Runs.Call.{IsCall};
 
 use nofs_cache::{Cached, Gathered};
 use nofs_disk::Disk;
@@ -15,6 +14,21 @@ use std::alloc::Global;
 use std::sync::Wait;
 use std::thread::Threads;
 
+// Runs the program on a disk. What its call says stands in one record.
+fn tool_on<R: Threads + Wait + Sync, S: Source, K: Sink, D: Disk + Drop + Send>(
+    rt: &R,
+    alloc: Global,
+    words: &[String],
+    source: &mut S,
+    sink: &mut K,
+    disk: D,
+) -> Outcome<D>
+    ensures { IsCall D.state (map string_bytes words.now) (S.state source.old) (S.state source.new) TEXT_LIMIT
+        (K.state sink.old) (K.state sink.new) disk result.disk result.status result.history }
+{
+    tool(rt, alloc, words, source, sink, disk)
+}
+
 /// Runs the program on a disk behind a cache.
 pub fn tool_cached<R: Threads + Wait + Sync, S: Source, K: Sink, D: Disk + Drop + Send>(
     rt: &R,
@@ -24,12 +38,11 @@ pub fn tool_cached<R: Threads + Wait + Sync, S: Source, K: Sink, D: Disk + Drop 
     sink: &mut K,
     disk: Cached<D>,
 ) -> Outcome<Cached<D>>
-    ensures headline { IfSome result.history
-        (HeadlineIn (⟦<Cached<D> as Disk>⟧.state) (task_in (map string_bytes words.now))
-        (S.state source.old) (S.state source.new) TEXT_LIMIT disk
-        (⟦<Cached<D> as Disk>⟧.state result.disk) result.status) }
+    ensures { IsCall (⟦<Cached<D> as Disk>⟧.state) (map string_bytes words.now) (S.state source.old)
+        (S.state source.new) TEXT_LIMIT (K.state sink.old) (K.state sink.new) disk result.disk result.status
+        result.history }
 {
-    tool(rt, alloc, words, source, sink, disk)
+    tool_on(rt, alloc, words, source, sink, disk)
 }
 
 /// Runs the program on a mirror of two disks behind a cache.
@@ -47,10 +60,9 @@ pub fn tool_mirrored<
     sink: &mut K,
     disk: Cached<Mirror<A, B>>,
 ) -> Outcome<Cached<Mirror<A, B>>>
-    ensures headline { IfSome result.history
-        (HeadlineIn (⟦<Cached<Mirror<A, B>> as Disk>⟧.state) (task_in (map string_bytes words.now))
-        (S.state source.old) (S.state source.new) TEXT_LIMIT disk
-        (⟦<Cached<Mirror<A, B>> as Disk>⟧.state result.disk) result.status) }
+    ensures { IsCall (⟦<Cached<Mirror<A, B>> as Disk>⟧.state) (map string_bytes words.now) (S.state source.old)
+        (S.state source.new) TEXT_LIMIT (K.state sink.old) (K.state sink.new) disk result.disk result.status
+        result.history }
 {
     tool_cached(rt, alloc, words, source, sink, disk)
 }
@@ -65,10 +77,9 @@ pub fn tool_gathered<R: Threads + Wait + Sync, S: Source, K: Sink, D: Disk + Dro
     sink: &mut K,
     disk: Gathered<Cached<D>>,
 ) -> Outcome<Gathered<Cached<D>>>
-    ensures headline { IfSome result.history
-        (HeadlineIn (⟦<Gathered<Cached<D>> as Disk>⟧.state) (task_in (map string_bytes words.now))
-        (S.state source.old) (S.state source.new) TEXT_LIMIT disk
-        (⟦<Gathered<Cached<D>> as Disk>⟧.state result.disk) result.status) }
+    ensures { IsCall (⟦<Gathered<Cached<D>> as Disk>⟧.state) (map string_bytes words.now) (S.state source.old)
+        (S.state source.new) TEXT_LIMIT (K.state sink.old) (K.state sink.new) disk result.disk result.status
+        result.history }
 {
-    tool(rt, alloc, words, source, sink, disk)
+    tool_on(rt, alloc, words, source, sink, disk)
 }

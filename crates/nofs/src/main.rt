@@ -1,24 +1,31 @@
 //! `nofs IMAGE WORDS`: serves a session on a disk image.
 //!
-//! Promise: what holds of a run is the contract of `tool` in `nofs_tool`. What stands here takes the words, makes the
-//! disk, puts a write-back cache before it, hands over standard input and output, and ends with the status. Nothing
+//! Promise: what holds of a run is the contract of `tool` in `nofs_tool`, of the disk that is made for it; or the
+//! status is 7, or that of a device that can't be used, and no call was made. What stands here takes the words, makes
+//! the disk, puts a write-back cache before it, hands over standard input and output, and ends with the status. Nothing
 //! goes to standard error.
 #![tactic(auto)]
 
 mod cached;
 mod image;
 
-ghost use Rattle.std.specs.Prelude.{◌≡◌, IfOk, OnErr};
+ghost use Rattle.std.specs.Prelude.{◌≡◌, ◌⊎◌, IfOk, OnErr, map, replicate, string_bytes};
+ghost use Rattle.nofs_disk.specs.Disk.{IsSettled};
+ghost use Rattle.nofs_disk.specs.Tag.{zero_cell};
 ghost use Rattle.nofs_filedisk.specs.Bytes.{IsSynced};
+ghost use Rattle.nofs_io.specs.Calls.{SourceState};
+ghost use Rattle.nofs_memdisk.specs.Parts.{fresh_parts, parts_of};
 ghost use Rattle.nofs_tool.specs.Begin.Lines.{fixed_line};
+ghost use Rattle.nofs_tool.specs.Runs.Call.{RunsOn};
 ghost use Rattle.nofs_tool.specs.Runs.Says.{Prints};
+ghost use Rattle.nofs.specs.Runs.{HasNoImage, HasNoRoom};
 
 use crate::cached::{tool_cached, tool_gathered, tool_mirrored};
 use crate::image::{ImageChoice, image_of};
 use nofs_cache::{Cached, Gathered};
 use nofs_disk::Disk;
 use nofs_filedisk::{FileDisk, HostFile, Positioned};
-use nofs_io::{ReadSource, Sink, Source, WriteSink, write_all};
+use nofs_io::{ReadSource, Sink, Source, TEXT_LIMIT, WriteSink, write_all};
 use nofs_memdisk::MemDisk;
 use nofs_mirror::{Mirror, MirrorCause, MirrorFault};
 use nofs_pages::{ImageFile, Layout, Paged, Single, Twin, layout_of, single_pages, twin_pages};
@@ -60,7 +67,9 @@ fn command(words: &[String]) -> Option<(ImageChoice<'_>, &[String])> {
 }
 
 // The status of a run. The process ends next: its history goes with it, and no entry is taken apart by itself.
-fn ended<D: Drop>(outcome: Outcome<D>) -> u8 {
+fn ended<D: Drop>(outcome: Outcome<D>) -> u8
+    ensures { result ≡ outcome.status }
+{
     let Outcome {
         status,
         history,
@@ -78,7 +87,11 @@ fn run_cached<R: Threads + Wait + Sync, S: Source, K: Sink, D: Disk + Drop + Sen
     words: &[String],
     source: &mut S,
     sink: &mut K,
-) -> u8 {
+) -> u8
+    ensures { RunsOn (⟦<Cached<D> as Disk>⟧.state) (map string_bytes words.now) (S.state source.old)
+        (S.state source.new) TEXT_LIMIT (K.state sink.old) (K.state sink.new) (λ cached. cached.under ≡ disk) result
+        ⊎ HasNoRoom (S.state source.old) (S.state source.new) (K.state sink.old) (K.state sink.new) result }
+{
     match Cached::new(alloc, disk) {
         Ok(cached) => ended(tool_cached(rt, alloc, words, source, sink, cached)),
         Err(_) => NO_MEMORY,
@@ -94,7 +107,11 @@ fn run_gathered<R: Threads + Wait + Sync, S: Source, K: Sink, D: Disk + Drop + S
     words: &[String],
     source: &mut S,
     sink: &mut K,
-) -> u8 {
+) -> u8
+    ensures { RunsOn (⟦<Gathered<Cached<D>> as Disk>⟧.state) (map string_bytes words.now) (S.state source.old)
+        (S.state source.new) TEXT_LIMIT (K.state sink.old) (K.state sink.new) (λ it. it.under.under ≡ disk) result
+        ⊎ HasNoRoom (S.state source.old) (S.state source.new) (K.state sink.old) (K.state sink.new) result }
+{
     match Cached::new(alloc, disk) {
         Ok(cached) => {
             let gathered = Gathered::new(cached);
@@ -111,7 +128,11 @@ fn run_mirrored<
     K: Sink,
     A: Disk + Drop + Send,
     B: Disk + Drop + Send,
->(rt: &R, alloc: Global, words: &[String], source: &mut S, sink: &mut K, disk: Mirror<A, B>) -> u8 {
+>(rt: &R, alloc: Global, words: &[String], source: &mut S, sink: &mut K, disk: Mirror<A, B>) -> u8
+    ensures { RunsOn (⟦<Cached<Mirror<A, B>> as Disk>⟧.state) (map string_bytes words.now) (S.state source.old)
+        (S.state source.new) TEXT_LIMIT (K.state sink.old) (K.state sink.new) (λ cached. cached.under ≡ disk) result
+        ⊎ HasNoRoom (S.state source.old) (S.state source.new) (K.state sink.old) (K.state sink.new) result }
+{
     match Cached::new(alloc, disk) {
         Ok(cached) => ended(tool_mirrored(rt, alloc, words, source, sink, cached)),
         Err(_) => NO_MEMORY,
@@ -125,7 +146,12 @@ fn run_in_memory<R: Threads + Wait + Sync, S: Source, K: Sink>(
     words: &[String],
     source: &mut S,
     sink: &mut K,
-) -> u8 {
+) -> u8
+    ensures { RunsOn (⟦<Cached<MemDisk> as Disk>⟧.state) (map string_bytes words.now) (S.state source.old)
+        (S.state source.new) TEXT_LIMIT (K.state sink.old) (K.state sink.new)
+        (λ cached. parts_of cached.under ≡ fresh_parts (replicate 4096 zero_cell)) result
+        ⊎ HasNoRoom (S.state source.old) (S.state source.new) (K.state sink.old) (K.state sink.new) result }
+{
     match MemDisk::new(alloc, MEMORY_BLOCKS) {
         Ok(disk) => run_cached(rt, alloc, disk, words, source, sink),
         Err(_) => NO_MEMORY,
@@ -208,7 +234,9 @@ fn image_disk(
     file: HostFile,
     asked: Layout,
     anew: bool,
-) -> Result<ImageDisk, ImageFault> {
+) -> Result<ImageDisk, ImageFault>
+    ensures { IfOk result (λ image. IsSettled (⟦<FileDisk<HostImage> as Disk>⟧.state image.disk)) }
+{
     let mut file = file;
     let layout = layout_in(&mut file, asked, anew)?;
     let image = image_file(alloc, file, layout, anew)?;
@@ -222,7 +250,9 @@ fn image_disk(
 }
 
 // The line and the status of a file that isn't opened as an image.
-fn no_image<K: Sink>(sink: &mut K, why: ImageFault) -> u8 {
+fn no_image<K: Sink>(sink: &mut K, why: ImageFault) -> u8
+    ensures { (s : SourceState) → HasNoImage s s (K.state sink.old) (K.state sink.new) result }
+{
     match why {
         ImageFault::OutOfMemory => NO_MEMORY,
         ImageFault::Failed => no_device(sink),
@@ -241,6 +271,13 @@ fn run_in_file<R: Threads + Wait + Sync, S: Source, K: Sink>(
 ) -> u8
     ensures status { OnErr file (result ≡ 3) }
     ensures says { OnErr file (Prints (K.state sink.old) (K.state sink.new) (fixed_line FixedLine.DeviceFault)) }
+    ensures runs { RunsOn (⟦<Cached<FileDisk<HostImage>> as Disk>⟧.state) (map string_bytes words.now)
+        (S.state source.old) (S.state source.new) TEXT_LIMIT (K.state sink.old) (K.state sink.new)
+        (λ cached. IsSettled (⟦<FileDisk<HostImage> as Disk>⟧.state cached.under)) result
+        ⊎ RunsOn (⟦<Gathered<Cached<FileDisk<HostImage>>> as Disk>⟧.state) (map string_bytes words.now)
+        (S.state source.old) (S.state source.new) TEXT_LIMIT (K.state sink.old) (K.state sink.new)
+        (λ it. IsSettled (⟦<FileDisk<HostImage> as Disk>⟧.state it.under.under)) result
+        ⊎ HasNoImage (S.state source.old) (S.state source.new) (K.state sink.old) (K.state sink.new) result }
 {
     let Ok(file) = file else {
         return no_device(sink);
@@ -253,7 +290,9 @@ fn run_in_file<R: Threads + Wait + Sync, S: Source, K: Sink>(
 }
 
 // Why no mirror was opened, as a status: 7 for want of memory, else 3. A file has blocks enough.
-fn unopened<K: Sink>(sink: &mut K, cause: MirrorCause) -> u8 {
+fn unopened<K: Sink>(sink: &mut K, cause: MirrorCause) -> u8
+    ensures { (s : SourceState) → HasNoImage s s (K.state sink.old) (K.state sink.new) result }
+{
     match cause {
         MirrorCause::OutOfMemory => NO_MEMORY,
         MirrorCause::ReadFault | MirrorCause::TooSmall { .. } => no_device(sink),
@@ -270,7 +309,17 @@ fn run_in_mirror<R: Threads + Wait + Sync, S: Source, K: Sink>(
     blocks: u64,
     layout: Layout,
     files: (io::Result<HostFile>, io::Result<HostFile>),
-) -> u8 {
+) -> u8
+    ensures { RunsOn (⟦<Cached<Mirror<FileDisk<HostImage>, FileDisk<HostImage>>> as Disk>⟧.state)
+        (map string_bytes words.now) (S.state source.old) (S.state source.new) TEXT_LIMIT (K.state sink.old)
+        (K.state sink.new) (λ _. Unit {0}) result
+        ⊎ RunsOn (⟦<Gathered<Cached<Mirror<FileDisk<HostImage>, FileDisk<HostImage>>>> as Disk>⟧.state)
+        (map string_bytes words.now) (S.state source.old) (S.state source.new) TEXT_LIMIT (K.state sink.old)
+        (K.state sink.new) (λ _. Unit {0}) result
+        ⊎ RunsOn (⟦<Cached<FileDisk<HostImage>> as Disk>⟧.state) (map string_bytes words.now) (S.state source.old)
+        (S.state source.new) TEXT_LIMIT (K.state sink.old) (K.state sink.new) (λ _. Unit {0}) result
+        ⊎ HasNoImage (S.state source.old) (S.state source.new) (K.state sink.old) (K.state sink.new) result }
+{
     let (Ok(lead), Ok(other)) = files else {
         return no_device(sink);
     };
