@@ -121,6 +121,9 @@ fn nothing_is_written_out_once_a_flush_has_succeeded(rt: HostRuntime) -> Result<
     let script = "out 3=6 out3 out 2=5 flush 3=7 1=8 out 3?7 out flush out 2=9";
     assert_eq!(rt; calls_gathered(rt.alloc(), "", script)?, counts(0, 4, 2));
     let script = "3=6 2=5 flush! 1=4 out1 flush 1=5 out";
-    assert_eq!(rt; calls_gathered(rt.alloc(), "flush 1", script)?, counts(0, 3, 2));
+    assert_eq!(rt;
+        calls_gathered(rt.alloc(), "flush 1", script)?,
+        counts(0, 3, 2)
+    );
     Ok(())
 }
