@@ -1,6 +1,7 @@
 """tools/nofs-mount: an image as a directory, used by the programs that people use. Left out where there is no /dev/fuse."""
 import errno
 import functools
+import mmap
 import os
 import random
 import shutil
@@ -195,6 +196,29 @@ class Names(Mounted):
         self.remount()
         self.assertEqual(tree(self.top), {"e": None, "e/d": None, "e/d/g": b"moved"})
 
+    def test_names_behind_many_that_were_removed_are_listed(self):
+        os.mkdir(self.path("d"))
+        names = [f"name-{number:04}-{'x' * 30}" for number in range(1100)]
+        for name in names:
+            os.mknod(self.path("d", name))
+        with os.scandir(self.path("d")) as lines:
+            found = [next(lines).name]
+            for name in names[200:1000]:
+                os.remove(self.path("d", name))
+            found += [line.name for line in lines]
+        self.assertLessEqual({*names[:200], *names[1000:]}, {*found})
+        self.assertEqual(len(found), len({*found}))
+
+    def test_a_listing_has_the_number_of_each_inode(self):
+        os.mkdir(self.path("d"))
+        for number in range(800):
+            os.mknod(self.path("d", f"n{number}"))
+        self.remount()
+        with os.scandir(self.path("d")) as lines:
+            told = {line.name: line.inode() for line in lines}
+        self.assertEqual(told, {name: os.stat(self.path("d", name)).st_ino for name in told})
+        self.assertEqual(len(told), 800)
+
     def test_1152_names_are_listed_and_the_next_is_refused(self):
         os.mkdir(self.path("d"))
         for number in range(1152):
@@ -267,8 +291,39 @@ class Full(Mounted):
         self.assertEqual(read(self.path("again")), kept[:10000])
 
 
+    def test_a_file_is_as_long_as_it_was_told_in_a_full_image(self):
+        """By writes of many slots, of which some are stored, and by a rename that needs no room."""
+        data, stored = random.Random(6).randbytes(65536), b""
+        with open(self.path("f"), "wb", buffering=0) as file:
+            with self.assertRaises(OSError) as caught:
+                while True:
+                    stored += data[:file.write(data)]
+            self.assertEqual(caught.exception.errno, errno.ENOSPC)
+            self.assertEqual(os.fstat(file.fileno()).st_size, len(stored))
+            os.ftruncate(file.fileno(), len(stored) + 5000)
+            self.refused(errno.ENOSPC, os.pwrite, file.fileno(), data[:4096], len(stored) + 900)
+            self.assertEqual(os.stat(self.path("f")).st_size, len(stored) + 5000)
+        self.assertEqual(read(self.path("f")), stored + bytes(5000))
+        os.rename(self.path("f"), self.path("g"))
+        self.remount()
+        self.assertEqual(read(self.path("g")), stored + bytes(5000))
+
+
 class Losses(Mounted):
     """Images that were damaged, and programs that were killed."""
+
+    def test_a_file_that_was_cut_to_nothing_has_lost_nothing(self):
+        self.remount()
+        data = random.Random(9).randbytes(4096)
+        write(self.path("f"), data)
+        self.unmount()
+        self.assertEqual(lose(self.image, data[1024:2048]), 1)
+        self.remount()
+        self.refused(errno.EIO, read, self.path("f"))
+        with open(self.path("f"), "w+b", buffering=0) as file:
+            file.write(data)
+        with open(self.path("f"), "r+b", buffering=0) as file, mmap.mmap(file.fileno(), 4096) as mapped:
+            self.assertEqual(mapped[:], data)
 
     def test_a_lost_slot_is_never_a_short_file(self):
         data = random.Random(7).randbytes(13893)
@@ -353,6 +408,42 @@ class Arguments(Mounted):
         self.unmount()
         for image in ("a.img", "b.img"):
             self.assertEqual(serve(self.at(image), b"get /f 0 9"), ["got bytes:" + b"in both".hex()])
+
+    def test_an_image_in_pages_or_twin_pages_is_made_and_mounted_by_its_word(self):
+        for word in (f"paged:{self.at('pages.img')}", f"twin:{self.at('twins.img')}"):
+            run([MOUNT, "--nofs", NOFS, "--new", word, str(self.blocks), str(self.inodes)])
+            for image in (word, word.partition(":")[2], word):
+                self.remount(image=image)
+                data = random.Random(7).randbytes(300000)
+                write(self.path("f"), data)
+                os.chmod(self.path("f"), 0o640)
+                os.replace(self.path("f"), self.path("g"))
+                self.remount(image=image)
+                self.assertEqual(tree(self.top), {"g": data})
+                self.assertEqual(os.stat(self.path("g")).st_mode & 0o7777, 0o640)
+            self.unmount()
+            self.assertEqual(serve(word, b"", "salvage"), [])
+
+    @unittest.skipUnless(os.getuid() == 0 and all(map(shutil.which, ("unshare", "setpriv", "fusermount3"))), "not root, or no unshare or setpriv")
+    def test_a_user_who_is_not_root_mounts_an_image_of_theirs(self):
+        """Where all may open /dev/fuse, as on most machines; here in a world of mounts of its own."""
+        self.unmount()
+        user = "--reuid=65534 --regid=65534 --clear-groups"
+        for path in (self.room, self.top, self.image):
+            os.chown(path, 65534, 65534)
+        script = f"""cd {self.room}; "$0" --nofs "$1" disk.img top 2>said & server=$!
+            until mountpoint -q top; do kill -0 $server || cat said >&2; sleep 0.1; done
+            echo one > top/a; mkdir top/d; cp top/a top/d/b; mv top/d/b top/d/c; chmod 640 top/a; stat -c '%u %g %a' top/a top/d
+            ! chown 0 top/a 2>/dev/null
+            if test $2; then kill -TERM $server; else fusermount3 -u top; fi; wait $server; echo status $?"""
+        root = f"""mknod -m 666 {self.at('fuse')} c 10 229; mount --bind {self.at('fuse')} /dev/fuse
+            setpriv {user} sh -ec "$0" "$@"; mkdir other; "$1" --nofs "$2" disk.img other & server=$!
+            until mountpoint -q other; do kill -0 $server; sleep 0.1; done; cat other/a other/d/c; umount other; wait $server"""
+        for end in ("", "by-signal"):
+            said = run(["unshare", "--mount", "--propagation=private", "sh", "-ec", f"cd {self.room}; {root}", script, MOUNT, NOFS, end])[0].decode()
+            self.assertEqual(said.splitlines(), ["65534 65534 640", "65534 65534 755", "status 0", "one", "one"])
+            os.rmdir(self.at("other"))
+            os.remove(self.at("fuse"))
 
     def test_an_image_of_version_1_is_mounted_with_its_smaller_files(self):
         self.unmount()

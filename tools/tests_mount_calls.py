@@ -1,4 +1,6 @@
 """What calls answer in a mounted directory: as a local file system answers, but for what the format has not."""
+import errno
+import mmap
 import os
 import signal
 import subprocess
@@ -6,7 +8,7 @@ import sys
 import threading
 import time
 
-from tests_common import TOOLS, read, run, write
+from tests_common import TOOLS, read, run, serve, write
 from tests_mount import Mounted
 
 # The cases of tools/mounted_calls.py that answer otherwise, and why.
@@ -92,6 +94,28 @@ class Durable(Mounted):
 
 
 class Attributes(Mounted):
+    def test_groups_links_and_times_go_on_as_names_do(self):
+        os.mkdir(self.path("d"))
+        os.chown(self.path("d"), 0, 1234)
+        os.chmod(self.path("d"), 0o2775)
+        write(self.path("d", "f"), b"x")
+        os.mkdir(self.path("d", "e"))
+        self.assertEqual(os.stat(self.path("d", "f")).st_gid, 1234)
+        self.assertEqual((os.stat(self.path("d", "e")).st_gid, os.stat(self.path("d", "e")).st_mode & 0o2000), (1234, 0o2000))
+        self.assertEqual(os.stat(self.path("d")).st_nlink, 3)
+        before = os.stat(self.path("d", "f")).st_ctime_ns
+        time.sleep(0.02)
+        os.link(self.path("d", "f"), self.path("d", "g"))
+        self.assertGreater(os.stat(self.path("d", "f")).st_ctime_ns, before)
+
+    def test_a_write_across_the_limit_stores_what_fits_and_says_so(self):
+        data = b"x" * 10000
+        with open(self.path("f"), "wb", buffering=0) as file:
+            self.assertEqual(os.pwrite(file.fileno(), data, 4268032 - 3000), 3000)
+            self.assertEqual(os.fstat(file.fileno()).st_size, 4268032)
+        self.remount()
+        self.assertEqual(os.stat(self.path("f")).st_size, 4268032)
+
     def test_permissions_owners_and_times_last(self):
         write(self.path("f"), b"x")
         os.chown(self.path("f"), 1000, 1001)
@@ -124,6 +148,8 @@ class Attributes(Mounted):
 class Opened(Mounted):
     """Files and folders that are open while others remove or replace them."""
 
+    blocks, inodes = 8192, 1200
+
     def test_a_folder_of_a_removed_open_file_can_be_removed(self):
         os.mkdir(self.path("d"))
         with open(self.path("d", "f"), "w+b") as file:
@@ -141,6 +167,74 @@ class Opened(Mounted):
                 os.truncate(self.path("f"), 1710)
                 os.truncate(self.path("f"), 3000)
                 self.assertEqual(read(self.path("f")), b"S" * 1710 + bytes(1290))
+
+    def test_cut_off_bytes_do_not_come_back_by_a_page_that_is_mapped(self):
+        with open(self.path("f"), "wb") as file:
+            file.write(b"S" * 2477)
+        os.truncate(self.path("f"), 1710)
+        with open(self.path("f"), "r+b", buffering=0) as file:
+            os.ftruncate(file.fileno(), 3000)
+            with mmap.mmap(file.fileno(), 3000) as mapped:
+                mapped[2900:2901] = b"x"
+                mapped.flush()
+        expected = b"S" * 1710 + bytes(1190) + b"x" + bytes(99)
+        self.assertEqual(read(self.path("f")), expected)
+        self.remount()
+        self.assertEqual(read(self.path("f")), expected)
+
+    def test_a_removed_open_file_leaves_no_name_and_no_block_after_a_crash_or_a_signal(self):
+        for how in (self.crash, lambda: self.mount.send_signal(signal.SIGTERM)):
+            file = os.open(self.path("f"), os.O_RDWR | os.O_CREAT)
+            os.write(file, b"x" * 4000000)
+            os.fsync(file)
+            os.remove(self.path("f"))
+            folder = os.open(self.top, os.O_RDONLY)
+            os.fsync(folder)
+            os.close(folder)
+            if how == self.crash:
+                self.crash()
+                self.close(file)
+            else:
+                how()
+                os.close(file)
+                self.unmount(lambda: None)
+            for _ in range(3):                  # of which the image has room for one
+                self.remount()
+                self.assertEqual(os.listdir(self.top), [])
+                write(self.path("g"), b"y" * 4000000)
+                os.remove(self.path("g"))
+            self.unmount()
+            self.assertEqual(serve(self.image, b"", "salvage"), [])
+            self.assertEqual([line for line in serve(self.image, b"list /.nofs", "run") if " o" in line], [])
+            self.remount()
+
+    def crash(self):
+        """The server and its program are killed."""
+        program = self.program()
+        for number, process in ((signal.SIGSTOP, self.mount.pid), (signal.SIGKILL, program), (signal.SIGKILL, self.mount.pid)):
+            os.kill(process, number)
+        self.drop()
+        self.mount = None
+
+    def close(self, file):
+        try:
+            os.close(file)
+        except OSError:
+            pass
+
+    def test_a_name_is_replaced_in_a_folder_that_is_full(self):
+        os.mkdir(self.path("d"))
+        for number in range(1151):
+            os.mknod(self.path("d", f"n{number}"))
+        write(self.path("d", "target"), b"old")
+        write(self.path("new"), b"new")
+        self.refused(errno.ENOSPC, os.link, self.path("new"), self.path("d", "one-more"))
+        with open(self.path("d", "target"), "rb") as file:
+            os.replace(self.path("new"), self.path("d", "target"))
+            self.assertEqual(file.read(), b"old")
+        self.remount()
+        self.assertEqual(read(self.path("d", "target")), b"new")
+        self.assertEqual(len(os.listdir(self.path("d"))), 1152)
 
     def test_a_refused_rename_keeps_its_target(self):
         write(self.path("a"), b"a")

@@ -314,6 +314,16 @@ class Nonsense(Mounted):
                 self.drop()
                 self.mount = None
 
+    def test_a_folder_of_the_mount_that_cannot_be_read_keeps_nobody_from_the_rest(self):
+        write(self.path("f"), b"kept")
+        self.serve_by("def change(step, reply, number):\n    return bytes([18]) if step[0] == 7 and number < 400 else reply")
+        self.assertIn(b"no hidden folder (refusal 18)", read(self.at("said")))
+        for number in range(400):               # each name is asked for once: the kernel keeps that it is not there
+            os.path.exists(self.path(f"none{number}"))
+        self.assertEqual(read(self.path("f")), b"kept")
+        self.drop()
+        self.mount = None
+
     def test_frames_that_are_none(self):
         self.serve_by("def change(step, reply, number):\n    return reply if number < 400 else b''")
         for _ in range(3):

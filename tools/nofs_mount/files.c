@@ -11,7 +11,7 @@
 #include <string.h>
 #include <unistd.h>
 
-enum { SLOT = NOFS_SLOT_BYTES, LOOKED_AT_FIRST = 64, DAY = 86400 };
+enum { SLOT = NOFS_SLOT_BYTES, LOOKED_AT_FIRST = 64, LARGE = 1 << 18, DAY = 86400 };
 
 static uint64_t slots_of(uint64_t bytes) { return (bytes + SLOT - 1) / SLOT; }
 static uint64_t least(uint64_t a, uint64_t b) { return a < b ? a : b; }
@@ -74,7 +74,7 @@ static void open_handle(struct node *node, struct fuse_file_info *file)
     node->opened++;
     file->fh = node->is_lossy;
     file->keep_cache = !node->is_lossy; /* nobody but the kernel changes it */
-    file->direct_io = node->is_lossy;
+    file->direct_io = node->is_lossy != 0;
     file->noflush = (file->flags & O_ACCMODE) == O_RDONLY;
 }
 
@@ -228,6 +228,7 @@ int resize(struct mount *it, struct node *node, uint64_t size)
     int answer = nofs_resize(&it->nofs, node->at, size);
     if (answer) return answer;
     node->size = size;
+    if (size == 0) node->is_lossy = 0;
     nodes_note_change(&it->nodes, node);
     nodes_touch(&it->nodes, node);
     return NOFS_OK;
@@ -268,6 +269,7 @@ static int store(struct mount *it, struct node *node, const char *bytes, size_t 
     uint64_t old = node->size;
     size_t done;
     it->ahead.node = NULL;
+    if (size >= LARGE) processor_part();
     add_write(it, node, bytes, size, at);
     int answer = nofs_claim(&it->nofs, &done);
     *stored = stored_by(done, size, at, at > old);

@@ -119,40 +119,28 @@ static int read_lines(struct mount *it, struct listing *listing)
 
 /* Answers */
 
-static size_t add_plain(fuse_req_t request, char *to, size_t room, const struct nofs_name *line, ino_t inode,
-                        size_t place)
-{
-    struct stat stat;
-    memset(&stat, 0, sizeof stat);
-    stat.st_ino = inode;
-    stat.st_mode = line->kind == NOFS_DIRECTORY ? S_IFDIR : S_IFREG;
-    return fuse_add_direntry(request, to, room, line->name, &stat, (off_t)place + 1);
-}
-
-static void reply_names(fuse_req_t request, struct listing *listing, size_t size, size_t place)
-{
-    const ino_t unknown = 0xFFFFFFFF;
-    char *to = malloc(size);
-    size_t length = 0;
-    for (; to && place < listing->count; place++) {
-        ino_t inode = place ? unknown : listing->folder->at.inode;
-        size_t some = add_plain(request, to + length, size - length, &listing->lines[place], inode, place);
-        if (some > size - length) break;
-        length += some;
-    }
-    if (to) fuse_reply_buf(request, to, length);
-    else fuse_reply_err(request, ENOMEM);
-    free(to);
-}
-
-/* The lines of an answer with nodes, from a place on, as many as have room. */
+/* The lines of an answer, from a place on, as many as have room; `seen` is what was looked up, and none of the first
+ * `dots` lines, which are the directory and the one above. */
 struct part { struct nofs_name *lines; struct node **nodes; struct sight *seen; size_t place, count, dots; };
 
-static struct part part_of(fuse_req_t request, const struct listing *listing, size_t size, size_t place)
+typedef size_t room_of_line(fuse_req_t request, const char *name);
+
+static size_t room_of_plain(fuse_req_t request, const char *name)
+{
+    return fuse_add_direntry(request, NULL, 0, name, NULL, 0);
+}
+
+static size_t room_with_node(fuse_req_t request, const char *name)
+{
+    return fuse_add_direntry_plus(request, NULL, 0, name, NULL, 0);
+}
+
+static struct part part_of(fuse_req_t request, const struct listing *listing, size_t size, size_t place,
+                           room_of_line *room)
 {
     struct part it = {listing->lines + place, NULL, NULL, place, 0, place < 2 ? 2 - place : 0};
     for (size_t length = 0; place + it.count < listing->count; it.count++) {
-        length += fuse_add_direntry_plus(request, NULL, 0, it.lines[it.count].name, NULL, 0);
+        length += room(request, it.lines[it.count].name);
         if (length > size) break;
     }
     if (it.dots > it.count) it.dots = it.count;
@@ -161,15 +149,49 @@ static struct part part_of(fuse_req_t request, const struct listing *listing, si
     return it;
 }
 
+static void free_part(struct part *part)
+{
+    free(part->nodes);
+    free(part->seen);
+}
+
 static int look_part(struct mount *it, const struct node *folder, struct part *part)
 {
-    size_t first = part->dots, count = part->count - first;
+    if (!part->nodes || !part->seen) return NOFS_NO_MEMORY;
     nofs_begin(&it->nofs);
-    for (size_t n = first; n < part->count; n++) nofs_add_look(&it->nofs, folder->at, part->lines[n].name);
+    for (size_t n = part->dots; n < part->count; n++) nofs_add_look(&it->nofs, folder->at, part->lines[n].name);
     int answer = nofs_send(&it->nofs);
-    for (size_t n = 0; !answer && n < count; n++)
-        part->seen[first + n].answer = nofs_take_found(&it->nofs.replies[n], &part->seen[first + n].found);
-    return answer ? answer : nodes_of(it, part->seen + first, part->nodes + first, count);
+    for (size_t n = part->dots; !answer && n < part->count; n++)
+        part->seen[n].answer = nofs_take_found(&it->nofs.replies[n - part->dots], &part->seen[n].found);
+    return answer;
+}
+
+/* The number of an inode is all that such a line tells of it. */
+static size_t add_plain(fuse_req_t request, const struct node *folder, const struct part *part, char *to, size_t size)
+{
+    const ino_t unknown = 0xFFFFFFFF;
+    size_t length = 0;
+    for (size_t n = 0; n < part->count; n++) {
+        struct stat stat;
+        memset(&stat, 0, sizeof stat);
+        stat.st_ino = part->place + n == 0 ? folder->at.inode : unknown;
+        if (n >= part->dots && !part->seen[n].answer) stat.st_ino = part->seen[n].found.at.inode;
+        stat.st_mode = part->lines[n].kind == NOFS_DIRECTORY ? S_IFDIR : S_IFREG;
+        off_t next = (off_t)(part->place + n) + 1;
+        length += fuse_add_direntry(request, to + length, size - length, part->lines[n].name, &stat, next);
+    }
+    return length;
+}
+
+static void reply_names(fuse_req_t request, struct listing *listing, size_t size, size_t place)
+{
+    struct part part = part_of(request, listing, size, place, room_of_plain);
+    char *to = malloc(size);
+    int answer = to ? look_part(mount_of(request), listing->folder, &part) : NOFS_NO_MEMORY;
+    if (answer) reply_answer(request, answer);
+    else fuse_reply_buf(request, to, add_plain(request, listing->folder, &part, to, size));
+    free_part(&part);
+    free(to);
 }
 
 /* A line that was removed since the directory was opened is left out. */
@@ -189,16 +211,42 @@ static size_t add_part(fuse_req_t request, const struct node *folder, struct par
     return length;
 }
 
+/* An answer without a line would be taken for the directory's end: where all of a part was removed since it was
+ * opened, the next part follows. */
+static int fill_part(fuse_req_t request, struct listing *listing, struct part *part, char *to, size_t size,
+                     size_t *length)
+{
+    struct mount *it = mount_of(request);
+    for (;;) {
+        int answer = look_part(it, listing->folder, part);
+        if (!answer)
+            answer = nodes_of(it, part->seen + part->dots, part->nodes + part->dots, part->count - part->dots);
+        if (answer) return answer;
+        *length = add_part(request, listing->folder, part, to, size);
+        if (*length || !part->count) return NOFS_OK;
+        size_t next = part->place + part->count;
+        free_part(part);
+        *part = part_of(request, listing, size, next, room_with_node);
+    }
+}
+
+/* The kernel did not take the entries. */
+static void forget_part(struct mount *it, const struct part *part)
+{
+    for (size_t n = part->dots; n < part->count; n++)
+        if (part->nodes[n]) nodes_forget(&it->nodes, part->nodes[n], 1);
+}
+
 static void reply_names_with_nodes(fuse_req_t request, struct listing *listing, size_t size, size_t place)
 {
     struct mount *it = mount_of(request);
-    struct part part = part_of(request, listing, size, place);
+    struct part part = part_of(request, listing, size, place, room_with_node);
+    size_t length = 0;
     char *to = malloc(size);
-    int answer = part.nodes && part.seen && to ? look_part(it, listing->folder, &part) : NOFS_NO_MEMORY;
+    int answer = to ? fill_part(request, listing, &part, to, size, &length) : NOFS_NO_MEMORY;
     if (answer) reply_answer(request, answer);
-    else fuse_reply_buf(request, to, add_part(request, listing->folder, &part, to, size));
-    free(part.nodes);
-    free(part.seen);
+    else if (fuse_reply_buf(request, to, length)) forget_part(it, &part);
+    free_part(&part);
     free(to);
 }
 

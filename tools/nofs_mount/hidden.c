@@ -23,10 +23,11 @@ static int ensure(struct mount *it, struct nofs_at folder, const char *name, enu
 
 static int ensure_file(struct mount *it, const char *name, uint64_t size, struct nofs_at *at)
 {
-    struct nofs_stat stat;
+    struct nofs_stat stat = {NOFS_FILE, 0, 0};
     int answer = ensure(it, it->hidden.folder, name, NOFS_FILE, at);
     if (!answer) answer = nofs_stat(&it->nofs, *at, &stat);
-    return answer || stat.size >= size ? answer : nofs_resize(&it->nofs, *at, size);
+    if (!answer && stat.size < size) answer = nofs_resize(&it->nofs, *at, size);
+    return answer;
 }
 
 /* Removed files */
@@ -68,12 +69,21 @@ void hidden_sweep(struct mount *it)
 
 /* Beginning */
 
+/* What the machine refuses, as a block that can't be read, keeps nobody from the rest of the image. */
+static int without_hidden(struct mount *it, int refusal)
+{
+    tell("no hidden folder (refusal %d): permissions, owners and times will not last", refusal);
+    it->hidden.is_there = 0;
+    return NOFS_OK;
+}
+
 int hidden_recover(struct mount *it)
 {
     if (!it->hidden.is_there) return NOFS_OK;
     int answer = replace_finish_all(it);
     if (!answer) hidden_sweep(it);
-    return it->nofs.ended ? NOFS_ENDED : answer;
+    if (it->nofs.ended) return NOFS_ENDED;
+    return answer > 0 ? without_hidden(it, answer) : answer;
 }
 
 /* An image that has room for a part of it alone shows nothing of it. */
@@ -92,9 +102,9 @@ int hidden_open(struct mount *it)
     if (!answer) answer = ensure_file(it, "attributes", attributes_bytes(it), &hidden->attributes[0]);
     if (!answer) answer = ensure_file(it, "attributes2", attributes_bytes(it), &hidden->attributes[1]);
     if (!answer) answer = ensure_file(it, "replace", 2 * NOFS_SLOT_BYTES, &hidden->replace);
-    if (answer == NOFS_ENDED) return answer;
+    if (answer < 0) return answer;
     if (answer) {
-        tell("no hidden folder (refusal %d): permissions, owners and times will not last", answer);
+        without_hidden(it, answer);
         if (answer == NOFS_FULL || answer == NOFS_INODES_FULL || answer == NOFS_DIRECTORY_FULL) drop_part(it);
         return it->nofs.ended ? NOFS_ENDED : NOFS_OK;
     }

@@ -16,7 +16,7 @@
 
 enum { INCREASE_EPOCH = 8 };            /* linux/fuse.h, version 7.44; not in libfuse 3.14 */
 
-static volatile sig_atomic_t is_ending, child_changed, is_asked;
+static volatile sig_atomic_t is_ending, child_changed, is_asked, second_is_over;
 
 /* Signals */
 
@@ -24,7 +24,8 @@ static void on_signal(int number)
 {
     if (number == SIGCHLD) child_changed = 1;
     else if (number == SIGUSR1) is_asked = 1;
-    else if (number != SIGALRM) is_ending = 1;
+    else if (number == SIGALRM) second_is_over = 1;
+    else is_ending = 1;
 }
 
 /* Without SA_RESTART, so that they end the read. One that comes just before it waits for the next second. */
@@ -45,8 +46,18 @@ void kernel_take_signals(void)
  * Of pages and listings by a thread of its own: the kernel waits there for locks that requests hold which wait for
  * us. */
 
-static pthread_t teller;
-static int teller_runs;
+static pthread_mutex_t of_tellers = PTHREAD_MUTEX_INITIALIZER;
+static pthread_cond_t teller_ended = PTHREAD_COND_INITIALIZER;
+static int tellers;
+
+/* So many more of them. */
+static void count_tellers(int more)
+{
+    pthread_mutex_lock(&of_tellers);
+    tellers += more;
+    pthread_cond_signal(&teller_ended);
+    pthread_mutex_unlock(&of_tellers);
+}
 
 static void *tell_kernel(void *with)
 {
@@ -54,25 +65,35 @@ static void *tell_kernel(void *with)
     for (size_t n = 0; n < notice->count; n++)
         fuse_lowlevel_notify_inval_inode(notice->session, notice->numbers[n], 0, 0);
     free(notice);
+    count_tellers(-1);
     return NULL;
 }
 
+/* Also for one that began before the last one: it uses the session. */
 void kernel_wait_for_notices(void)
 {
-    if (teller_runs) pthread_join(teller, NULL);
-    teller_runs = 0;
+    pthread_mutex_lock(&of_tellers);
+    while (tellers) pthread_cond_wait(&teller_ended, &of_tellers);
+    pthread_mutex_unlock(&of_tellers);
 }
 
 /* Signals are the serving thread's. */
 static void begin_teller(struct notice *notice)
 {
+    pthread_t teller;
     sigset_t all, old;
-    if (teller_runs && pthread_tryjoin_np(teller, NULL)) pthread_detach(teller);
+    if (!notice) return;
+    count_tellers(1);
     sigfillset(&all);
     pthread_sigmask(SIG_SETMASK, &all, &old);
-    teller_runs = notice && pthread_create(&teller, NULL, tell_kernel, notice) == 0;
+    int error = pthread_create(&teller, NULL, tell_kernel, notice);
     pthread_sigmask(SIG_SETMASK, &old, NULL);
-    if (!teller_runs) free(notice);
+    if (!error) {
+        pthread_detach(teller);
+        return;
+    }
+    free(notice);
+    count_tellers(-1);
 }
 
 /* Entries that the kernel keeps lead to what was. It waits for nothing there, so nobody is answered before it knows. */
@@ -85,12 +106,13 @@ void kernel_forget_entries(void *mount)
         tell("the kernel keeps its names: %s", strerror(errno));
 }
 
-/* Where it fails it is tried again with the next request. */
+/* Where it fails it is tried again with the next request, and each request until then is EIO. */
 static void begin_again(struct mount *it)
 {
     struct notice *notice = NULL;
     tell("the program ended (status %d); a new one begins from the image", it->nofs.status);
-    if (!recover(it, &notice)) begin_teller(notice);
+    if (recover(it, &notice)) it->nofs.ended = 1;
+    else begin_teller(notice);
 }
 
 /* Serving */
@@ -132,6 +154,10 @@ static void answer_signals(struct mount *it, const char *folder)
         tell("requests %llu steps %llu batches %llu", (unsigned long long)it->requests,
              (unsigned long long)it->nofs.steps, (unsigned long long)it->nofs.batches);
     }
+    if (second_is_over) {
+        second_is_over = 0;
+        processor_choose_anew();
+    }
     if (child_changed) {
         child_changed = 0;
         nofs_watch(&it->nofs);
@@ -143,6 +169,7 @@ void kernel_serve(struct mount *it, const char *folder, double flush_seconds)
     struct fuse_buf buffer;
     double last = now();
     memset(&buffer, 0, sizeof buffer);
+    processor_begin();
     while (!fuse_session_exited(it->session)) {
         answer_signals(it, folder);
         if (it->nofs.ended) begin_again(it);
@@ -150,6 +177,7 @@ void kernel_serve(struct mount *it, const char *folder, double flush_seconds)
         int got = fuse_session_receive_buf(it->session, &buffer);
         if (got > 0) {
             it->requests++;
+            processor_share(it->nofs.child);
             fuse_session_process_buf(it->session, &buffer);
         } else if (got != -EINTR && got != -EAGAIN) break;
     }

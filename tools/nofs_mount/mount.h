@@ -81,6 +81,13 @@ void kernel_serve(struct mount *it, const char *folder, double flush_seconds);
 void kernel_forget_entries(void *mount);
 void kernel_wait_for_notices(void);
 
+/* processor.c: the server and its program on one processor, which is chosen with the first request of each second. */
+void processor_begin(void);
+void processor_choose_anew(void);
+void processor_share(pid_t program);
+/* Until then, for a batch that takes long. */
+void processor_part(void);
+
 /* folders.c: calls for each line of a directory that is not dead. */
 typedef void of_line(struct mount *it, const struct nofs_name *line, void *with);
 int each_line(struct mount *it, struct nofs_at folder, of_line *call, void *with);
