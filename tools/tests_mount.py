@@ -431,14 +431,15 @@ class Arguments(Mounted):
         user = "--reuid=65534 --regid=65534 --clear-groups"
         for path in (self.room, self.top, self.image):
             os.chown(path, 65534, 65534)
-        script = f"""cd {self.room}; "$0" --nofs "$1" disk.img top 2>said & server=$!
-            until mountpoint -q top; do kill -0 $server || cat said >&2; sleep 0.1; done
+        script = f"""cd {self.room}; "$0" --nofs "$1" disk.img top 2>told & server=$!; trap 'kill $server 2>/dev/null || true' 0
+            until mountpoint -q top; do kill -0 $server || {{ cat told; exit 1; }}; sleep 0.1; done
             echo one > top/a; mkdir top/d; cp top/a top/d/b; mv top/d/b top/d/c; chmod 640 top/a; stat -c '%u %g %a' top/a top/d
             ! chown 0 top/a 2>/dev/null
             if test $2; then kill -TERM $server; else fusermount3 -u top; fi; wait $server; echo status $?"""
         root = f"""mknod -m 666 {self.at('fuse')} c 10 229; mount --bind {self.at('fuse')} /dev/fuse
             setpriv {user} sh -ec "$0" "$@"; mkdir other; "$1" --nofs "$2" disk.img other & server=$!
-            until mountpoint -q other; do kill -0 $server; sleep 0.1; done; cat other/a other/d/c; umount other; wait $server"""
+            until mountpoint -q other; do kill -0 $server; sleep 0.1; done; cat other/a other/d/c; rm -r other/a other/d
+            umount other; wait $server"""
         for end in ("", "by-signal"):
             said = run(["unshare", "--mount", "--propagation=private", "sh", "-ec", f"cd {self.room}; {root}", script, MOUNT, NOFS, end])[0].decode()
             self.assertEqual(said.splitlines(), ["65534 65534 640", "65534 65534 755", "status 0", "one", "one"])

@@ -55,7 +55,8 @@ struct node *nodes_add(struct nodes *it, struct nofs_at at, const struct nofs_st
     node->is_cut = it->cut[at.inode] == at.generation;
     it->cut[at.inode] = 0;
     node->next = it->by_inode[at.inode];
-    return it->by_inode[at.inode] = node;
+    it->by_inode[at.inode] = node;
+    return node;
 }
 
 static void take_out(struct nodes *it, struct node *node)
