@@ -378,6 +378,17 @@ class Losses(Mounted):
         self.unmount()
         self.assertEqual(serve(self.image, b"", "salvage"), [])
 
+    def test_who_asks_while_the_program_dies_hears_no_error(self):
+        for number in range(20):
+            write(self.path(f"d{number}", "f"), b"x")
+        folder = os.open(self.top, os.O_RDONLY)
+        os.fsync(folder)
+        os.close(folder)
+        for number in range(20):
+            os.kill(self.program(), signal.SIGKILL)
+            self.assertEqual(len(os.listdir(self.top)), 20)
+            self.assertEqual(os.stat(self.path(f"d{number}", "f")).st_size, 1)
+
     def sizes(self):
         return {entry.name: entry.stat().st_size for entry in os.scandir(self.top)}
 

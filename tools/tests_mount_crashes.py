@@ -277,6 +277,82 @@ class PowerCuts(Mounted):
         self.check("d", "other/new")
 
 
+class Hostile(Mounted):
+    """Images with drawn bytes in drawn places. What can't be told is an error, of the mount or of a call, and the server goes on."""
+
+    blocks, inodes = 512, 64
+
+    def fill(self):
+        for number in range(12):
+            write(self.path(f"d{number % 3}", "e", f"f{number}"), b"%d" % number * 3000)
+        for number in range(4):
+            write(self.path("new"), b"x" * 5000)
+            os.chmod(self.path("new"), 0o600 + number)
+            os.replace(self.path("new"), self.path("d0", "conf"))
+        self.unmount()
+
+    def damaged(self, base, draw):
+        """Bytes are changed, and cells put in the place of others, where the image has any."""
+        image = bytearray(base)
+        used = [at for at in range(0, len(base), CELL) if any(base[at:at + CELL])]
+        for _ in range(draw.choice((1, 3, 10, 100))):
+            at = draw.choice(used)
+            if draw.random() < 0.2:
+                other = draw.choice(used)
+                image[at:at + 1024] = image[other:other + 1024]
+            else:
+                image[at + draw.randrange(draw.choice((16, 64, CELL)))] = draw.choice((0, 1, 255, draw.randrange(256)))
+        return bytes(image)
+
+    def attempt(self, call, *words):
+        try:
+            return call(*words)
+        except OSError:
+            return None
+
+    def use(self):
+        for at, folders, files in os.walk(self.top):
+            for name in files:
+                path = os.path.join(at, name)
+                self.attempt(read, path)
+                self.attempt(os.truncate, path, 900)
+                self.attempt(write, path, b"y" * 2000)
+                self.attempt(os.replace, path, path + ".x")
+                self.attempt(os.link, path + ".x", path)
+            for name in folders:
+                self.attempt(os.rmdir, os.path.join(at, name))
+                self.attempt(os.mkdir, os.path.join(at, name + ".x"))
+        shutil.rmtree(self.top, ignore_errors=True)
+
+    def mount_and_use(self):
+        try:
+            self.remount()
+        except AssertionError:
+            self.assertIn(self.mount.wait(SECONDS), range(1, 8))
+            self.assertIn(b"nofs-mount: ", read(self.at("said")))
+            self.end()
+            return 0
+        self.use()
+        self.assertIsNone(self.mount.poll())
+        self.umount()
+        self.assertIn(self.mount.wait(SECONDS), range(8))
+        self.end()
+        return 1
+
+    def end(self):
+        self.mount = None
+        self.said.close()
+
+    def test_images_that_are_drawn(self):
+        self.fill()
+        base, mounted = read(self.image), 0
+        for seed in range(4 * CRASHES):
+            with self.subTest(seed=seed):
+                write(self.image, self.damaged(base, random.Random(seed)))
+                mounted += self.mount_and_use()
+        self.assertGreater(mounted, 0)
+
+
 class Nonsense(Mounted):
     """Programs that answer what no NoFS answers: EIO, and the server goes on."""
 

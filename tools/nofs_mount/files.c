@@ -94,10 +94,9 @@ void do_open(fuse_req_t request, fuse_ino_t number, struct fuse_file_info *file)
     int answer = node->stale || node->gone ? NOFS_STALE : NOFS_OK;
     if (!answer && file->flags & O_TRUNC && node->size) answer = resize(it, node, 0);
     else if (!answer && (file->flags & O_ACCMODE) != O_WRONLY) answer = look_for_losses(it, node);
-    if (answer) {
-        reply_answer(request, answer);
-        return;
-    }
+    if (answer && file->flags & O_TRUNC) reply_answer(request, answer);
+    else if (answer) reply_asked(request, answer);
+    if (answer) return;
     open_handle(node, file);
     if (fuse_reply_open(request, file)) close_node(it, node);
 }

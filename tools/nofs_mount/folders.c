@@ -188,7 +188,7 @@ static void reply_names(fuse_req_t request, struct listing *listing, size_t size
     struct part part = part_of(request, listing, size, place, room_of_plain);
     char *to = malloc(size);
     int answer = to ? look_part(mount_of(request), listing->folder, &part) : NOFS_NO_MEMORY;
-    if (answer) reply_answer(request, answer);
+    if (answer) reply_asked(request, answer);
     else fuse_reply_buf(request, to, add_plain(request, listing->folder, &part, to, size));
     free_part(&part);
     free(to);
@@ -244,7 +244,7 @@ static void reply_names_with_nodes(fuse_req_t request, struct listing *listing, 
     size_t length = 0;
     char *to = malloc(size);
     int answer = to ? fill_part(request, listing, &part, to, size, &length) : NOFS_NO_MEMORY;
-    if (answer) reply_answer(request, answer);
+    if (answer) reply_asked(request, answer);
     else if (fuse_reply_buf(request, to, length)) forget_part(it, &part);
     free_part(&part);
     free(to);
@@ -260,7 +260,7 @@ static void read_folder(fuse_req_t request, size_t size, off_t from, struct fuse
     int answer = from == 0 || !listing->is_read ? read_lines(it, listing) : NOFS_OK;
     listing->is_read = !answer;
     size_t place = from < 0 || (size_t)from > listing->count ? listing->count : (size_t)from;
-    if (answer) reply_answer(request, answer);
+    if (answer) reply_asked(request, answer);
     else reply(request, listing, size, place);
 }
 

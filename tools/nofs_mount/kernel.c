@@ -164,6 +164,19 @@ static void answer_signals(struct mount *it, const char *folder)
     }
 }
 
+static void serve_one(struct mount *it, struct fuse_buf *buffer)
+{
+    it->requests++;
+    processor_share(it->nofs.child);
+    it->may_ask_again = 1;
+    it->is_unanswered = 0;
+    fuse_session_process_buf(it->session, buffer);
+    if (!it->is_unanswered) return;
+    it->may_ask_again = 0;
+    begin_again(it);
+    fuse_session_process_buf(it->session, buffer);
+}
+
 void kernel_serve(struct mount *it, const char *folder, double flush_seconds)
 {
     struct fuse_buf buffer;
@@ -175,11 +188,8 @@ void kernel_serve(struct mount *it, const char *folder, double flush_seconds)
         if (it->nofs.ended) begin_again(it);
         flush_now_and_then(it, flush_seconds, &last);
         int got = fuse_session_receive_buf(it->session, &buffer);
-        if (got > 0) {
-            it->requests++;
-            processor_share(it->nofs.child);
-            fuse_session_process_buf(it->session, &buffer);
-        } else if (got != -EINTR && got != -EAGAIN) break;
+        if (got > 0) serve_one(it, &buffer);
+        else if (got != -EINTR && got != -EAGAIN) break;
     }
     free(buffer.mem);
 }

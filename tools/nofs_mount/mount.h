@@ -32,6 +32,7 @@ struct mount {
     /* the first bytes of a file that was opened just now, in `buffer` */
     struct { const struct node *node; size_t length; } ahead;
     uint64_t requests;          /* of the kernel; SIGUSR1 asks for them */
+    int may_ask_again, is_unanswered; /* the request that is served now; it met the end of a session */
 };
 
 enum { MOST_BYTES = 1 << 20, MOST_LINKS = 4, STEPS_AT_ONCE = 512 };

@@ -39,7 +39,7 @@ void do_lookup(fuse_req_t request, fuse_ino_t parent, const char *name)
     int answer = look(it, folder, name, &node);
     if (!answer) reply_entry(request, node);
     else if (answer == NOFS_MISSING || answer == NOFS_BAD_NAME) reply_no_entry(request);
-    else reply_answer(request, answer);
+    else reply_asked(request, answer);
 }
 
 void do_forget(fuse_req_t request, fuse_ino_t number, uint64_t count)

@@ -43,6 +43,15 @@ void reply_answer(fuse_req_t request, int answer)
     fuse_reply_err(request, error_of(answer));
 }
 
+/* Without an answer the request is the kernel's still. */
+void reply_asked(fuse_req_t request, int answer)
+{
+    struct mount *it = mount_of(request);
+    it->is_unanswered = answer == NOFS_ENDED && it->may_ask_again;
+    if (it->is_unanswered) fuse_reply_none(request);
+    else reply_answer(request, answer);
+}
+
 int is_refused_stale(fuse_req_t request, const struct node *node, int error)
 {
     if (node->stale) fuse_reply_err(request, error);

@@ -10,6 +10,8 @@ fuse_ino_t number_of(const struct mount *it, const struct node *node);
 
 /* Answers with the error of a refusal, or with none. */
 void reply_answer(fuse_req_t request, int answer);
+/* The same of a request that changes nothing: where it met the end of a session it is served once more by the next. */
+void reply_asked(fuse_req_t request, int answer);
 /* Whether the request is on a node that is stale, and was answered with this error then. */
 int is_refused_stale(fuse_req_t request, const struct node *node, int error);
 void fill_stat(struct mount *it, const struct node *node, struct stat *stat);
