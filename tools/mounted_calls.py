@@ -1092,7 +1092,7 @@ def rename_is_atomic_for_readers():
     write('t', b'0' * 2000)
     stop, bad = ([], [])
 
-    def read():
+    def look():
         while not stop:
             try:
                 d = read('t')
@@ -1100,7 +1100,7 @@ def rename_is_atomic_for_readers():
                     bad.append(d[:10])
             except FileNotFoundError:
                 bad.append('missing')
-    t = threading.Thread(target=read)
+    t = threading.Thread(target=look)
     t.start()
     for i in range(150):
         write('n', b'%d' % (i % 10) * 2000)

@@ -292,7 +292,8 @@ class Full(Mounted):
 
 
     def test_a_file_is_as_long_as_it_was_told_in_a_full_image(self):
-        """By writes of many slots, of which some are stored, and by a rename that needs no room."""
+        """By writes of many slots, of which some are stored, and by renames, which need no room."""
+        write(self.path("old"), b"old")
         data, stored = random.Random(6).randbytes(65536), b""
         with open(self.path("f"), "wb", buffering=0) as file:
             with self.assertRaises(OSError) as caught:
@@ -305,8 +306,10 @@ class Full(Mounted):
             self.assertEqual(os.stat(self.path("f")).st_size, len(stored) + 5000)
         self.assertEqual(read(self.path("f")), stored + bytes(5000))
         os.rename(self.path("f"), self.path("g"))
+        os.replace(self.path("g"), self.path("old"))
+        self.assertEqual(tree(self.top), {"old": stored + bytes(5000)})
         self.remount()
-        self.assertEqual(read(self.path("g")), stored + bytes(5000))
+        self.assertEqual(tree(self.top), {"old": stored + bytes(5000)})
 
 
 class Losses(Mounted):

@@ -80,8 +80,7 @@ static void open_handle(struct node *node, struct fuse_file_info *file)
 
 void close_node(struct mount *it, struct node *node)
 {
-    int answer = --node->opened == 0 && node->hidden ? hidden_drop(it, node) : NOFS_OK;
-    if (answer && answer != NOFS_ENDED) tell("a removed file was not dropped (refusal %d)", answer);
+    if (--node->opened == 0 && node->hidden && !node->seen) hidden_let_go(it, node);
     if (it->ahead.node == node) it->ahead.node = NULL;
     nodes_forget(&it->nodes, node, 0);
 }

@@ -43,7 +43,7 @@ static const char differs[] =
     "A file of which a slot is lost is read up to that slot, and then with EIO; what stands behind is read right. A file\n"
     "above 65,536 bytes ends up to 3,072 bytes earlier while it is open for the first time. Where the program dies, who has a\n"
     "file open gets EIO (fstat: ESTALE), and so does the first rename of a file whose bytes went with it; others go on with\n"
-    "what is in the image. An open of a file that is replaced twice in that moment may give ESTALE.\n"
+    "what is in the image.\n"
     "\n"
     "The folder `.nofs` of the root, which the mount does not show, has what the format does not keep (permissions, owners\n"
     "and times, by inode and generation), removed files that are open, and the record of a replace. It takes four inodes.\n"

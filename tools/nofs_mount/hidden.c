@@ -56,6 +56,12 @@ int hidden_drop(struct mount *it, struct node *node)
     return nofs_drop(&it->nofs, it->hidden.folder, name);
 }
 
+void hidden_let_go(struct mount *it, struct node *node)
+{
+    int answer = hidden_drop(it, node);
+    if (answer && answer != NOFS_ENDED) tell("a removed file was not dropped (refusal %d)", answer);
+}
+
 static void drop_removed(struct mount *it, const struct nofs_name *line, void *with)
 {
     (void)with;

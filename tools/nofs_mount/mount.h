@@ -48,6 +48,8 @@ int hidden_recover(struct mount *it);
 /* A further name for a file that is open, before its last one goes; and away with it. */
 int hidden_keep(struct mount *it, struct node *node);
 int hidden_drop(struct mount *it, struct node *node);
+/* The same, where nobody hears of what is refused. */
+void hidden_let_go(struct mount *it, struct node *node);
 /* Drops all such names. */
 void hidden_sweep(struct mount *it);
 int is_same(struct nofs_at a, struct nofs_at b);

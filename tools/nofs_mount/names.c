@@ -42,17 +42,24 @@ void do_lookup(fuse_req_t request, fuse_ino_t parent, const char *name)
     else reply_asked(request, answer);
 }
 
+/* A removed file goes where nobody has it open and no open of it can be under way. */
+static void forget(struct mount *it, struct node *node, uint64_t count)
+{
+    if (node->hidden && !node->opened && node->seen <= count) hidden_let_go(it, node);
+    nodes_forget(&it->nodes, node, count);
+}
+
 void do_forget(fuse_req_t request, fuse_ino_t number, uint64_t count)
 {
     struct mount *it = mount_of(request);
-    nodes_forget(&it->nodes, node_of(it, number), count);
+    forget(it, node_of(it, number), count);
     fuse_reply_none(request);
 }
 
 void do_forget_multi(fuse_req_t request, size_t count, struct fuse_forget_data *forgets)
 {
     struct mount *it = mount_of(request);
-    for (size_t n = 0; n < count; n++) nodes_forget(&it->nodes, node_of(it, forgets[n].ino), forgets[n].nlookup);
+    for (size_t n = 0; n < count; n++) forget(it, node_of(it, forgets[n].ino), forgets[n].nlookup);
     fuse_reply_none(request);
 }
 
@@ -160,11 +167,11 @@ void do_link(fuse_req_t request, fuse_ino_t number, fuse_ino_t parent, const cha
 
 /* Removing */
 
-/* Before the last name of a file that is open goes, it gets one that is not shown. */
-static int keep_open(struct mount *it, struct node *node)
+/* Before the last name of a file that is in use goes, it gets one that is not shown. */
+static int keep(struct mount *it, struct node *node, int is_used)
 {
     int is_last = node->kind == NOFS_FILE && node->links == 1 && !node->hidden;
-    return is_last && node->opened ? hidden_keep(it, node) : NOFS_OK;
+    return is_last && is_used ? hidden_keep(it, node) : NOFS_OK;
 }
 
 /* A name of it was dropped. */
@@ -191,7 +198,7 @@ static void remove_name(fuse_req_t request, fuse_ino_t parent, const char *name,
     if (is_refused_stale(request, folder, ESTALE)) return;
     int answer = look(it, folder, name, &node);
     if (!answer && node->kind != kind) answer = kind == NOFS_FILE ? NOFS_IS_A_DIRECTORY : NOFS_NOT_A_DIRECTORY;
-    if (!answer) answer = keep_open(it, node);
+    if (!answer) answer = keep(it, node, node->opened != 0);
     if (!answer && (answer = nofs_drop(&it->nofs, folder->at, name)) && answer != NOFS_ENDED) unhide(it, node);
     if (!answer) {
         lost_name(it, folder, node);
@@ -256,6 +263,14 @@ static int look_both(struct mount *it, struct renaming *way)
     return seen[1].answer;
 }
 
+/* Who has looked the name up and opens it now gets the old file; where there is no room for that, the open is refused
+ * as stale. */
+static int keep_replaced(struct mount *it, struct node *node)
+{
+    int answer = keep(it, node, node->opened || node->seen);
+    return node->opened || answer < 0 ? answer : NOFS_OK;
+}
+
 /* The record and the new bytes become durable together, before the old name goes. */
 static int record_replace(struct mount *it, const struct renaming *way)
 {
@@ -264,7 +279,7 @@ static int record_replace(struct mount *it, const struct renaming *way)
     memcpy(replace.old, way->old, strlen(way->old));
     int answer = replace_record(it, replace);
     if (!answer) answer = mount_flush(it, 1);
-    return answer ? answer : keep_open(it, way->there);
+    return answer ? answer : keep_replaced(it, way->there);
 }
 
 /* In one directory a name changes in its place: no room is needed. */
