@@ -3,7 +3,7 @@
 mod caches;
 mod crashes;
 mod failing;
-mod mirrors;
+mod layouts;
 mod reads;
 mod recorder;
 mod salvages;
