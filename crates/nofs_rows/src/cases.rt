@@ -45,8 +45,8 @@ impl Tally {
     }
 }
 
-/// Runs each case of a file, which is to hold, or to fail. Lines before the first of them count as one that fails, and
-/// so does a file without cases.
+/// Runs each case of a file that the stage runs, which is to hold, or to fail. Lines before the first of them count as
+/// one that fails, and so does a file without cases.
 pub fn run_file<R: Threads + Wait + Sync>(
     rt: &R,
     stage: &mut Stage,
@@ -61,13 +61,18 @@ pub fn run_file<R: Threads + Wait + Sync>(
         wrong: 0,
         text: String::new(alloc),
     };
+    let mut has_begun = false;
     for (at, line) in lines.iter().enumerate() {
         match line.strip_prefix("case ") {
             Some(name) => {
-                let end = run_case(rt, stage, images, body_of(lines, at));
-                tally.count(alloc, name, stage.told.as_str(), end, is_to_hold)?;
+                has_begun = true;
+                let body = body_of(lines, at);
+                if stage.runs(body) {
+                    let end = run_case(rt, stage, images, body);
+                    tally.count(alloc, name, stage.told.as_str(), end, is_to_hold)?;
+                }
             }
-            None if tally.cases == 0 && !line.is_empty() => {
+            None if !has_begun && !line.is_empty() => {
                 tally.count(alloc, line, "", Err(Failure::Case("of no case")), true)?;
             }
             None => {}

@@ -13,6 +13,7 @@ impl Stage {
     pub fn judge_disk(&mut self, words: &[&str]) -> Result<bool, Failure> {
         match words {
             ["crash" | "left", ..] => Ok(self.crash(words)?),
+            ["calls" | "choices", ..] if self.layout.is_some() => Ok(true),
             _ => match self.holds(words)? {
                 Some(holds) => {
                     self.judge(holds)?;

@@ -1,19 +1,22 @@
 //! Runs the cases in the files that its arguments name, and tells of each file how many hold.
 //!
 //! `docs/CASES.md` says how a case is written. The file `images` has the images that cases name. Behind `!` stands a
-//! file of which no case may hold: it shows that each form of a line that judges can fail.
+//! file of which no case may hold: it shows that each form of a line that judges can fail. Behind `paged:` and `twin:`
+//! stands one whose cases are run over a file in that layout, but for those of the disk in memory alone.
 //!
 //! Promise: each line of a case is obeyed, or the case fails by name. The status is 0 where each file has cases and all
 //! of them end as they are to.
 //!
 //! - `cases`: the cases of a file, and how many hold; `turns`: how often a case is run, and over which images of a
 //!   crash
-//! - `stage`: what stands while a case is run; its lines by what they say: `settings`, `runs`, `mounts`, `judging`
+//! - `stage`: what stands while a case is run; its lines by what they say: `settings`, `runs`, `files`, `mounts`,
+//!   `judging`
 //!
 //! `nofs_test_lines` has what the lines say by themselves: images, steps, answers, and what is printed.
 #![tactic(auto)]
 
 mod cases;
+mod files;
 mod judging;
 mod mounts;
 mod runs;
@@ -23,6 +26,7 @@ mod turns;
 
 use crate::cases::{Tally, run_file};
 use crate::stage::Stage;
+use nofs_pages::Layout;
 use nofs_test_lines::lines_of;
 use std::process::ExitCode;
 use std::rt::Files;
@@ -64,22 +68,39 @@ fn status_of(all: Count) -> u8 {
     }
 }
 
+// The layout that a word asks for, if it asks for one, and what is behind that.
+fn layout_asked(word: &str) -> (Option<Layout>, &str) {
+    if let Some(rest) = word.strip_prefix("paged:") {
+        return (Some(Layout::Paged), rest);
+    }
+    match word.strip_prefix("twin:") {
+        Some(rest) => (Some(Layout::Twin), rest),
+        None => (None, word),
+    }
+}
+
 // Runs the file that a word names: each case is to hold, or none.
 fn run_word<R: Files + AllocGlobal + Print + Eprint + Threads + Wait + Sync>(
     rt: &R,
     images: &[&str],
     word: &str,
 ) -> io::Result<Count> {
-    let path = word.strip_prefix('!').unwrap_or(word);
+    let (layout, rest) = layout_asked(word);
+    let path = rest.strip_prefix('!').unwrap_or(rest);
     let text = fs::read_to_string(rt, path)?;
     let lines = lines_of(rt.alloc(), text.as_str())?;
-    let mut stage = Stage::new(rt.alloc(), 0);
-    let tally = run_file(rt, &mut stage, images, &lines, path == word)?;
-    print_tally(rt, path, &tally)?;
+    let mut stage = Stage::new(rt.alloc(), layout, 0);
+    let tally = run_file(rt, &mut stage, images, &lines, path == rest)?;
+    print_tally(rt, told_name(word), &tally)?;
     Ok(Count {
         cases: tally.cases,
         wrong: tally.wrong,
     })
+}
+
+// What is told of the file that a word names: `!` is left out.
+fn told_name(word: &str) -> &str {
+    word.strip_prefix('!').unwrap_or(word)
 }
 
 // Tells of each case that did not end as it is to, to standard error too, which the gate shows, and then of the file.

@@ -107,8 +107,22 @@ impl Stage {
         self.judge_end(lines, status, end)
     }
 
-    // Makes a run over the disk as it is, and gives its status.
+    // Makes a run over the file, or over the disk as it is, and gives its status.
     fn run<R: Threads + Wait + Sync>(
+        &mut self,
+        rt: &R,
+        words: &[String],
+        source: &mut MemSource,
+        sink: &mut MemSink,
+    ) -> Result<u8, AllocError> {
+        match self.layout {
+            Some(layout) => self.run_in_file(rt, layout, words, source, sink),
+            None => self.run_in_memory(rt, words, source, sink),
+        }
+    }
+
+    // Makes a run over the disk in memory.
+    fn run_in_memory<R: Threads + Wait + Sync>(
         &mut self,
         rt: &R,
         words: &[String],
@@ -143,7 +157,8 @@ impl Stage {
     }
 }
 
-fn run_over<R: Threads + Wait + Sync, D: Disk + Drop + Send>(
+/// A run over a disk: its status, and the disk.
+pub fn run_over<R: Threads + Wait + Sync, D: Disk + Drop + Send>(
     rt: &R,
     alloc: Global,
     words: &[String],

@@ -3,9 +3,11 @@
 //! Promise: a line that says nothing that is known fails its case, and so do lines that judge nothing, and lines of a
 //! run that is not made.
 
+use crate::files::is_of_memory;
 use crate::runs::{RunOptions, USUAL};
 use nofs_disk::Cell;
 use nofs_memdisk::MemDisk;
+use nofs_pages::Layout;
 use nofs_shared::Mount;
 use nofs_test_lines::{Failure, is_of_run, lay, lay_images, words_of};
 use nofs_versions::FaultAt;
@@ -20,6 +22,11 @@ pub struct Stage {
     /// The cells of the disk, until it is made.
     pub cells: Vec<Cell>,
     pub disk: Option<MemDisk>,
+    /// The layout in which each case is run, if it is not over the disk in memory.
+    asked: Option<Layout>,
+    /// The layout of the file over which runs are made, if they are, and the file, once it is laid down.
+    pub layout: Option<Layout>,
+    pub file: Option<Vec<u8>>,
     /// A mount that steps are made at.
     pub mount: Option<Mount<MemDisk>>,
     /// The calls that fail of a disk that is not made.
@@ -35,12 +42,15 @@ pub struct Stage {
 }
 
 impl Stage {
-    /// Before the first line of a case, in this turn of it.
-    pub fn new(alloc: Global, turn: u64) -> Stage {
+    /// Before the first line of a case, in this turn of it, over files in a layout if one is asked for.
+    pub fn new(alloc: Global, asked: Option<Layout>, turn: u64) -> Stage {
         Stage {
             alloc,
             cells: Vec::new(alloc),
             disk: None,
+            asked,
+            layout: asked,
+            file: None,
             mount: None,
             faults: Vec::new(alloc),
             options: USUAL,
@@ -51,9 +61,14 @@ impl Stage {
         }
     }
 
+    /// Whether a case is run: over files those alone that are not of the disk in memory.
+    pub fn runs(&self, body: &[&str]) -> bool {
+        self.asked.is_none() || !is_of_memory(body)
+    }
+
     /// Begins anew, in this turn of a case, over a disk, if there is one. `place` tells where that is.
     pub fn begin(&mut self, turn: u64, disk: Option<MemDisk>, place: String) {
-        *self = Stage::new(self.alloc, turn);
+        *self = Stage::new(self.alloc, self.asked, turn);
         self.disk = disk;
         self.told = place;
     }
@@ -130,10 +145,15 @@ impl Stage {
     }
 
     fn obey_words(&mut self, images: &[&str], words: &[&str]) -> Result<(), Failure> {
-        if self.set(words)? || self.ask_mount(words)? || self.judge_disk(words)? {
+        if self.set(words)?
+            || self.set_file(words)?
+            || self.ask_mount(words)?
+            || self.judge_disk(words)?
+        {
             return Ok(());
         }
         self.disk = None;
+        self.file = None;
         match words {
             ["like", names @ ..] => lay_images(self.alloc, &mut self.cells, images, names),
             _ => lay(self.alloc, &mut self.cells, words),

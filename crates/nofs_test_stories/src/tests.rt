@@ -3,7 +3,7 @@
 mod caches;
 mod crashes;
 mod failing;
-mod layouts;
+mod mirrors;
 mod reads;
 mod recorder;
 mod salvages;

@@ -5,7 +5,6 @@
 //! nothing: there a place that was being written may have any mixture of old and new bytes. Where the device leaves
 //! less than pages ask for, one may be torn: then a fault is named, and what is read is of its file all the same.
 
-use crate::tests::layouts::{LaidFile, found_disk, laid, laid_bytes, unlaid};
 use crate::tests::reads::{KEPT, kept_line, reading, see};
 use crate::tests::recorder::Recorder;
 use crate::tests::stories::{SessionLine, Story, evening, text_of_lines};
@@ -14,6 +13,7 @@ use nofs_filedisk::FileDisk;
 use nofs_io::{MemSink, MemSource};
 use nofs_pages::Layout;
 use nofs_test_disks::{bytes_of, cached, cells_of, used};
+use nofs_test_layouts::{LaidFile, found_disk, laid, laid_bytes, unlaid};
 use nofs_test_sessions::{ReadTally, count, run_on, run_with};
 use std::alloc::{AllocError, Global};
 use std::process::Abort;
@@ -21,7 +21,8 @@ use std::sync::Wait;
 use std::test::Fail;
 use std::thread::Threads;
 
-const SMALL: Story = Story {
+/// A story over a small image.
+pub const SMALL: Story = Story {
     blocks: 96,
     is_upgraded: false,
     evening: &EVENING,
@@ -86,11 +87,11 @@ const FILES: [(&str, u8); 12] = [
 
 /// A layout, and how many bytes at a multiple of so many the device leaves together.
 #[derive(Clone, Copy)]
-struct Trial {
-    layout: Layout,
-    unit: usize,
+pub struct Trial {
+    pub layout: Layout,
+    pub unit: usize,
     /// Whether a crash may tear what the layout keeps together.
-    tears: bool,
+    pub tears: bool,
 }
 
 const CELLS: Trial = Trial {
@@ -99,7 +100,8 @@ const CELLS: Trial = Trial {
     tears: false,
 };
 
-const PAGES: Trial = Trial {
+/// Pages are left whole.
+pub const PAGES: Trial = Trial {
     layout: Layout::Paged,
     unit: 4_096,
     tears: false,
@@ -125,17 +127,18 @@ const MIXED_TWINS: Trial = Trial {
 
 /// What is found in images.
 #[derive(Clone, Copy)]
-struct Found {
-    seen: ReadTally,
+pub struct Found {
+    pub seen: ReadTally,
     /// How many were clean, and of how many a fault was named.
-    clean: u64,
-    faulty: u64,
+    pub clean: u64,
+    pub faulty: u64,
     /// How many were neither, and how many days were not recorded as they are to be.
-    wrong: u64,
+    pub wrong: u64,
 }
 
 impl Found {
-    const NOTHING: Found = Found {
+    /// What is found in no image.
+    pub const NOTHING: Found = Found {
         seen: ReadTally::NOTHING,
         clean: 0,
         faulty: 0,
@@ -185,8 +188,8 @@ fn read_all<R: Threads + Wait + Sync, D: Disk + Drop + Send>(
     Ok((status, sink))
 }
 
-// Looks at an image.
-fn judge<R: Threads + Wait + Sync, D: Disk + Drop + Send>(
+/// Looks at an image.
+pub fn judge<R: Threads + Wait + Sync, D: Disk + Drop + Send>(
     rt: &R,
     alloc: Global,
     found: &mut Found,
@@ -212,8 +215,8 @@ fn judge<R: Threads + Wait + Sync, D: Disk + Drop + Send>(
     Ok(())
 }
 
-// The bytes of the cells of an evening.
-fn evening_bytes<R: Threads + Wait + Sync>(rt: &R, alloc: Global) -> Result<Vec<u8>, Fail> {
+/// The bytes of the cells of an evening.
+pub fn evening_bytes<R: Threads + Wait + Sync>(rt: &R, alloc: Global) -> Result<Vec<u8>, Fail> {
     let mut disk = evening(rt, alloc, SMALL)?;
     let cells = cells_of(alloc, &mut disk, SMALL.blocks)?;
     Ok(bytes_of(alloc, &cells)?)
@@ -230,8 +233,8 @@ fn recorded(
     Ok(FileDisk::over(alloc, laid(alloc, trial.layout, file, false)?)?)
 }
 
-// A day on a disk behind a cache: the status, and the disk.
-fn served_day<R: Threads + Wait + Sync, D: Disk + Drop + Send>(
+/// A day on a disk behind a cache: the status, and the disk.
+pub fn served_day<R: Threads + Wait + Sync, D: Disk + Drop + Send>(
     rt: &R,
     alloc: Global,
     disk: D,
@@ -249,8 +252,8 @@ const LEAST_BYTES: usize = 67 * 1_056;
 /// before each of these.
 const LEAST_CALLS: usize = 2 * 4;
 
-// Whether a file has kept a day.
-fn is_recorded(trial: Trial, file: &Recorder) -> Result<bool, AllocError> {
+/// Whether a file has kept a day.
+pub fn is_recorded(trial: Trial, file: &Recorder) -> Result<bool, AllocError> {
     Ok(
         file.tells_all()?
             && file.written() >= LEAST_BYTES
@@ -260,7 +263,7 @@ fn is_recorded(trial: Trial, file: &Recorder) -> Result<bool, AllocError> {
 }
 
 /// How many images are drawn of a day at least.
-const LEAST_IMAGES: usize = 250;
+pub const LEAST_IMAGES: usize = 250;
 
 // Looks at images of crashes in the calls of a file. The calls take turns, so that each has one image or more.
 fn judge_images<R: Threads + Wait + Sync>(
@@ -297,10 +300,10 @@ fn judge_day<R: Threads + Wait + Sync>(
 }
 
 /// Each start serves the day anew, and draws at every call of its file: 2,000 images.
-const STARTS: u64 = 8;
+pub const STARTS: u64 = 8;
 
-// Whether so many images were seen that what was not found might have been, and as many were clean as are to be.
-fn are_full(trial: Trial, found: Found) -> bool {
+/// Whether so many images were seen that what was not found might have been, and as many were clean as are to be.
+pub fn are_full(trial: Trial, found: Found) -> bool {
     let seen = found.seen;
     seen.images >= 2_000
         && seen.bytes > 0

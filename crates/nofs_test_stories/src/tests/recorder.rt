@@ -99,6 +99,16 @@ impl Recorder {
         Ok(is_once)
     }
 
+    /// Whether the last calls of this file are all those of another one.
+    pub fn ends_like(&self, other: &Recorder) -> bool {
+        let behind = self.calls.len().saturating_sub(other.calls.len());
+        let mut is_like = true;
+        for (at, call) in other.calls.iter().enumerate() {
+            is_like = is_like && is_same(self.calls.get(behind.saturating_add(at)), call);
+        }
+        is_like
+    }
+
     // The bytes at first, after these calls.
     fn replay(&self, calls: &[RecordedCall]) -> Result<Vec<u8>, AllocError> {
         let mut bytes = self.first.to_vec(self.alloc)?;
@@ -211,6 +221,23 @@ fn is_sync(call: &RecordedCall) -> bool {
     match call {
         RecordedCall::Write { .. } => false,
         RecordedCall::Sync => true,
+    }
+}
+
+// Whether there is a call, and it is this one.
+fn is_same(own: Option<&RecordedCall>, call: &RecordedCall) -> bool {
+    match own {
+        Some(RecordedCall::Write { at, bytes }) => is_write_of(call, *at, bytes),
+        Some(RecordedCall::Sync) => is_sync(call),
+        None => false,
+    }
+}
+
+// Whether a call writes these bytes to this place.
+fn is_write_of(call: &RecordedCall, place: u64, part: &[u8]) -> bool {
+    match call {
+        RecordedCall::Write { at, bytes } => *at == place && bytes.as_slice() == part,
+        RecordedCall::Sync => false,
     }
 }
 
