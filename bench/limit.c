@@ -10,9 +10,9 @@
 #include <stdio.h>
 #include <unistd.h>
 
-enum { WINDOW = 66 * 1056 };
+enum { MOST = 32 * 8192 };
 
-static char bytes[WINDOW];
+static char bytes[MOST];
 
 /* Makes one call of the list; says whether it was done. */
 static int call(int file, char kind, long long offset, long length)
@@ -40,7 +40,7 @@ int main(int count, char **words)
     long long offset;
     long length;
     while (fscanf(list, " %c %lld %ld", &kind, &offset, &length) == 3)
-        if (length > WINDOW || !call(file, kind, offset, length))
+        if (length > MOST || !call(file, kind, offset, length))
             return 1;
     return 0;
 }
