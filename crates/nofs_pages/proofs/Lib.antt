@@ -4,6 +4,7 @@ mod OnRows
 mod OnViews
 mod OnSingles
 mod OnComposing
+mod OnBlanks
 mod OnCalls
 mod OnPlaces
 mod OnTwins
