@@ -144,6 +144,7 @@ impl<B: Positioned + Drop> Disk for FileDisk<B> {
             → Picks (⟦<FileDisk<B> as Disk>⟧.state self.new).may (⟦<FileDisk<B> as Disk>⟧.state self.new).blocks image
             → (⟦<FileDisk<B> as Disk>⟧.state self.new).left
             ((⟦<FileDisk<B> as Disk>⟧.state self.old).moment + 1) image }
+        ensures durable { (B.state self.new.contents.file).durable ≡ (B.state self.old.contents.file).durable }
     {
         cell.note_sizes();
         self.moment += 2;
