@@ -41,13 +41,15 @@ class InUse(Folders):
     def test_the_other_program_may_have_it_by_another_name_or_in_a_mirror(self):
         os.link(self.image, self.at("hard.img"))
         os.symlink(self.image, self.at("soft.img"))
+        serve(self.at("other.img"), b"", "new", "64", "16")
+        other = read(self.at("other.img"))
         wire = self.opened()
         for name in ("hard.img", "soft.img"):
             self.refused(self.at(name), "run")
             self.refused(f"mirror:64:{self.at(name)}:{self.at('other.img')}", "run")
             self.refused(f"mirror:64:{self.at('other.img')}:{self.at(name)}", "run")
         self.assertEqual(wire.close(), 0)
-        self.assertEqual(read(self.at("other.img")), b"")
+        self.assertEqual(read(self.at("other.img")), other)
 
     def test_an_image_is_not_both_sides_of_a_mirror(self):
         os.link(self.image, self.at("hard.img"))
