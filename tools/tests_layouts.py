@@ -252,6 +252,15 @@ class Logged(Folders):
             serve(layout + path, b"", "new", "64", "16")
             self.assertEqual(self.calls(path, path, b"stat @\n", "run")[1], b"fdatasync")
 
+    def test_a_flush_is_one_sync_and_a_write_none(self):
+        for layout in ("", *LAYOUTS):
+            path = self.at("disk.img")
+            serve(layout + path, b"", "new", "64", "16")
+            for asked in (0, 1, 9):
+                session = b"put @ 0 61\n" * 3 + b"put @ 0 62\nfsync @\n" * asked
+                # The file as it is opened, the mount's, those that are asked for, and the last.
+                self.assertEqual(self.calls(path, path, session, "run")[0].count(None), 3 + asked)
+
     def test_no_page_is_written_twice_between_two_syncs(self):
         for layout, size in zip(LAYOUTS, (PAGE, 2 * PAGE)):
             for users in (1, 2, 8):
