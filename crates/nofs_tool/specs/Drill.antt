@@ -23,7 +23,7 @@ use Rattle.nofs_gen.specs.declared.tally.FileRead.{FileRead}
 use Rattle.nofs_gen.specs.Tally.{size_told, sum_told, wrong_told, is_refused_line, drill_line}
 use Rattle.nofs_io.specs.Calls.{SinkState}
 use Rattle.nofs_io.specs.Texts.{AppendsAll}
-use Rattle.nofs_shared.specs.Mount.Entries.{AddsStep}
+use Rattle.nofs_shared.specs.Passes.Entries.{TellsStep}
 use Rattle.nofs_serve.specs.Session.{TeamMade}
 use Rattle.nofs_history.specs.Faults.{has_fault}
 use Rattle.nofs_tool.specs.Session.Entries.{session_lines}
@@ -182,7 +182,7 @@ pub record IsReadOut (start steps refused : ℕ) (served H : List Entry1) (text 
   pub flush : Reply
   pub read : AreFourRead reads made
   pub adds : AddsOwn made served seen
-  pub closes : AddsStep PROGRAM (step.Flush 0 0) flush seen H
+  pub closes : TellsStep PROGRAM (step.Flush 0 0) seen H flush
   pub closed : is_out_of_memory flush ≡ false
   pub tells : text ≡ drill_line start steps refused (sum_by size_told reads) (sum_by sum_told reads)
       (sum_by (wrong_told H) reads)
@@ -212,7 +212,7 @@ pub record IsReadRun (short : Bool) (served H : List Entry1) : Type 0 where
   pub read : cut ≡ false → (reads : List (Option FileRead)) × AreFourRead reads made
   pub begun : cut ≡ true → AreFourBegun made
   pub unflushed : cut ≡ true → (short ≡ true) × (H ≡ seen)
-  pub closes : AddsStep PROGRAM (step.Flush 0 0) flush seen H
+  pub closes : TellsStep PROGRAM (step.Flush 0 0) seen H flush
   pub closed : short ≡ false → is_out_of_memory flush ≡ false
 
 -- What a drill adds to the history of a new mount, whatever comes of it: the steps of the drawn users and of the

@@ -12,7 +12,7 @@ use Rattle.nofs_history.specs.declared.machine.replies.Reply.{Reply}
 use Rattle.nofs_client.specs.declared.task.commands.Command.{Command}
 use Rattle.nofs_client.specs.declared.task.lines.Line.{Line}
 use Rattle.nofs_client.specs.Driver.{LinesFollow}
-use Rattle.nofs_shared.specs.Mount.Entries.{AddsStep}
+use Rattle.nofs_shared.specs.Passes.Entries.{TellsStep}
 use Rattle.nofs_serve.specs.Session.{TeamMade, TeamServed}
 use Rattle.nofs_history.specs.Faults.{has_fault}
 use Rattle.nofs_tool.specs.Session.Whole.{IsWholeScan, ShowsDisk}
@@ -48,7 +48,7 @@ pub read-out : {E : Type 0} (start steps refused told_refused : ℕ) (served see
     → out ≡ false → closed ≡ true
     → told_refused ≡ refused → told_reads ≡ reads → told ≡ H
     → ((made : List Made) × AddsOwn made served seen × AreFourRead reads made)
-    → ((flush : Reply) × AddsStep 0 (step.Flush 0 0) flush seen H × (closed ≡ not (is_out_of_memory flush)))
+    → ((flush : Reply) × TellsStep 0 (step.Flush 0 0) seen H flush × (closed ≡ not (is_out_of_memory flush)))
     → IfOk line
     (λ text. text ≡ drill_line start steps told_refused (sum_by size_told told_reads) (sum_by sum_told told_reads)
     (sum_by (wrong_told told) told_reads))
@@ -102,7 +102,8 @@ drilled start steps inodes blocks out lines scripts before served H text follow 
     let team : TeamMade (drill_session start steps) inodes blocks false lines (λ c. steps_by c served) = subst
     (λ (s : List (List Command)). TeamMade s inodes blocks false lines (λ c. steps_by c served)) same second in
     let others : (c : ℕ) → 1 ≤ c → steps_by c H ≡ steps_by c served =
-    λ c low. adds-others 0 c (step.Flush 0 0) read.flush read.seen H read.closes (λ e. absurd (omega (arith, low, e)))
+    λ c low. adds-others 0 c (step.Flush 0 0) read.flush read.seen H read.closes.adds
+    (λ e. absurd (omega (arith, low, e)))
     ∙ read.adds.others c low in
     let refused = refusals-from follow served H others 1 (drill_session start steps) lines (omega arith)
     (team.served refl) in
@@ -165,7 +166,7 @@ pub whole-drill : (start steps : ℕ) (at : SuperBlock) (H : List Entry1) (begun
     (V : World) (X : Image)
     → IsDrillRun start steps at.inodes at.blocks false H → Run begun (world_of B first) H V
     → has_fault H ≡ false → ShowsDisk at V X → IsWholeScan V X
-whole-drill start steps at H begun first B V X run = whole-by at run.reads.seen H run.reads.flush run.reads.closes
+whole-drill start steps at H begun first B V X run = whole-by at run.reads.seen H run.reads.flush run.reads.closes.adds
     (subst (λ (m : List Made). Sweeps (λ place item. item ≡ place) Inode 0 at.inodes false [] m)
     (sym (run.reads.adds.others INODE_SWEEPER (omega arith))) run.team.inodes_seen)
     (subst (λ (m : List Made). Sweeps (λ place item. item ≡ at.blocks - 1 - place) Block 0 at.blocks false [] m)

@@ -12,18 +12,18 @@ use Rattle.nofs_history.specs.declared.machine.replies.Refusal.TheVariants as re
 use Rattle.nofs_history.specs.Callers.{steps_by}
 use Rattle.nofs_client.specs.declared.task.commands.Command.{Command}
 use Rattle.nofs_client.specs.declared.task.lines.Line.{Line}
-use Rattle.nofs_shared.specs.Mount.Entries.{AddsStep}
+use Rattle.nofs_shared.specs.Passes.Entries.{TellsStep}
 use Rattle.nofs_serve.specs.Session.{TeamMade, TeamServed}
 use Rattle.nofs_serve.proofs.OnSession.{team-unserved}
 use Rattle.nofs_gen.specs.declared.tally.FileRead.{FileRead}
 use Rattle.nofs_tool.specs.Drill.{AreFourBegun, AreFourRead, IsDrillFollowed, IsReadFollowed, ReadsBy, drill_session}
 use Rattle.nofs_tool.specs.Session.Serve.{AreSwept}
-use Rattle.nofs_tool.proofs.OnSession.Serve.{sweeps-shorter}
+use Rattle.nofs_tool.proofs.OnSession.Serve.{not-flushed, sweeps-shorter}
 use Rattle.nofs_tool.proofs.OnDrill.Reads.{BeginsBy, none-begun}
 
 -- the flush of PROGRAM
 abbrev pub Flushes : Bool → List Entry1 → List Entry1 → Type 0
-Flushes closed seen H = (flush : Reply) × AddsStep 0 (step.Flush 0 0) flush seen H
+Flushes closed seen H = (flush : Reply) × TellsStep 0 (step.Flush 0 0) seen H flush
     × (closed ≡ not (is_out_of_memory flush))
 
 flush-told : (b : Bool) → not (not b) ≡ false → b ≡ false
@@ -49,7 +49,7 @@ read-cut out served seen entries text ends said r = let (made, adds, readings, b
         read = λ e. absurd (cc);
         begun = λ e. begun;
         unflushed = λ e. (refl, ends);
-        closes = record { none = λ e. ends; one = λ e. cc };
+        closes = not-flushed seen entries ends;
         closed = λ e. absurd (cc);
       };
     }
@@ -77,7 +77,7 @@ read-whole t list short out closed served seen H entries text ends said whole r 
         read = λ e. (list t, r.read);
         begun = λ e. absurd (cc);
         unflushed = λ e. absurd (cc);
-        closes = subst (λ (h : List Entry1). AddsStep 0 (step.Flush 0 0) flush seen h) (sym ends) closes;
+        closes = subst (λ (h : List Entry1). TellsStep 0 (step.Flush 0 0) seen h flush) (sym ends) closes;
         closed = λ e. flush-told (is_out_of_memory flush) (ap not (sym is ∙ (whole e).1));
       };
     }

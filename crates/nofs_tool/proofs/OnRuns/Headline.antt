@@ -1,5 +1,6 @@
 -- What is promised of one history: from the parts of a run to the headline.
-use Rattle.std.proofs.Common.{◌≡◌, ℕ, Bool, true, false, List, Option, Some, None, Ok, IsTrue, refl, sym, subst, arith}
+use Rattle.std.proofs.Common.{◌≡◌, ◌≢◌, ℕ, Bool, true, false, List, Option, Some, None, Ok, IsTrue, refl, sym, subst}
+use Rattle.std.proofs.Common.{arith}
 use Rattle.std.specs.Prelude.{IfSome}
 use Rattle.std.proofs.Math.Logic.{∥∥₁_elim, ∥∥₁_prop}
 use Rattle.nofs_disk.specs.Disk.{DiskState}
@@ -28,7 +29,7 @@ use Rattle.nofs_tool.specs.Runs.Headline.{FollowsDrill, HeadlineOf, IsDrillHeadl
 use Rattle.nofs_tool.specs.Runs.Tool.{WithSession, WithText}
 use Rattle.nofs_tool.specs.Visits.Visit.{FollowsVisit, IsVisitFollowed}
 use Rattle.nofs_tool.proofs.OnVisits.Visit.{whole-visit}
-use Rattle.nofs_tool.proofs.OnSession.Whole.{settled-end, whole-scan}
+use Rattle.nofs_tool.proofs.OnSession.Whole.{flushed-end, whole-scan}
 use Rattle.nofs_tool.proofs.OnDrill.Ends.{whole-drill}
 
 -- the headline of a mount, from its state before it served and what it gave at its end
@@ -53,11 +54,11 @@ headline-any Follows found before last first status k text ran h zero some stand
     not-short true e done = absurd (let s = unsaid (early e) in omega (arith, done, s))
     not-short false e done = e
 
-    -- there is a text at status 0
+    -- there is a text but at status 7
     is-closed : (o : Option (List ℕ)) → text ≡ o → IfSome o (λ _. IsClosed last ran.entries)
-        → status ≡ 0 → IsClosed last ran.entries
-    is-closed None e c done = absurd (let s = unsaid e in omega (arith, done, s))
-    is-closed (Some t) e c done = c
+        → status ≢ 7 → IsClosed last ran.entries
+    is-closed None e c other = absurd (other (unsaid e))
+    is-closed (Some t) e c other = c
 
     made : IsMount found before first k → Finished found last 0 ran → IsHeadlineOf Follows found last status ran
     made m e = record {
@@ -76,9 +77,10 @@ headline-any Follows found before last first status k text ran h zero some stand
           scan (raised (super_at found.now)) c.base c.world
           (subst (λ (a : SuperBlock). Follows a false ran.entries) same whole) c.run (sound done)
           (e.shows q (sound done));
-      settled = λ q done.
-          let c = e.ends.contents q in
-          settled-end last ran.entries ran.start 0 c.base c.world (is-closed text refl closed done) c.run (sound done);
+      faultless = sound;
+      flushed = λ other ok.
+          flushed-end last ran.entries ran.start last.moment e.ends.stopped e.ends.forms
+          (is-closed text refl closed other) ok;
     }
 
 -- of a session

@@ -1,13 +1,12 @@
 -- Each element that the sweeps of a session have examined is known to the machine at its end.
 use Rattle.std.proofs.Common.{◌≡◌, ◌⊎◌, inl, inr, ℕ, zero, suc, ◌-◌, ◌<◌, ◌≤◌, Bool, true, false, ◌||◌, List, [], ◌∷◌}
-use Rattle.std.proofs.Common.{◌++◌, length, get_or, map, Some, None}
+use Rattle.std.proofs.Common.{◌++◌, length, get_or, map, Some}
 use Rattle.std.proofs.Common.{if◌then◌else◌, cond, ne_eqb, refl, sym, ap, ◌∙◌, subst, arith}
 use Rattle.std.specs.Prelude.{filter, nat_lt, nat_le, ◌==◌}
 use Rattle.std.proofs.lemmas.Bool.{eq-eqb, le-ltb, lt-leb}
 use Rattle.nofs_history.specs.declared.machine.callers.TheConstants.{BLOCK_SWEEPER, INODE_SWEEPER}
 use Rattle.nofs_history.specs.Search.{first_of}
 use Rattle.nofs_history.specs.World.{World}
-use Rattle.nofs_history.specs.Answers.{reply_of}
 use Rattle.nofs_history.specs.Refusals.{row, rows}
 use Rattle.nofs_history.specs.Next.{Next, AfterFault, ByRow, Done, ByRead, ByWrite, Run, sees_block, sees_inode}
 use Rattle.nofs_history.specs.Steps.{is_out_of_memory}
@@ -16,7 +15,6 @@ use Rattle.nofs_history.specs.declared.machine.steps.Step.{Step}
 use Rattle.nofs_history.specs.declared.machine.steps.Step.TheVariants as step
 use Rattle.nofs_history.specs.declared.machine.steps.ElementKind.TheVariants.{Inode, Block}
 use Rattle.nofs_history.specs.declared.machine.replies.Reply.{Reply}
-use Rattle.nofs_history.specs.declared.machine.replies.Reply.TheVariants as reply
 use Rattle.nofs_history.specs.declared.machine.replies.Refusal.{Refusal}
 use Rattle.nofs_history.specs.declared.machine.replies.Refusal.TheVariants as refusal
 use Rattle.nofs_history.specs.Callers.{done_of, is_by, steps_by, made_step}
@@ -114,27 +112,6 @@ run-goes (e ∷ es) start W V r going ok =
         | inr later ↦ more.sees_blocks p later (let n = one.blocks in omega (arith, low, n))
       ];
     }
-
--- the flush of the whole disk has no row: it was made, where no call failed
-flushed-next : (W : World) (e : Entry1) (V : World) → Next W e V
-    → W.stopped ≡ false → is_fault e.reply ≡ false → e.step ≡ step.Flush 0 0
-    → e.reply ≡ reply.Flushed
-flushed-next W e V (AfterFault s r c same) going ok is = absurd (cc (s, going))
-flushed-next W e V (ByRow why s f r c k st l) going ok is = absurd
-    (let n : None ≡ Some why = subst (λ (s : Step). first_of (rows W V s) ≡ Some why) is f in cc n)
-flushed-next W e V (Done s f r c fs hs se vs l) going ok is = r ∙ ap (λ (s : Step). reply_of W s e.claims) is
-flushed-next W e V (ByRead s f r c k st l) going ok is = absurd (let x = ap is_fault r in cc (x, ok))
-flushed-next W e V (ByWrite s f m r c k st l) going ok is = absurd (let x = ap is_fault r in cc (x, ok))
-
--- so was one that ended a run
-pub flushed-last : (es : List Entry1) (start : ℕ) (W V : World) (e : Entry1) → Run start W (es ++ e ∷ []) V
-    → W.stopped ≡ false
-    → has_fault (es ++ e ∷ []) ≡ false
-    → e.step ≡ step.Flush 0 0 → e.reply ≡ reply.Flushed
-flushed-last [] start W V e r going ok is = flushed-next W e r.0 r.4 going (no-fault (is_fault e.reply) false ok).0 is
-flushed-last (x ∷ es) start W V e r going ok is =
-    let none = no-fault (is_fault x.reply) (has_fault (es ++ e ∷ [])) ok in
-    flushed-last es x.to r.0 V e r.5 (next-goes W x r.0 r.4 going none.0).going none.1 is
 
 -- the steps of one caller are steps of the history
 by-caller : (c : ℕ) (es : List Entry1) (k : ℕ) (d : Step) → k < length (map made_step (steps_by c es))

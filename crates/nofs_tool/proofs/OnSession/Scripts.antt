@@ -8,7 +8,7 @@ use Rattle.nofs_client.specs.declared.task.commands.Command.{Command}
 use Rattle.nofs_client.specs.declared.task.lines.Line.{Line}
 use Rattle.nofs_serve.proofs.OnSession.{team-unserved}
 use Rattle.nofs_tool.specs.Session.Serve.{IsFollowed, IsSessionRun}
-use Rattle.nofs_tool.proofs.OnSession.Serve.{run-closed}
+use Rattle.nofs_tool.proofs.OnSession.Serve.{not-flushed, run-closed}
 
 -- nobody was served, and nothing said
 pub unserved-follows : (scripts : List (List Command)) (at : SuperBlock) (text : Option (List ℕ)) (H : List Entry1)
@@ -21,7 +21,7 @@ unserved-follows scripts at text H none said = record {
     [],
     run-closed scripts at.inodes at.blocks true false [] [] [] H (reply.Refused refusal.OutOfMemory) refl
         (team-unserved scripts at.inodes at.blocks true [] [] [] refl refl) (inl refl)
-        (record { none = λ e. none; one = λ e. cc }) refl,
+        (not-flushed [] H none) refl,
   );
 }
 

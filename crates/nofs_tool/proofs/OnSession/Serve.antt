@@ -16,6 +16,8 @@ use Rattle.nofs_history.specs.declared.machine.steps.Step.{Step}
 use Rattle.nofs_history.specs.declared.machine.steps.Step.TheVariants as step
 use Rattle.nofs_history.specs.declared.machine.steps.ElementKind.{ElementKind}
 use Rattle.nofs_history.specs.declared.machine.replies.Reply.{Reply}
+use Rattle.nofs_history.specs.declared.machine.replies.Reply.TheVariants as reply
+use Rattle.nofs_history.specs.declared.machine.replies.Refusal.TheVariants as refusal
 use Rattle.nofs_history.specs.Callers.{done_of, is_by, steps_by}
 use Rattle.nofs_client.specs.declared.task.commands.Command.{Command}
 use Rattle.nofs_client.specs.Task.Commands.{AreWellFormed}
@@ -24,6 +26,7 @@ use Rattle.nofs_client.specs.Driver.{LinesFollow, lines_of, made_reply}
 use Rattle.nofs_script.specs.Text.{text_of}
 use Rattle.nofs_shared.specs.Acts.Sees.{sweep_entries}
 use Rattle.nofs_shared.specs.Mount.Entries.{AddsStep}
+use Rattle.nofs_shared.specs.Passes.Entries.{TellsStep}
 use Rattle.nofs_serve.specs.Teams.Users.{UsersServed}
 use Rattle.nofs_serve.specs.Session.{IsUnserved, TeamEnded, TeamMade, TeamServed}
 use Rattle.nofs_serve.specs.Teams.Beside.{SweepsMade}
@@ -90,12 +93,21 @@ swept-of scripts it at room short early lines H K same empty is (inr t) =
     inr (subst (λ (s : SuperBlock). SweepsMade s.inodes s.blocks false (λ c. steps_by c (drop (length H) K))) same
     (t.sweeps enough))
 
+-- where there was no memory for its entry, the flush was not made
+pub not-flushed : (H K : List Entry1) → K ≡ H
+    → TellsStep 0 (step.Flush 0 0) H K (reply.Refused refusal.OutOfMemory)
+not-flushed H K same = record {
+  adds = record { none = λ e. same; one = λ e. cc e };
+  fits = tt;
+  whole = λ e. refl;
+}
+
 -- a team's steps, and then the flush
 pub run-closed : (scripts : List (List Command)) (inodes blocks : ℕ) (out closed : Bool) (lines : List (List Line))
     (before served all : List Entry1)
     (flush : Reply) → before ≡ [] → TeamServed scripts inodes blocks out lines before served
     → AreSwept inodes blocks before served
-    → AddsStep 0 (step.Flush 0 0) flush served all
+    → TellsStep 0 (step.Flush 0 0) served all flush
     → closed ≡ not (is_out_of_memory flush) → IsSessionRun scripts inodes blocks (out || not closed) lines all
 run-closed scripts inodes blocks out closed lines before served all flush empty t swept adds is =
     let made : TeamMade scripts inodes blocks out lines (λ c. steps_by c served) = subst
@@ -180,7 +192,7 @@ pub session-told : (scripts : List (List Command)) (inodes blocks : ℕ) (lines 
     → text ≡ session_text scripts all
 session-told scripts inodes blocks lines all text follow run is = is
     ∙ session-said follow run.served all
-    (λ c low. adds-others 0 c (step.Flush 0 0) run.flush run.served all run.closes
+    (λ c low. adds-others 0 c (step.Flush 0 0) run.flush run.served all run.closes.adds
     (λ e. absurd (omega (arith, low, e)))) scripts lines (run.team.served refl)
 
 text-told : {E : Type 0} (scripts : List (List Command)) (inodes blocks : ℕ) (lines : List (List Line))

@@ -1,7 +1,7 @@
 -- At the end of a session in which no call of the device failed the machine's verdicts are those of the disk.
 use Rattle.std.proofs.Common.{◌≡◌, ℕ, ◌-◌, ◌/◌, ◌<◌, Bool, true, false, ◌||◌, not, leb, List, [], ◌∷◌, ◌++◌, is_some}
 use Rattle.std.proofs.Common.{◌⊎◌, inl, inr, refl, sym, ap, ◌∙◌, subst, arith}
-use Rattle.nofs_disk.specs.Disk.{DiskState, IsSettled}
+use Rattle.nofs_disk.specs.Disk.{DiskState}
 use Rattle.nofs_super.specs.Raise.{raised}
 use Rattle.nofs_super.specs.declared.superblock.SuperBlock.{SuperBlock}
 use Rattle.nofs_model.specs.Geometry.{Image, super_at}
@@ -27,15 +27,16 @@ use Rattle.nofs_shared.specs.Mount.End.{Contents}
 use Rattle.nofs_shared.specs.Mount.Forms.{Forms}
 use Rattle.nofs_shared.specs.Mount.Invariant.{IsMount, IsSoundDisk}
 use Rattle.nofs_shared.specs.Mount.Entries.{AddsStep}
+use Rattle.nofs_shared.proofs.OnLaws.LastFlush.{last-flush}
 use Rattle.nofs_shared.proofs.OnMount.End.{mount-ends}
 use Rattle.nofs_client.specs.declared.task.commands.Command.{Command}
 use Rattle.nofs_client.specs.declared.task.lines.Line.{Line}
 use Rattle.nofs_history.specs.declared.machine.steps.ElementKind.TheVariants.{Inode, Block}
 use Rattle.nofs_history.specs.Callers.{steps_by}
 use Rattle.nofs_workers.specs.Sweep.{Sweeps}
-use Rattle.nofs_tool.specs.Session.Serve.{IsClosed, IsSessionRun}
+use Rattle.nofs_tool.specs.Session.Serve.{IsClosed, IsFlushed, IsSessionRun}
 use Rattle.nofs_tool.specs.Session.Whole.{Finished, IsWholeScan, ShowsDisk}
-use Rattle.nofs_tool.proofs.OnSession.Known.{flushed-last, blocks-seen, has-added, inodes-seen, no-fault, run-goes}
+use Rattle.nofs_tool.proofs.OnSession.Known.{blocks-seen, has-added, inodes-seen, no-fault, run-goes}
 
 pub not-write : (r : Reply) → is_fault r ≡ false → is_write_fault r ≡ false
 not-write (reply.Refused refusal.WriteFault) e = absurd (cc e)
@@ -187,15 +188,21 @@ pub whole-scan : (scripts : List (List Command)) (at : SuperBlock) (lines : List
     → IsSessionRun scripts at.inodes at.blocks false lines H → Run start (world_of B first) H V
     → has_fault H ≡ false → ShowsDisk at V X → IsWholeScan V X
 whole-scan scripts at lines H start first B V X run =
-    whole-by at run.served H run.flush run.closes run.team.inodes_seen run.team.blocks_seen start first B V X
+    whole-by at run.served H run.flush run.closes.adds run.team.inodes_seen run.team.blocks_seen start first B V X
 
--- the device is settled where the last flush was made, which is so where no call failed
-pub settled-end : (d : DiskState) (H : List Entry1) (start first : ℕ) (B : Image) (V : World) → IsClosed d H
-    → Run start (world_of B first) H V
-    → has_fault H ≡ false → IsSettled d
-settled-end d H start first B V c r ok =
-    let (x, whole, caller, step_is, reply_is) = c.closes.one c.made in
-    let run : Run start (world_of B first) (c.served ++ x ∷ []) V =
-    subst (λ (l : List Entry1). Run start (world_of B first) l V) whole r in
-    let fine : has_fault (c.served ++ x ∷ []) ≡ false = sym (ap has_fault whole) ∙ ok in
-    c.settled (sym reply_is ∙ flushed-last c.served start (world_of B first) V x run (world-going B first) fine step_is)
+-- the last flush was made where no entry has a fault, over any disk, and the device is settled then
+pub flushed-end : (d : DiskState) (H : List Entry1) (from to : ℕ) (stopped : Bool) → Forms from false H to stopped
+    → IsClosed d H → has_fault H ≡ false → IsFlushed d H
+flushed-end d H from to stopped forms c ok =
+    let made : c.flush ≡ reply.Flushed =
+    last-flush c.served H from to stopped 0 c.flush forms c.closes c.made ok in
+    let (x, whole, caller, asks, answer) = c.closes.adds.one c.made in
+    record {
+      served = c.served;
+      last = x;
+      ends = whole;
+      caller = caller;
+      asks = asks;
+      answer = answer ∙ made;
+      settled = c.settled made;
+    }

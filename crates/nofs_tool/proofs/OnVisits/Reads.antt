@@ -186,7 +186,7 @@ quiet-added served H flush a q = go (is_out_of_memory flush) refl
 pub visit-quiet : (inodes blocks : ℕ) (short : Bool) (H : List Entry1) → IsVisitRun AreReads inodes blocks short H
     → AllByRecursion (λ e. IsQuiet e.step) H
 visit-quiet inodes blocks short H run =
-    quiet-added run.served H run.flush run.closes (all-callers IsQuiet run.served own)
+    quiet-added run.served H run.flush run.closes.adds (all-callers IsQuiet run.served own)
   where
     own : (c : ℕ) → AreQuiet (steps_by c run.served)
     own c = elim (cases_eq c 1) [

@@ -52,6 +52,7 @@ use Rattle.nofs_tool.specs.Visits.Visit.{IsVisitFollowed, IsVisitRun}
 use Rattle.nofs_tool.proofs.OnRuns.Said.{told-text}
 use Rattle.nofs_tool.proofs.OnSession.Known.{no-fault}
 use Rattle.nofs_tool.proofs.OnVisits.Visit.{visit-closed, visit-none, visit-run-maps, visit-steps}
+use Rattle.nofs_tool.proofs.OnSession.Serve.{not-flushed}
 use Rattle.nofs_tool.proofs.OnSession.Whole.{not-write, or-none}
 use Rattle.nofs_tool.proofs.OnVisits.Reads.{visit-quiet, visit-answered}
 
@@ -186,7 +187,7 @@ none-walked at H text none said = record {
   early = λ e. said;
   follows = visit-closed AreReads at.inodes at.blocks true false [] [] H (reply.Refused refusal.OutOfMemory) refl
       (visit-none AreReads at.inodes at.blocks true [] [] refl refl (All-nil (λ (m : Made). IsReadingStep m.0)))
-      (record { none = λ e. none; one = λ e. cc e }) refl;
+      (not-flushed [] H none) refl;
 }
 
 -- a walk that was told

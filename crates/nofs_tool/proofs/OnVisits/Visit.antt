@@ -10,7 +10,7 @@ use Rattle.nofs_history.specs.declared.machine.history.Entry1.{Entry1}
 use Rattle.nofs_history.specs.declared.machine.steps.Step.TheVariants as step
 use Rattle.nofs_history.specs.declared.machine.replies.Reply.{Reply}
 use Rattle.nofs_history.specs.Callers.{steps_by}
-use Rattle.nofs_shared.specs.Mount.Entries.{AddsStep}
+use Rattle.nofs_shared.specs.Passes.Entries.{TellsStep}
 use Rattle.nofs_serve.specs.Visit.{VisitMade, VisitServed}
 use Rattle.nofs_history.specs.Faults.{has_fault}
 use Rattle.nofs_tool.specs.Session.Whole.{IsWholeScan, ShowsDisk}
@@ -62,7 +62,7 @@ module _ (P : List Made → Type 0) (inodes blocks : ℕ) where
   -- a visit, and then the flush
   pub visit-closed : (out closed : Bool) (before served all : List Entry1) (flush : Reply)
       → before ≡ [] → VisitServed P inodes blocks out before served
-      → AddsStep 0 (step.Flush 0 0) flush served all → closed ≡ not (is_out_of_memory flush)
+      → TellsStep 0 (step.Flush 0 0) served all flush → closed ≡ not (is_out_of_memory flush)
       → IsVisitRun P inodes blocks (out || not closed) all
   visit-closed out closed before served all flush empty v adds is =
       let made : VisitMade P inodes blocks out (λ c. steps_by c served) = subst
@@ -86,7 +86,7 @@ module _ (P : List Made → Type 0) (inodes blocks : ℕ) where
   pub visit-steps : (short : Bool) (H : List Entry1) → IsVisitRun P inodes blocks short H → P (steps_by 1 H)
   visit-steps short H r =
       let same : steps_by 1 H ≡ steps_by 1 r.served =
-      adds-others 0 1 (step.Flush 0 0) r.flush r.served H r.closes (λ e. absurd (omega (arith, e))) in
+      adds-others 0 1 (step.Flush 0 0) r.flush r.served H r.closes.adds (λ e. absurd (omega (arith, e))) in
       subst P (sym same) r.made.visited
 
 -- the sweeps beside a visit saw all
@@ -95,4 +95,4 @@ pub whole-visit : (P : List Made → Type 0) (at : SuperBlock) (H : List Entry1)
     → IsVisitRun P at.inodes at.blocks false H → Run start (world_of B first) H V
     → has_fault H ≡ false → ShowsDisk at V X → IsWholeScan V X
 whole-visit P at H start first B V X run =
-    whole-by at run.served H run.flush run.closes run.made.inodes_seen run.made.blocks_seen start first B V X
+    whole-by at run.served H run.flush run.closes.adds run.made.inodes_seen run.made.blocks_seen start first B V X

@@ -1,12 +1,13 @@
 -- The headline: what the one history of a session says of its users, of the machine, and of every moment of the disk.
-use Rattle.std.specs.Prelude.{◌≡◌, ℕ, Bool, true, List, [], IsTrue, Some, None}
+use Rattle.std.specs.Prelude.{◌≡◌, ◌≢◌, ℕ, Bool, true, false, List, [], IsTrue, Some, None}
 use Rattle.std.specs.declared.option.Option.{Option}
-use Rattle.nofs_disk.specs.Disk.{DiskState, IsSettled}
+use Rattle.nofs_disk.specs.Disk.{DiskState}
 use Rattle.nofs_super.specs.Format.{IsFormatted}
 use Rattle.nofs_super.specs.Raise.{raised}
 use Rattle.nofs_super.specs.declared.superblock.SuperBlock.{SuperBlock}
 use Rattle.nofs_model.specs.Geometry.{super_at}
 use Rattle.nofs_io.specs.Calls.{SourceState}
+use Rattle.nofs_history.specs.Faults.{has_fault}
 use Rattle.nofs_history.specs.HistoryState.{HistoryState}
 use Rattle.nofs_history.specs.declared.machine.history.Entry1.{Entry1}
 use Rattle.nofs_client.specs.declared.task.commands.Command.{Command}
@@ -17,7 +18,7 @@ use Rattle.nofs_tool.specs.declared.begin.words.Request.{Request}
 use Rattle.nofs_tool.specs.declared.begin.words.Request.TheVariants.{New, Run, Scan, Drill, Upgrade, Salvage, Wire}
 use Rattle.nofs_tool.specs.Drill.{IsDrillRun}
 use Rattle.nofs_tool.specs.Session.Whole.{IsMet, IsWholeScan}
-use Rattle.nofs_tool.specs.Session.Serve.{FollowsScripts}
+use Rattle.nofs_tool.specs.Session.Serve.{FollowsScripts, IsFlushed}
 use Rattle.nofs_tool.specs.Visits.Salvage.{AreReads}
 use Rattle.nofs_tool.specs.Runs.Tool.{WithText, WithSession}
 use Rattle.nofs_tool.specs.Visits.Visit.{FollowsVisit}
@@ -25,11 +26,12 @@ use Rattle.nofs_tool.specs.Visits.Wire.{IsWired}
 
 -- THE HEADLINE, of one history over the disk that the mount found. Its entries follow what was asked for (`Follows`, by
 -- the numbers of the mount, and whether memory was wanting, which is so at status 7 alone); those numbers are of the
--- superblock that the mount read, over any disk. Where the premises are met,
--- `Ends` says further: the history is a run of the machine with its replies; at each moment, in mid-step too, every
--- image that a crash may leave is allowed; what is claimed was free; and each image is one on which the premises are
--- met again. At status 0 the machine knows every inode and every block, and says of each what the full scan of the disk
--- handed back says; and each block of that disk may be left as a read gives it alone
+-- superblock that the mount read, over any disk. At status 0 no entry has a fault, and where none has one, but at 7,
+-- the last flush was made: each block of the disk handed back may then be left as a read gives it alone. Where the
+-- premises are met, `Ends` says further: the history is a run of the machine with its replies; at each moment, in
+-- mid-step too, every image that a crash may leave is allowed; what is claimed was free; and each image is one on which
+-- the premises are met again. At status 0 the machine knows every inode and every block, and says of each what the full
+-- scan of the disk handed back says
 pub record IsHeadlineOf (Follows : SuperBlock → Bool → List Entry1 → Type 0) (found last : DiskState) (status : ℕ)
     (h : HistoryState) : Type 0 where
   -- the numbers of the mount, which it read over any disk
@@ -39,9 +41,10 @@ pub record IsHeadlineOf (Follows : SuperBlock → Bool → List Entry1 → Type 
   pub short : Bool
   pub early : short ≡ true → status ≡ 7
   pub follows : Follows at short h.entries
+  pub faultless : status ≡ 0 → has_fault h.entries ≡ false
+  pub flushed : status ≢ 7 → has_fault h.entries ≡ false → IsFlushed last h.entries
   pub ends : Ends found last 0 h
   pub whole : (q : IsMet found) → status ≡ 0 → IsWholeScan (ends.contents q).world last.now
-  pub settled : IsMet found → status ≡ 0 → IsSettled last
 
 -- the entries of a history are those of a drill
 abbrev pub FollowsDrill : ℕ → ℕ → SuperBlock → Bool → List Entry1 → Type 0

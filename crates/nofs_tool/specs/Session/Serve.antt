@@ -1,5 +1,6 @@
 -- What a session leaves in the history of a mount.
-use Rattle.std.specs.Prelude.{◌≡◌, ◌⊎◌, ℕ, Bool, false, List, [], true, None, length, drop}
+use Rattle.std.specs.Prelude.{◌≡◌, ◌⊎◌, ℕ, Bool, false, List, [], ◌∷◌, ◌++◌, true, None, length}
+use Rattle.std.specs.Prelude.{drop}
 use Rattle.nofs_disk.specs.Disk.{DiskState, IsSettled}
 use Rattle.nofs_history.specs.declared.machine.callers.TheConstants.{PROGRAM}
 use Rattle.nofs_history.specs.Steps.{is_out_of_memory}
@@ -10,7 +11,7 @@ use Rattle.nofs_history.specs.declared.machine.replies.Reply.TheVariants as repl
 use Rattle.nofs_history.specs.Callers.{steps_by}
 use Rattle.nofs_client.specs.declared.task.commands.Command.{Command}
 use Rattle.nofs_client.specs.declared.task.lines.Line.{Line}
-use Rattle.nofs_shared.specs.Mount.Entries.{AddsStep}
+use Rattle.nofs_shared.specs.Passes.Entries.{TellsStep}
 use Rattle.nofs_serve.specs.Session.{TeamMade}
 use Rattle.nofs_serve.specs.Teams.Beside.{SweepsMade}
 use Rattle.std.specs.declared.option.Option.{Option}
@@ -28,7 +29,7 @@ pub record IsSessionRun (scripts : List (List Command)) (inodes blocks : ℕ) (s
     (H : List Entry1) : Type 0 where
   pub served : List Entry1
   pub flush : Reply
-  pub closes : AddsStep PROGRAM (step.Flush 0 0) flush served H
+  pub closes : TellsStep PROGRAM (step.Flush 0 0) served H flush
   pub closed : short ≡ false → is_out_of_memory flush ≡ false
   pub team : TeamMade scripts inodes blocks short lines (λ c. steps_by c served)
   pub swept : AreSwept inodes blocks [] served
@@ -37,9 +38,19 @@ pub record IsSessionRun (scripts : List (List Command)) (inodes blocks : ℕ) (s
 pub record IsClosed (d : DiskState) (H : List Entry1) : Type 0 where
   pub served : List Entry1
   pub flush : Reply
-  pub closes : AddsStep PROGRAM (step.Flush 0 0) flush served H
+  pub closes : TellsStep PROGRAM (step.Flush 0 0) served H flush
   pub made : is_out_of_memory flush ≡ false
   pub settled : flush ≡ reply.Flushed → IsSettled d
+
+-- the last entry is PROGRAM's flush of the whole disk, and it was made: each block is left as a read gives it alone
+pub record IsFlushed (d : DiskState) (H : List Entry1) : Type 0 where
+  pub served : List Entry1
+  pub last : Entry1
+  pub ends : H ≡ served ++ last ∷ []
+  pub caller : last.caller ≡ PROGRAM
+  pub asks : last.step ≡ step.Flush 0 0
+  pub answer : last.reply ≡ reply.Flushed
+  pub settled : IsSettled d
 
 -- The entries of a history are just the steps that a session asks for: of each user those of its commands, in order, by
 -- the replies before; of the sweeps one for each element, the inodes upwards and the blocks downwards; then PROGRAM's

@@ -9,7 +9,7 @@ use Rattle.nofs_history.specs.declared.machine.history.Entry1.{Entry1}
 use Rattle.nofs_history.specs.declared.machine.steps.Step.TheVariants as step
 use Rattle.nofs_history.specs.declared.machine.replies.Reply.{Reply}
 use Rattle.nofs_history.specs.Callers.{steps_by}
-use Rattle.nofs_shared.specs.Mount.Entries.{AddsStep}
+use Rattle.nofs_shared.specs.Passes.Entries.{TellsStep}
 use Rattle.nofs_serve.specs.Visit.{VisitMade}
 
 -- FIRST_USER made the steps of its visit, each element was examined once, and then PROGRAM made all durable. Where
@@ -17,7 +17,7 @@ use Rattle.nofs_serve.specs.Visit.{VisitMade}
 pub record IsVisitRun (Visits : List Made → Type 0) (inodes blocks : ℕ) (short : Bool) (H : List Entry1) : Type 0 where
   pub served : List Entry1
   pub flush : Reply
-  pub closes : AddsStep PROGRAM (step.Flush 0 0) flush served H
+  pub closes : TellsStep PROGRAM (step.Flush 0 0) served H flush
   pub closed : short ≡ false → is_out_of_memory flush ≡ false
   pub made : VisitMade Visits inodes blocks short (λ c. steps_by c served)
 

@@ -14,7 +14,7 @@ ghost use Rattle.nofs_client.specs.declared.task.lines.Line.{Line};
 ghost use Rattle.nofs_script.specs.Session.{IsSession};
 ghost use Rattle.nofs_script.specs.Text.{text_of};
 ghost use Rattle.nofs_serve.specs.Session.{TeamServed};
-ghost use Rattle.nofs_shared.specs.Mount.Entries.{AddsStep};
+ghost use Rattle.nofs_shared.specs.Passes.Entries.{TellsStep};
 ghost use Rattle.nofs_tool.specs.Session.Entries.{session_text};
 ghost use Rattle.nofs_tool.specs.Session.Counts.{IsCounted, IsScanText};
 ghost use Rattle.nofs_tool.specs.Session.Serve.{AreSwept, IsClosed, IsFollowed, IsSessionRun};
@@ -65,8 +65,8 @@ fn lines_text(alloc: Global, users: &[LineList]) -> Result<Content, AllocError>
 /// Makes all durable; false where memory was wanting.
 pub(crate) fn close<D: Disk + Drop>(alloc: Global, mount: &mut Mount<D>) -> bool
     ensures adds { (reply : Reply)
-        × AddsStep PROGRAM
-        (step.Flush 0 0) reply mount.old.core.books.history.entries mount.new.core.books.history.entries
+        × TellsStep PROGRAM
+        (step.Flush 0 0) mount.old.core.books.history.entries mount.new.core.books.history.entries reply
         × (result ≡ not (is_out_of_memory reply)) }
     ensures closed { result ≡ true → IsClosed (D.state mount.new.core.disk) mount.new.core.books.history.entries }
     ensures same { (mount.new.found ≡ mount.old.found) × (mount.new.first ≡ mount.old.first) }
