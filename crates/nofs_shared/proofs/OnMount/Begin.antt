@@ -271,7 +271,8 @@ begin-mount found old new it at first k is_old is_new disk past cells can spelle
                 (rests-at new.now []
                 (first_past new first).mark (first_past new first).stamps k.history.start new refl tt
                 opened.stage.lasts);
-            along = subst (λ (H : List Entry1). ImagesAlong new.now H new.now) (sym begun.empty) refl;
+            along = subst (λ (H : List Entry1). ImagesAlong [] (world_of new.now first) new.now H
+                (world_of new.now first) new.now) (sym begun.empty) (refl, refl);
             machine = λ only. of-open new k [] (first_past new first) opened;
             sound = subst (λ (n : ℕ). Sounds n new) cells.moment (sounds-raised old new it is_old can adds o sp);
           };

@@ -18,6 +18,7 @@ use Rattle.nofs_history.specs.declared.machine.steps.Step.{Step}
 use Rattle.nofs_crashlaw.proofs.OnMaps.ClaimParts.{claim-free}
 use Rattle.nofs_state.specs.Cores.Invariant.{IsOpen, IsStopped, Past}
 use Rattle.nofs_state.specs.declared.books.maps.Books.{Books}
+use Rattle.nofs_shared.specs.Mount.Images.{ImagesAlong}
 use Rattle.nofs_shared.specs.Mount.Invariant.{IsFound, IsMount}
 use Rattle.nofs_shared.proofs.OnMount.Histories.{only-calls}
 use Rattle.nofs_shared.specs.Mount.End.{EntryClaimsFree, Ends}
@@ -84,7 +85,8 @@ mount-ends found d first k m = record {
         claims = λ before after e is. run-claims before k.history.start
             (world_of s.past.base first) s.past.world e after
             (subst (λ (H : List Entry1). Run k.history.start (world_of s.past.base first) H s.past.world) is w);
-        along = s.along;
+        along = subst (λ (n : ℕ). ImagesAlong [] (world_of s.past.base n) s.past.base k.history.entries s.past.world
+            d.now) s.serial s.along;
         machine = s.machine;
         sound = s.sound.images.each;
         next = s.sound.picks;

@@ -12,6 +12,7 @@ use Rattle.nofs_history.specs.Faults.{is_fault}
 use Rattle.nofs_history.specs.Next.{takes_time}
 use Rattle.nofs_history.specs.Steps.{is_out_of_memory}
 use Rattle.nofs_history.specs.HistoryState.{HistoryState}
+use Rattle.nofs_history.specs.World.{world_of}
 use Rattle.nofs_history.specs.declared.machine.history.Claims.{Claims}
 use Rattle.nofs_history.specs.declared.machine.history.Entry1.{Entry1}
 use Rattle.nofs_history.specs.declared.machine.steps.Step.{Step}
@@ -62,7 +63,8 @@ mount-history found d first k h start entries m = record {
         ⊎ IsStopped d (record k { history = h }) H s.past) (sym entries)
         (go s.past s.now);
     sound = s.sound;
-    along = subst (λ (H : List Entry1). ImagesAlong s.past.base H d.now) (sym entries) s.along;
+    along = subst (λ (H : List Entry1). ImagesAlong [] (world_of s.past.base s.past.first) s.past.base H s.past.world
+        d.now) (sym entries) s.along;
     machine = λ only. s.machine (subst (λ (H : List Entry1). OnlyFlushesFailed H) entries only);
     calls = subst₂ (λ (n : ℕ) (H : List Entry1). ExactCalls (agreed_files s.past.base) n d.moment H)
         (sym start) (sym entries) s.calls;

@@ -1,6 +1,6 @@
 -- What a read gives goes on from entry to entry, and the machine has its files and owners.
 use Rattle.std.proofs.Common.{◌≡◌, ℕ, true, false, List, [], ◌∷◌, ◌++◌, ◌⊎◌, inl, inr, refl, sym, ap, ◌∙◌, subst}
-use Rattle.std.proofs.Common.{subst₂, arith, Contains}
+use Rattle.std.proofs.Common.{subst₂, arith, Contains, append-nil, append_assoc}
 use Rattle.nofs_disk.specs.Disk.{DiskState}
 use Rattle.nofs_super.specs.declared.superblock.SuperBlock.{SuperBlock}
 use Rattle.nofs_model.specs.Geometry.{Image, super_at}
@@ -22,8 +22,8 @@ use Rattle.nofs_state.specs.Cores.Invariant.{IsOpen, IsStopped, Past}
 use Rattle.nofs_state.specs.Cores.Steps.{FlushesAlone, IsSafeStep, LeavesDisk, MeetsOpen, NoOrder, WritesAlone, entry}
 use Rattle.nofs_state.specs.declared.books.maps.Books.{Books}
 use Rattle.nofs_state.proofs.OnCores.Replies.{open-files}
-use Rattle.nofs_shared.specs.Mount.Images.{CellsWritten, ClaimsUnowned, ImagesAlong, IsOfImage, NothingWritten}
-use Rattle.nofs_shared.specs.Mount.Images.{OnlyFlushed, OnlyFlushesFailed, ReadsAfter}
+use Rattle.nofs_shared.specs.Mount.Images.{CellsWritten, ClaimsUnowned, ImagesAlong, IsBefore, IsOfImage}
+use Rattle.nofs_shared.specs.Mount.Images.{NothingWritten, OnlyFlushed, OnlyFlushesFailed, ReadsAfter}
 use Rattle.nofs_shared.proofs.OnMount.Claims.{none-claimed, open-unowned, stopped-none}
 use Rattle.nofs_shared.proofs.OnMount.End.{next-free}
 
@@ -40,12 +40,26 @@ reads-after old new k caller s c r (FlushesAlone is late f) = let q = flush-is s
 reads-after old new k caller s c r (WritesAlone made w) =
     CellsWritten w.calls w.only.moment w.only.done w.only.tried
 
-pub images-append : (H : List Entry1) (B X Y : Image) (e : Entry1) → ImagesAlong B H X → ClaimsUnowned X e
-    → ReadsAfter X e Y → ImagesAlong B (H ++ e ∷ []) Y
-images-append [] B X Y e same none after =
-    subst (λ (Z : Image). ClaimsUnowned Z e × ((V : Image) × ReadsAfter Z e V × (Y ≡ V))) same (none, (Y, after, refl))
-images-append (x ∷ H) B X Y e along none after =
-    (along.0, (along.1.0, along.1.1, images-append H along.1.0 X Y e along.1.2 none after))
+pub images-append : (H done : List Entry1) (W V U : World) (B X Y : Image) (e : Entry1) → ImagesAlong done W B H V X
+    → IsBefore (done ++ H) V X e → Next V e U → ReadsAfter X e Y → ImagesAlong done W B (H ++ e ∷ []) U Y
+images-append [] done W V U B X Y e same before next after =
+    subst₂ (λ (Q : World) (Z : Image). ImagesAlong done Q Z (e ∷ []) U Y) same.0 same.1 (
+      subst (λ (L : List Entry1). IsBefore L V X e) (append-nil done) before,
+      (U, Y, next, after, (refl, refl)),
+    )
+images-append (x ∷ H) done W V U B X Y e along before next after =
+    let (first, more) = along in
+    let (Q, Z, goes, reads, rest) = more in (
+      first,
+      (
+        Q,
+        Z,
+        goes,
+        reads,
+        images-append H (done ++ x ∷ []) Q V U Z X Y e rest
+            (subst (λ (L : List Entry1). IsBefore L V X e) (sym (append_assoc done (x ∷ []) H)) before) next after,
+      ),
+    )
 
 -- what the machine claims has no owner
 pub claims-unowned : (d : DiskState) (k : Books) (H : List Entry1) (p : Past) (V : World) (e : Entry1)

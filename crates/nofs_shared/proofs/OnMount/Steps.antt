@@ -14,6 +14,7 @@ use Rattle.nofs_history.specs.Faults.{is_fault}
 use Rattle.nofs_history.specs.Next.{takes_time}
 use Rattle.nofs_history.specs.Steps.{is_out_of_memory}
 use Rattle.nofs_history.specs.HistoryState.{HistoryState}
+use Rattle.nofs_history.specs.World.{world_of}
 use Rattle.nofs_history.specs.declared.machine.history.Claims.{Claims}
 use Rattle.nofs_history.specs.declared.machine.history.Entry1.{Entry1}
 use Rattle.nofs_history.specs.declared.machine.steps.Step.{Step}
@@ -123,7 +124,8 @@ stands-still found old new first k disk cells was st now sound = record {
   raised = st.raised;
   now = now;
   sound = sound;
-  along = subst (λ (X : Image). ImagesAlong st.past.base k.history.entries X) (sym cells.now) st.along;
+  along = subst (λ (X : Image). ImagesAlong [] (world_of st.past.base st.past.first) st.past.base k.history.entries
+      st.past.world X) (sym cells.now) st.along;
   machine = λ only. subst (λ (X : Image). IsOfImage st.past.world X) (sym cells.now) (st.machine only);
   calls = subst (λ (n : ℕ). ExactCalls (agreed_files st.past.base) k.history.start n k.history.entries)
       (sym cells.moment) st.calls;
@@ -242,10 +244,15 @@ module _ (found old new : DiskState) (first : ℕ) (k l : Books) (m : IsMount fo
                 ⊎ IsStopped new (record l { history = h }) H a.0.0) (sym all)
                 (go a.0.0 a.0.2);
             sound = a.1;
-            along = subst₂ (λ (B : Image) (H : List Entry1). ImagesAlong B H new.now) (sym a.0.1.base) (sym all)
-                (images-append k.history.entries st.past.base old.now new.now e st.along
-                (claims-unowned old k k.history.entries st.past a.0.0.world e st.now a.0.1.next)
-                (reads-after old new k caller s c r order));
+            along = subst (λ (H : List Entry1). ImagesAlong [] (world_of a.0.0.base a.0.0.first) a.0.0.base H
+                a.0.0.world new.now) (sym all)
+                (subst₂ (λ (B : Image) (n : ℕ). ImagesAlong [] (world_of B n) B (k.history.entries ++ e ∷ [])
+                a.0.0.world new.now) (sym a.0.1.base) (sym a.0.1.first)
+                (images-append k.history.entries [] (world_of st.past.base st.past.first) st.past.world a.0.0.world
+                st.past.base old.now new.now e st.along (record {
+                  unowned = claims-unowned old k k.history.entries st.past a.0.0.world e st.now a.0.1.next;
+                  machine = st.machine;
+                }) a.0.1.next (reads-after old new k caller s c r order)));
             machine = λ only. of-more old new k l k.history.entries st.past a.0.0 s c r caller g order mem a.0.1.next
                 st.now a.0.2 st.machine (subst (λ (H : List Entry1). OnlyFlushesFailed H) all only);
             calls = subst₂ (λ (n : ℕ) (H : List Entry1). ExactCalls (agreed_files a.0.0.base) n new.moment H)

@@ -1,5 +1,5 @@
 -- What a mount gives at its end.
-use Rattle.std.specs.Prelude.{◌≡◌, ◌≢◌, ℕ, ◌+◌, ◌-◌, ◌^◌, ◌≤◌, min, Bool, false, true, List, ◌∷◌, ◌++◌, Contains}
+use Rattle.std.specs.Prelude.{◌≡◌, ◌≢◌, ℕ, ◌+◌, ◌-◌, ◌^◌, ◌≤◌, min, Bool, false, true, List, [], ◌∷◌, ◌++◌, Contains}
 use Rattle.std.specs.Prelude.{slice_set}
 use Rattle.nofs_disk.specs.Disk.{DiskState, IsSameDisk, Picks}
 use Rattle.nofs_super.specs.Format.{super_cell}
@@ -45,9 +45,10 @@ pub record Contents (found last : DiskState) (first : ℕ) (h : HistoryState) : 
       → IsFound (raised (super_at found.now)) found X
   -- each entry wrote exactly the cells that its step asks for, by the files before it, and no other call was made
   pub calls : ExactCalls (agreed_files base) h.start last.moment h.entries
-  -- what is claimed had no owner: in the machine's world, and on the disk, by what a read gave before each entry
+  -- what is claimed had no owner: in the machine's world, and on the disk, by what a read gave before each entry, which
+  -- was as the machine's world there says
   pub claims : AllClaimsFree h.start (world_of base first) h.entries
-  pub along : ImagesAlong base h.entries last.now
+  pub along : ImagesAlong [] (world_of base first) base h.entries world last.now
   -- a read gives the machine's files and owners at the end, unless a write failed; a flush may have
   pub machine : OnlyFlushesFailed h.entries → IsOfImage world last.now
   -- the next mount finds a sound disk, whenever this one ends

@@ -1,5 +1,5 @@
 -- What a mount stands on: the ONE invariant of it, from its beginning on.
-use Rattle.std.specs.Prelude.{◌≡◌, ◌⊎◌, ℕ, ◌+◌, ◌-◌, ◌^◌, ◌<◌, ◌≤◌, min, false, length, IsTrue, slice_set}
+use Rattle.std.specs.Prelude.{◌≡◌, ◌⊎◌, ℕ, ◌+◌, ◌-◌, ◌^◌, ◌<◌, ◌≤◌, min, false, [], length, IsTrue, slice_set}
 use Rattle.nofs_disk.specs.Disk.{DiskState, IsSameDisk, Picks, cell_at}
 use Rattle.nofs_disk.specs.Adds.{WasOr}
 use Rattle.nofs_super.specs.Format.{super_cell}
@@ -9,6 +9,7 @@ use Rattle.nofs_model.specs.Geometry.{Image, super_at}
 use Rattle.nofs_model.specs.Sound.{IsSound}
 use Rattle.nofs_history.specs.Allowed.{IsAllowed}
 use Rattle.nofs_history.specs.Since.{agreed_files}
+use Rattle.nofs_history.specs.World.{world_of}
 use Rattle.nofs_state.specs.Books.Maps.{IsSafe}
 use Rattle.nofs_state.specs.Cores.Invariant.{IsOpen, IsStopped, Past, Sounds}
 use Rattle.nofs_state.specs.declared.books.maps.Books.{Books}
@@ -42,8 +43,8 @@ pub record MountStands (found d : DiskState) (first : ℕ) (k : Books) : Type 0 
   pub raised : k.at ≡ raised (super_at found.now)
   pub now : IsOpen d k k.history.entries past ⊎ IsStopped d k k.history.entries past
   pub sound : Sounds found.moment d
-  -- what a read gave before each entry
-  pub along : ImagesAlong past.base k.history.entries d.now
+  -- what a read gave before each entry, beside the machine's world there
+  pub along : ImagesAlong [] (world_of past.base past.first) past.base k.history.entries past.world d.now
   -- and what it gives is the machine's
   pub machine : OnlyFlushesFailed k.history.entries → IsOfImage past.world d.now
   -- the history tells of every call that takes time
