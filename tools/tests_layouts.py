@@ -125,6 +125,19 @@ class FilesOpened(Folders):
         self.assertEqual(serve(f"mirror:64:{empty}:{good}", b"", status=4), ["mount: bad magic 0000000000000000"])
         self.assertEqual(read(good), before)
 
+    def test_a_lead_that_names_more_blocks_than_the_mirror_leaves_the_other_file(self):
+        for layout in LAYOUTS:
+            good, large = self.at("good.img"), self.at("large.img")
+            serve(good, b"put @ 0 616263\n", "new", "64", "16")
+            serve(layout + large, b"put @ 0 646566\n", "new", "128", "16")
+            before = read(good), read(large)
+            for words in (["run"], ["scan"], ["salvage"], ["upgrade"], ["wire"]):
+                lines = serve(f"mirror:64:{large}:{good}", b"", *words, status=4)
+                self.assertEqual(lines, ["mount: device too small, has 64"])
+                self.assertEqual((read(good), read(large)), before)
+            self.assertEqual(serve(f"mirror:64:{large}:{good}", b"frob", status=2), ["line 1: unknown command"])
+            self.assertEqual((read(good), read(large)), before)
+
     def test_a_file_that_has_lost_its_name_takes_no_flush(self):
         for taken_away in (os.unlink, lambda path: os.replace(self.at("new.img"), path)):
             path = self.at("disk.img")

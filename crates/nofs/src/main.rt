@@ -1,15 +1,16 @@
 //! `nofs IMAGE WORDS`: serves a session on a disk image.
 //!
 //! Promise: what holds of a run is the contract of `tool` in `nofs_tool`, of the disk that is made for it; or the
-//! status is 7, or that of a device that can't be used, and no call was made. What stands here takes the words, makes
-//! the disk, puts a write-back cache before it, hands over standard input and output, and ends with the status. Nothing
-//! goes to standard error.
+//! status is 7, or that of a device that can't be used, and no call was made. That is a clause of each run: in memory,
+//! in a file and on a mirror of two files (`run_in_memory`, `run_in_file`, `run_in_mirror`), the last two over disks of
+//! any type. What stands here takes the words, makes the disk, puts a write-back cache before it, hands over standard
+//! input and output, and ends with the status. Nothing goes to standard error.
 #![tactic(auto)]
 
 mod cached;
 mod image;
 
-ghost use Rattle.std.specs.Prelude.{◌≡◌, ◌⊎◌, IfOk, OnErr, map, replicate, string_bytes};
+ghost use Rattle.std.specs.Prelude.{◌≡◌, ◌⊎◌, Err, IfOk, OnErr, map, replicate, string_bytes};
 ghost use Rattle.nofs_disk.specs.Tag.{zero_cell};
 ghost use Rattle.nofs_filedisk.specs.Bytes.{IsSynced};
 ghost use Rattle.nofs_io.specs.Calls.{SourceState};
@@ -17,18 +18,18 @@ ghost use Rattle.nofs_memdisk.specs.Parts.{fresh_parts, parts_of};
 ghost use Rattle.nofs_tool.specs.Begin.Lines.{fixed_line};
 ghost use Rattle.nofs_tool.specs.Runs.Call.{RunsOn};
 ghost use Rattle.nofs_tool.specs.Runs.Says.{Prints};
-ghost use Rattle.nofs.specs.Runs.{HasNoImage, HasNoRoom};
+ghost use Rattle.nofs.specs.Runs.{HasNoDevice, HasNoImage, HasNoRoom, RunsOrNot};
 
 use crate::cached::{tool_cached, tool_gathered, tool_mirrored};
 use crate::image::{ImageChoice, image_of};
 use nofs_cache::{Cached, Gathered};
 use nofs_disk::Disk;
-use nofs_filedisk::{FileDisk, HostFile, Positioned};
+use nofs_filedisk::{FileDisk, HostFile, MemFile, Positioned};
 use nofs_io::{ReadSource, Sink, Source, TEXT_LIMIT, WriteSink, write_all};
 use nofs_memdisk::MemDisk;
 use nofs_mirror::{Mirror, MirrorCause, MirrorFault};
 use nofs_pages::{ImageFile, Layout, Paged, Single, Twin, layout_of, single_pages, twin_pages};
-use nofs_super::read_super;
+use nofs_super::{MountFault, read_super};
 use nofs_tool::{FixedLine, Outcome, fixed_text, task_of};
 use std::alloc::Global;
 use std::fs::File;
@@ -219,21 +220,26 @@ fn image_file(
     }
 }
 
-// The disk in the file of an image.
+// The disk of an image.
 #[derive(Drop)]
-struct ImageDisk {
-    disk: FileDisk<HostImage>,
-    // Whether the file has pages, each of several cells.
+struct ImageDisk<D: Disk + Drop> {
+    disk: D,
+    // Whether it is in a file that has pages, each of several cells.
     in_pages: bool,
 }
 
-// The disk in the file of an image, made anew in the layout that is asked for, or as it is found.
+// The disk in the file of an image, where it was opened: made anew in the layout that is asked for, or as it is found.
 fn image_disk(
     alloc: Global,
-    file: HostFile,
+    file: io::Result<HostFile>,
     asked: Layout,
     anew: bool,
-) -> Result<ImageDisk, ImageFault> {
+) -> Result<ImageDisk<FileDisk<HostImage>>, ImageFault>
+    ensures { OnErr file (result ≡ Err ImageFault.Failed) }
+{
+    let Ok(file) = file else {
+        return Err(ImageFault::Failed);
+    };
     let mut file = file;
     let layout = layout_in(&mut file, asked, anew)?;
     let image = image_file(alloc, file, layout, anew)?;
@@ -248,7 +254,9 @@ fn image_disk(
 
 // The line and the status of a file that isn't opened as an image.
 fn no_image<K: Sink>(sink: &mut K, why: ImageFault) -> u8
-    ensures { (s : SourceState) → HasNoImage s s (K.state sink.old) (K.state sink.new) result }
+    ensures none { (s : SourceState) → HasNoImage s s (K.state sink.old) (K.state sink.new) result }
+    ensures failed { (s : SourceState)
+        → why ≡ ImageFault.Failed → HasNoDevice s s (K.state sink.old) (K.state sink.new) result }
 {
     match why {
         ImageFault::OutOfMemory => NO_MEMORY,
@@ -256,25 +264,30 @@ fn no_image<K: Sink>(sink: &mut K, why: ImageFault) -> u8
     }
 }
 
-// A run on a disk in a file, where it could be opened.
-fn run_in_file<R: Threads + Wait + Sync, S: Source, K: Sink>(
+// A run on the disk of an image, where there is one.
+fn run_in_file<R: Threads + Wait + Sync, S: Source, K: Sink, D: Disk + Drop + Send>(
     rt: &R,
     alloc: Global,
     words: &[String],
     source: &mut S,
     sink: &mut K,
-    file: io::Result<HostFile>,
-    layout: Layout,
+    image: Result<ImageDisk<D>, ImageFault>,
 ) -> u8
-    ensures status { OnErr file (result ≡ 3) }
-    ensures says { OnErr file (Prints (K.state sink.old) (K.state sink.new) (fixed_line FixedLine.DeviceFault)) }
+    ensures runs { RunsOrNot (⟦<Cached<D> as Disk>⟧.state) (⟦<Gathered<Cached<D>> as Disk>⟧.state)
+        (λ cached. IfOk image (λ i. cached.under ≡ i.disk)) (λ it. IfOk image (λ i. it.under.under ≡ i.disk))
+        (map string_bytes words.now) (S.state source.old) (S.state source.new) TEXT_LIMIT (K.state sink.old)
+        (K.state sink.new) result }
+    ensures failed { image ≡ Err ImageFault.Failed → HasNoDevice (S.state source.old) (S.state source.new)
+        (K.state sink.old) (K.state sink.new) result }
 {
-    let Ok(file) = file else {
-        return no_device(sink);
-    };
-    match image_disk(alloc, file, layout, makes_anew(words)) {
-        Ok(image) if image.in_pages => run_gathered(rt, alloc, image.disk, words, source, sink),
-        Ok(image) => run_cached(rt, alloc, image.disk, words, source, sink),
+    match image {
+        Ok(image) => {
+            if image.in_pages {
+                run_gathered(rt, alloc, image.disk, words, source, sink)
+            } else {
+                run_cached(rt, alloc, image.disk, words, source, sink)
+            }
+        }
         Err(why) => no_image(sink, why),
     }
 }
@@ -305,45 +318,131 @@ fn run_on_sides<
     blocks: u64,
     in_pages: bool,
     sides: (A, B),
-) -> u8 {
+) -> u8
+    ensures { RunsOrNot (⟦<Cached<Mirror<A, B>> as Disk>⟧.state) (⟦<Gathered<Cached<Mirror<A, B>>> as Disk>⟧.state)
+        (λ cached. (⟦<Mirror<A, B> as Disk>⟧.state cached.under).blocks ≡ blocks)
+        (λ it. (⟦<Mirror<A, B> as Disk>⟧.state it.under.under).blocks ≡ blocks)
+        (map string_bytes words.now) (S.state source.old) (S.state source.new) TEXT_LIMIT (K.state sink.old)
+        (K.state sink.new) result }
+{
     let (lead, other) = sides;
     match Mirror::open(lead, other, blocks) {
-        Ok(mirror) if in_pages => run_gathered(rt, alloc, mirror, words, source, sink),
-        Ok(mirror) => run_mirrored(rt, alloc, words, source, sink, mirror),
+        Ok(mirror) => {
+            if in_pages {
+                run_gathered(rt, alloc, mirror, words, source, sink)
+            } else {
+                run_mirrored(rt, alloc, words, source, sink, mirror)
+            }
+        }
         Err(MirrorFault { cause, .. }) => unopened(sink, cause),
     }
 }
 
-// A run on two files as one disk, where both could be opened.
-fn run_in_mirror<R: Threads + Wait + Sync, S: Source, K: Sink>(
+// The disks of a mirror.
+#[derive(Drop)]
+enum MirrorDisks<D: Disk + Drop, N: Disk + Drop> {
+    // Those in both files, the lead first, and whether one of the files has pages.
+    Both(D, D, bool),
+    // That of a lead that can't be mounted on the mirror, and in place of the other one that takes no write: the mount
+    // refuses the lead by its own line, and the other file is left as it is.
+    Lead(D, N),
+}
+
+// Whether an image can be mounted on a disk of so many blocks.
+fn can_mount<D: Disk>(disk: &mut D, blocks: u64) -> Result<bool, ImageFault> {
+    match read_super(disk) {
+        Ok(found) => Ok(found.blocks <= blocks),
+        Err(MountFault::ReadFault) => Err(ImageFault::Failed),
+        Err(_) => Ok(false),
+    }
+}
+
+// A disk that takes no write to its file: each call of it fails.
+fn no_disk(alloc: Global) -> Result<FileDisk<MemFile>, ImageFault> {
+    match MemFile::new(alloc, &[], 1, &[1]) {
+        Ok(file) => match FileDisk::over(alloc, file) {
+            Ok(disk) => Ok(disk),
+            Err(_) => Err(ImageFault::OutOfMemory),
+        },
+        Err(_) => Err(ImageFault::OutOfMemory),
+    }
+}
+
+// The disks of a mirror of so many blocks in two files, where both were opened. Only a lead that can be mounted is
+// copied.
+fn mirror_disks(
+    alloc: Global,
+    files: (io::Result<HostFile>, io::Result<HostFile>),
+    asked: Layout,
+    anew: bool,
+    blocks: u64,
+) -> Result<MirrorDisks<FileDisk<HostImage>, FileDisk<MemFile>>, ImageFault>
+    ensures lead { OnErr files.0 (result ≡ Err ImageFault.Failed) }
+    ensures other { OnErr files.1 (result ≡ Err ImageFault.Failed) }
+{
+    let (lead, other) = files;
+    let Ok(other) = other else {
+        return Err(ImageFault::Failed);
+    };
+    let mut lead = match image_disk(alloc, lead, asked, anew) {
+        Ok(lead) => lead,
+        Err(why) => return Err(why),
+    };
+    if !anew && !can_mount(&mut lead.disk, blocks)? {
+        return Ok(MirrorDisks::Lead(lead.disk, no_disk(alloc)?));
+    }
+    let other = image_disk(alloc, Ok(other), asked, anew)?;
+    let in_pages = lead.in_pages || other.in_pages;
+    Ok(MirrorDisks::Both(lead.disk, other.disk, in_pages))
+}
+
+// A run on a mirror of so many blocks, where there are disks for it.
+fn run_in_mirror<
+    R: Threads + Wait + Sync,
+    S: Source,
+    K: Sink,
+    D: Disk + Drop + Send,
+    N: Disk + Drop + Send,
+>(
     rt: &R,
     alloc: Global,
     words: &[String],
     source: &mut S,
     sink: &mut K,
     blocks: u64,
-    layout: Layout,
-    files: (io::Result<HostFile>, io::Result<HostFile>),
-) -> u8 {
-    let (Ok(lead), Ok(other)) = files else {
-        return no_device(sink);
-    };
-    let anew = makes_anew(words);
-    let mut lead = match image_disk(alloc, lead, layout, anew) {
-        Ok(disk) => disk,
-        Err(why) => return no_image(sink, why),
-    };
-    // A lead that can't be mounted is not copied: it is refused, by its own line, before the other is written.
-    if !anew && read_super(&mut lead.disk).is_err() {
-        return run_cached(rt, alloc, lead.disk, words, source, sink);
+    disks: Result<MirrorDisks<D, N>, ImageFault>,
+) -> u8
+    ensures runs { RunsOrNot (⟦<Cached<Mirror<D, D>> as Disk>⟧.state) (⟦<Gathered<Cached<Mirror<D, D>>> as Disk>⟧.state)
+        (λ cached. (⟦<Mirror<D, D> as Disk>⟧.state cached.under).blocks ≡ blocks)
+        (λ it. (⟦<Mirror<D, D> as Disk>⟧.state it.under.under).blocks ≡ blocks)
+        (map string_bytes words.now) (S.state source.old) (S.state source.new) TEXT_LIMIT (K.state sink.old)
+        (K.state sink.new) result
+        ⊎ RunsOrNot (⟦<Cached<Mirror<D, N>> as Disk>⟧.state) (⟦<Gathered<Cached<Mirror<D, N>>> as Disk>⟧.state)
+        (λ cached. (⟦<Mirror<D, N> as Disk>⟧.state cached.under).blocks ≡ blocks)
+        (λ it. (⟦<Mirror<D, N> as Disk>⟧.state it.under.under).blocks ≡ blocks)
+        (map string_bytes words.now) (S.state source.old) (S.state source.new) TEXT_LIMIT (K.state sink.old)
+        (K.state sink.new) result }
+    ensures failed { disks ≡ Err ImageFault.Failed → HasNoDevice (S.state source.old) (S.state source.new)
+        (K.state sink.old) (K.state sink.new) result }
+{
+    match disks {
+        Ok(MirrorDisks::Both(lead, other, in_pages)) => {
+            run_on_sides(
+                rt,
+                alloc,
+                words,
+                source,
+                sink,
+                blocks,
+                in_pages,
+                (lead, other),
+            )
+        }
+        Ok(MirrorDisks::Lead(lead, none)) => {
+            run_on_sides(rt, alloc, words, source, sink, blocks, false, (lead, none))
+        }
+        Err(why) => no_image(sink, why),
     }
-    let other = match image_disk(alloc, other, layout, anew) {
-        Ok(disk) => disk,
-        Err(why) => return no_image(sink, why),
-    };
-    let in_pages = lead.in_pages || other.in_pages;
-    let sides = (lead.disk, other.disk);
-    run_on_sides(rt, alloc, words, source, sink, blocks, in_pages, sides)
 }
 
 // The file of an image. It is made where there is none, but only by a command that makes its image anew.
@@ -384,7 +483,8 @@ fn main(rt: HostRuntime) -> ExitCode {
         ImageChoice::Memory => run_in_memory(&rt, alloc, rest, &mut source, &mut sink),
         ImageChoice::File { layout, path } => {
             let file = open_file(&rt, path, rest);
-            run_in_file(&rt, alloc, rest, &mut source, &mut sink, file, layout)
+            let image = image_disk(alloc, file, layout, makes_anew(rest));
+            run_in_file(&rt, alloc, rest, &mut source, &mut sink, image)
         }
         ImageChoice::Mirror {
             layout,
@@ -393,16 +493,8 @@ fn main(rt: HostRuntime) -> ExitCode {
             other,
         } => {
             let files = (open_file(&rt, lead, rest), open_file(&rt, other, rest));
-            run_in_mirror(
-                &rt,
-                alloc,
-                rest,
-                &mut source,
-                &mut sink,
-                blocks,
-                layout,
-                files,
-            )
+            let disks = mirror_disks(alloc, files, layout, makes_anew(rest), blocks);
+            run_in_mirror(&rt, alloc, rest, &mut source, &mut sink, blocks, disks)
         }
     };
     ExitCode::from(status)
