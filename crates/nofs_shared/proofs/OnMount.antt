@@ -10,6 +10,7 @@ pub mod Scans
 pub mod WriteOuts
 pub mod Causes
 pub mod Calls
+pub mod Given
 pub mod Refusals
 pub mod Begin
 pub mod Beginnings

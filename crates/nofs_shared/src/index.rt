@@ -3,13 +3,17 @@
 //! Promise: where each line was true of the machine's files, so is all that the index tells. Whoever has an index
 //! notes each step in it: one after which a name may find something else takes all lines out. Without memory there are
 //! fewer lines.
-ghost use Rattle.std.specs.Prelude.{◌≡◌, ℕ, List, IfSome};
+ghost use Rattle.std.specs.Prelude.{◌≡◌, ℕ, true, List, IfSome};
+ghost use Rattle.nofs_dirent.specs.Names.{is_name};
 ghost use Rattle.nofs_model.specs.Files.{Files};
 ghost use Rattle.nofs_shared.specs.Index.Lines.{AllTrue, IsTrueLine};
 ghost use Rattle.nofs_shared.specs.Index.Names.{Answered, Finds, NamesGoOn, moves_names};
 ghost use Rattle.nofs_history.specs.Machine.{is_refused};
 
-use nofs_dirent::Name;
+pub(crate) mod line;
+
+use crate::index::line::Line;
+use nofs_dirent::{Name, name_ok};
 use nofs_history::{Found, Reply, Step};
 use nofs_inode::inode::FileKind;
 use std::alloc::Global;
@@ -22,15 +26,6 @@ const MOST_NAMES: usize = 65_536;
 const FIRST_CODE: u64 = 0xcbf2_9ce4_8422_2325;
 
 const CODE_FACTOR: u64 = 0x0100_0000_01b3;
-
-/// A name in a directory, and the file to which it leads.
-#[derive(Drop)]
-pub struct Line {
-    pub(crate) directory: u32,
-    pub(crate) generation: u64,
-    pub(crate) name: Name,
-    pub(crate) found: Found,
-}
 
 /// Names that were found or made. Names of one code push each other out.
 #[derive(Drop)]
@@ -53,21 +48,6 @@ fn code_of(directory: u32, generation: u64, name: &[u8]) -> u64 {
     code
 }
 
-impl Line {
-    // The file, where the line is of this name.
-    fn found(&self, directory: u32, generation: u64, name: &[u8]) -> Option<Found>
-        ensures of { IfSome result (λ it. (self.now.directory ≡ directory) × (self.now.generation ≡ generation)
-            × (self.now.name ≡ name.now)) }
-        ensures is { IfSome result (λ it. self.now.found ≡ it) }
-    {
-        let is_of = self.directory == directory && self.generation == generation;
-        if is_of && self.name.as_slice() == name {
-            return Some(self.found);
-        }
-        None
-    }
-}
-
 impl Index {
     /// An index without lines. It takes no memory.
     pub(crate) fn empty(alloc: Global) -> Index
@@ -80,8 +60,9 @@ impl Index {
 
     /// What a Look of this name answers; `None` where the index does not tell.
     pub(crate) fn found(&self, directory: u32, generation: u64, name: &[u8]) -> Option<Found>
-        ensures { IfSome result
+        ensures finds { IfSome result
             (λ it. (F : Files) → AllTrue F self.now → Finds F directory generation name.now it) }
+        ensures good { IfSome result (λ it. is_name name.now ≡ true) }
     {
         match self.lines.get(&code_of(directory, generation, name)) {
             Some(line) => line.found(directory, generation, name),
@@ -121,10 +102,13 @@ impl Index {
         let _done = self.lines.insert(code, line);
     }
 
-    // Adds what a Look of the name answers.
+    // Adds what a Look of the name answers. Over any disk no line has a name that no file can have.
     fn learn(&mut self, alloc: Global, directory: u32, generation: u64, name: &Name, found: Found)
         ensures { (F : Files) → AllTrue F self.old → Finds F directory generation name.now found → AllTrue F self.new }
     {
+        if !name_ok(name.as_slice()) {
+            return;
+        }
         match name.copy(alloc) {
             Ok(name) => {
                 let line = Line {

@@ -1,9 +1,11 @@
 -- A Look that the index answered goes as the machine's.
-use Rattle.std.proofs.Common.{IfSome, Option, Some, ◌≡◌, ℕ, ◌⊎◌, inl, inr, false, List, [], ◌∷◌, ◌++◌, IsTrue, Bool}
+use Rattle.std.proofs.Common.{IfSome, Option, Some, ◌≡◌, ℕ, ◌⊎◌, inl, inr, true, false, List, [], ◌∷◌, ◌++◌, IsTrue}
+use Rattle.std.proofs.Common.{Bool}
 use Rattle.std.proofs.Common.{None, refl, sym, ap, ◌∙◌}
 use Rattle.std.proofs.Common.{subst}
 use Rattle.nofs_disk.specs.Disk.{DiskState, IsDisk}
 use Rattle.nofs_disk.specs.Chains.{KeepsCells-refl, StaysButFaults-refl}
+use Rattle.nofs_dirent.specs.Names.{is_name}
 use Rattle.nofs_model.specs.Geometry.{Image}
 use Rattle.nofs_model.specs.Files.{Files}
 use Rattle.nofs_history.specs.Claims.{no_claims}
@@ -106,10 +108,11 @@ module _ (index : Index) (s : Step) (it : Found) (told : IsTold index s it) wher
 -- What the index tells
 
 pub told-look : (index : Index) (s : Step) (d g : ℕ) (name : List ℕ) (res : Option Found) → s ≡ step.Look d g name
-    → IfSome res (λ it. (F : Files) → AllTrue F index → Finds F d g name it) → IfSome res (IsTold index s)
-told-look index s d g name None is finds = tt
-told-look index s d g name (Some it) is finds =
-    record { directory = d; generation = g; name = name; is = is; finds = finds }
+    → IfSome res (λ it. (F : Files) → AllTrue F index → Finds F d g name it)
+    → IfSome res (λ it. is_name name ≡ true) → IfSome res (IsTold index s)
+told-look index s d g name None is finds good = tt
+told-look index s d g name (Some it) is finds good =
+    record { directory = d; generation = g; name = name; is = is; good = good; finds = finds }
 
 pub some-going : (res : Option Found) (stopped : Bool) → stopped ≡ false → IfSome res (λ it. stopped ≡ false)
 some-going None stopped going = tt

@@ -5,10 +5,11 @@ use Rattle.std.specs.Prelude.{nat_eq}
 use Rattle.std.specs.HashMap.{HashMap, IsUnchanged, Updates, get}
 use Rattle.std.specs.declared.hash.FoldHasher.{FoldHasher}
 use Rattle.std.specs.declared.hash.BuildHasherDefault.{BuildHasherDefault}
+use Rattle.nofs_dirent.specs.Names.{is_name}
 use Rattle.nofs_model.specs.Files.{Files}
 use Rattle.nofs_history.specs.declared.machine.replies.Found.{Found}
 use Rattle.nofs_shared.specs.declared.index.Index.{Index}
-use Rattle.nofs_shared.specs.declared.index.Line.{Line}
+use Rattle.nofs_shared.specs.declared.index.line.Line.{Line}
 use Rattle.nofs_shared.specs.Index.Lines.{AllTrue, IsTrueLine}
 use Rattle.nofs_shared.specs.Index.Names.{Finds}
 
@@ -29,6 +30,13 @@ pub found-line : (index : Index) (code : ℕ) (line : Line) (d g : ℕ) (name : 
 found-line index code line d g name None at of is = tt
 found-line index code line d g name (Some it) at of is = λ F all.
     finds-is F line.directory line.generation d g line.name name line.found it of.0 of.1 of.2 is (all code line at)
+
+-- such a name is one that a file can have, as that of the line
+pub found-good : (line : Line) (d g : ℕ) (name : List ℕ) (res : Option Found)
+    → IfSome res (λ it. (line.directory ≡ d) × (line.generation ≡ g) × (line.name ≡ name))
+    → IfSome res (λ it. is_name name ≡ true)
+found-good line d g name None of = tt
+found-good line d g name (Some it) of = sym (ap is_name of.2) ∙ line.good
 
 -- one more line, or none
 pub put-line : {E : Type 0} (m n : Lines) (code : ℕ) (line : Line) (res : Result (Option Line) E)

@@ -3,7 +3,7 @@ use Rattle.std.specs.Prelude.{◌≡◌, ℕ, Some, nat_eq}
 use Rattle.std.specs.HashMap.{get}
 use Rattle.nofs_model.specs.Files.{Files}
 use Rattle.nofs_shared.specs.declared.index.Index.{Index}
-use Rattle.nofs_shared.specs.declared.index.Line.{Line}
+use Rattle.nofs_shared.specs.declared.index.line.Line.{Line}
 use Rattle.nofs_shared.specs.Index.Names.{Finds}
 
 -- by these files the name of the line leads to its file

@@ -1,6 +1,7 @@
 -- When the index of a mount is true, and what it tells of a step.
-use Rattle.std.specs.Prelude.{◌≡◌, ℕ, false, List}
+use Rattle.std.specs.Prelude.{◌≡◌, ℕ, true, false, List}
 use Rattle.nofs_disk.specs.Disk.{DiskState}
+use Rattle.nofs_dirent.specs.Names.{is_name}
 use Rattle.nofs_model.specs.Files.{Files}
 use Rattle.nofs_history.specs.Since.{agreed_files, files_along}
 use Rattle.nofs_history.specs.declared.machine.replies.Found.{Found}
@@ -20,10 +21,11 @@ files_of d k = files_along (agreed_files (d.was k.history.start)) k.history.entr
 abbrev pub IsTrueIndex : DiskState → DiskState → Books → Index → Type 0
 IsTrueIndex found d k index = IsSoundDisk found → k.stopped ≡ false → AllTrue (files_of d k) index
 
--- the step is a Look of a name that the index has, and this is the file
+-- the step is a Look of a name that the index has, which a file can have, and this is the file
 pub record IsTold (index : Index) (s : Step) (it : Found) : Type 0 where
   pub directory : ℕ
   pub generation : ℕ
   pub name : List ℕ
   pub is : s ≡ step.Look directory generation name
+  pub good : is_name name ≡ true
   pub finds : (F : Files) → AllTrue F index → Finds F directory generation name it

@@ -12,6 +12,8 @@ use Rattle.nofs_history.specs.declared.machine.replies.Reply.TheVariants as repl
 use Rattle.nofs_history.specs.declared.machine.history.Claims.{Claims}
 use Rattle.nofs_history.specs.declared.machine.history.Entry1.{Entry1}
 use Rattle.nofs_history.specs.declared.machine.steps.Step.{Step}
+use Rattle.nofs_state.specs.Cores.Early.{IsByGiven}
+use Rattle.nofs_state.specs.Cores.FirstRows.{RefusesEarly}
 use Rattle.nofs_state.specs.Cores.Steps.{NoOrder}
 use Rattle.nofs_state.specs.declared.books.maps.Books.{Books}
 use Rattle.nofs_shared.specs.Mount.Invariant.{IsSoundDisk}
@@ -32,6 +34,12 @@ pub record StepCauses (old new : DiskState) (k l : Books) (r : Reply) : Type 0 w
   -- every other refusal leaves the cells, and want of memory leaves all but the room for entries
   pub refused : is_refused r ≡ true → is_write_fault r ≡ false → KeepsCells old new
   pub memory : is_out_of_memory r ≡ true → l ≡ record k { history = l.history }
+
+-- BadName, BadRange and TooLarge, over any disk: they come just by what the step was given and by the superblock, while
+-- no write has failed
+pub record StepGiven (k : Books) (s : Step) (r : Reply) : Type 0 where
+  pub only : IsByGiven k.at s r
+  pub early : RefusesEarly k s r
 
 -- the mount is open, over a disk that tells and was found sound; these are the machine's files, by the base and the
 -- history

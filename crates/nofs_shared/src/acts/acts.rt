@@ -7,6 +7,7 @@ ghost use Rattle.nofs_history.specs.declared.machine.replies.Refusal.TheVariants
 ghost use Rattle.nofs_history.specs.declared.machine.replies.Reply.TheVariants as reply;
 ghost use Rattle.nofs_history.specs.declared.machine.steps.Step.TheVariants as step;
 ghost use Rattle.nofs_state.specs.Books.Maps.{IsSafe};
+ghost use Rattle.nofs_state.specs.Cores.FirstRows.{RefusesEarly};
 ghost use Rattle.nofs_state.specs.Cores.Steps.{Goes};
 ghost use Rattle.nofs_shared.specs.Acts.Contents.{reads_content};
 ghost use Rattle.nofs_shared.specs.Acts.Names.{is_on_names};
@@ -40,6 +41,7 @@ fn get_content<D: Disk + Drop>(
         → Goes (D.state core.old.disk) core.old.books (D.state core.new.disk) core.new.books
         (step.Get inode generation slot) no_claims (reply.Refused refusal.OutOfMemory) }
     ensures fits { Fits (step.Get inode generation slot) result.reply }
+    ensures early { RefusesEarly core.old.books (step.Get inode generation slot) result.reply }
 {
     let Ok(room) = slot_room(alloc) else {
         return refused(Refusal::OutOfMemory);
@@ -59,6 +61,7 @@ fn act_on_names<D: Disk + Drop>(core: &mut Core<D>, alloc: Global, step: &Step) 
         → Goes (D.state core.old.disk) core.old.books
         (D.state core.new.disk) core.new.books step.now no_claims (reply.Refused refusal.OutOfMemory) }
     ensures fits { Fits step.now result.reply }
+    ensures early { RefusesEarly core.old.books step.now result.reply }
 {
     match step {
         Step::Look {
@@ -127,6 +130,7 @@ pub(crate) fn act<D: Disk + Drop>(core: &mut Core<D>, alloc: Global, step: &Step
     ensures sees { is_see step.now ≡ true → is_out_of_memory result.reply ≡ false }
     ensures settled { Settles step.now result.reply (D.state core.new.disk) }
     ensures whole { names_whole step.now ≡ true → is_whole_answer result.reply ≡ true }
+    ensures early { RefusesEarly core.old.books step.now result.reply }
 {
     match step {
         Step::Look { .. } => act_on_names(core, alloc, step),

@@ -33,7 +33,7 @@ ghost use Rattle.nofs_shared.specs.Passes.Entries.{TellsStep};
 ghost use Rattle.nofs_shared.specs.Acts.Sees.{TakesKept, sweep_entries};
 ghost use Rattle.nofs_shared.specs.Mount.Flushes.{Settles};
 ghost use Rattle.nofs_shared.specs.Mount.Calls.{MadeCalls};
-ghost use Rattle.nofs_shared.specs.Mount.Causes.{MeetsSound, StepCauses, StepOrder};
+ghost use Rattle.nofs_shared.specs.Mount.Causes.{MeetsSound, StepCauses, StepGiven, StepOrder};
 
 use crate::acts::room::take_room;
 use crate::index::Index;
@@ -106,14 +106,14 @@ impl<D: Disk + Drop> Mount<D> {
         }
     }
 
-    /// Makes one step of a caller. Each See step of the sweeps has its memory while
-    /// some is kept for them. Over any disk, a read fault comes only where its count of faults rose, a
-    /// write fault only where it rose and a write or a flush was made, `Stopped` exactly where one of
-    /// them failed before, and every other refusal leaves the cells. A Flush of the whole disk is refused for nothing
-    /// else but want of memory. No step orders its writes, and none writes a block out: over a disk that
-    /// tells, one that is no Flush makes writes alone, one call a cell, and after a call that failed no other; where
-    /// the disk was also found sound, it writes no block twice. Over a disk that does not tell, this is the number
-    /// of calls that write or flush, and no more.
+    /// Makes one step of a caller. Each See step of the sweeps has its memory while some is kept for them. Over any
+    /// disk, a read fault comes only where its count of faults rose, a write fault only where it rose and a write or a
+    /// flush was made, `Stopped` exactly where one of them failed before, and every other refusal leaves the cells.
+    /// `BadName`, `BadRange` and `TooLarge` come just by what the step was given and by the superblock. A Flush of the
+    /// whole disk is refused for nothing else but a fault or want of memory. No step orders its writes, and none writes
+    /// a block out: over a disk that tells, one that is no Flush makes writes alone, one call a cell, and after a call
+    /// that failed no other; where the disk was also found sound, it writes no block twice. Over a disk that does not
+    /// tell, this is the number of calls that write or flush, and no more.
     pub fn step(&mut self, alloc: Global, caller: u32, step: Step) -> Reply
         ensures tells { TellsStep caller step self.old.core.books.history.entries
             self.new.core.books.history.entries result }
@@ -127,6 +127,7 @@ impl<D: Disk + Drop> Mount<D> {
         ensures settled { Settles step result (D.state self.new.core.disk) }
         ensures causes { StepCauses (D.state self.old.core.disk)
             (D.state self.new.core.disk) self.old.core.books self.new.core.books result }
+        ensures given { StepGiven self.old.core.books step result }
         ensures order { StepOrder (D.state self.old.core.disk) (D.state self.new.core.disk)
             (MeetsSound (D.state self.old.found.value) (D.state self.old.core.disk) self.old.core.books) step result
             self.new.core.books.history.entries }

@@ -128,7 +128,7 @@ pub trait Serves: Kept<Entry = Entry1> + Drop {
 impl<D: Disk + Drop> Serves for Mount<D> {
     ghost use Rattle.nofs_scan.specs.Steps.Elements.{items_of, verdict_at};
     ghost use Rattle.nofs_scan.specs.Steps.Looks.{OnlyLearns};
-    ghost use Rattle.nofs_shared.specs.Mount.Causes.{MeetsSound, StepCauses, StepOrder};
+    ghost use Rattle.nofs_shared.specs.Mount.Causes.{MeetsSound, StepCauses, StepGiven, StepOrder};
     ghost use Rattle.nofs_shared.specs.Mount.Commits.{CommitsAt};
     ghost use Rattle.nofs_shared.specs.Mount.Earlier.{IsEarlier, earlier-more};
 
@@ -148,7 +148,7 @@ impl<D: Disk + Drop> Serves for Mount<D> {
     ghost room_in = { λ f. f.at.inodes + f.at.blocks };
 
     ghost does = { λ old new s r. StepCauses (D.state old.core.disk) (D.state new.core.disk) old.core.books
-        new.core.books r × StepOrder (D.state old.core.disk) (D.state new.core.disk)
+        new.core.books r × StepGiven old.core.books s r × StepOrder (D.state old.core.disk) (D.state new.core.disk)
         (MeetsSound (D.state old.found.value) (D.state old.core.disk) old.core.books) s r
         new.core.books.history.entries };
 

@@ -13,7 +13,7 @@ ghost use Rattle.nofs_shared.specs.Mount.Invariant.{IsMount, IsSoundDisk};
 ghost use Rattle.nofs_shared.specs.Passes.Entries.{TellsStep};
 ghost use Rattle.nofs_shared.specs.Acts.Sees.{is_see};
 ghost use Rattle.nofs_shared.specs.Mount.Flushes.{Settles};
-ghost use Rattle.nofs_shared.specs.Mount.Causes.{StepCauses, StepOrder};
+ghost use Rattle.nofs_shared.specs.Mount.Causes.{StepCauses, StepGiven, StepOrder};
 
 use crate::acts::acted::Acted;
 use crate::acts::acts::act;
@@ -81,6 +81,7 @@ pub(crate) fn step_in<D: Disk + Drop>(
     ensures sees { is_see step ≡ true → is_out_of_memory result ≡ false }
     ensures settled { Settles step result (D.state core.new.disk) }
     ensures causes { StepCauses (D.state core.old.disk) (D.state core.new.disk) core.old.books core.new.books result }
+    ensures given { StepGiven core.old.books step result }
     ensures order { StepOrder (D.state core.old.disk) (D.state core.new.disk)
         (MeetsOpen (D.state core.old.disk) core.old.books) step result core.new.books.history.entries }
 {

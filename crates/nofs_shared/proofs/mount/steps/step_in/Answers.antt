@@ -17,6 +17,7 @@ use Rattle.nofs_shared.proofs.OnActs.Contents.{goes-unmade, see-has-memory}
 use Rattle.nofs_shared.proofs.OnIndex.Hits.{told-fits, told-keeps, told-order, told-unmoved}
 use Rattle.nofs_shared.proofs.OnIndex.Mounts.{index-noted, index-same, index-unmoved}
 use Rattle.nofs_shared.proofs.OnMount.Steps.{mount-none, mount-goes}
+use Rattle.nofs_shared.proofs.OnMount.Given.{given-none, given-told}
 use Rattle.nofs_shared.proofs.OnMount.Histories.{entry_at, safe-history}
 use Rattle.nofs_shared.proofs.OnActs.Room.{adds-none, settles-memory}
 use Rattle.nofs_shared.proofs.mount.steps.step_in.Goals as goal
@@ -55,6 +56,10 @@ returns-in-Some-clause-order g c = subst (λ (d : DiskState). StepOrder (g.D.Dis
           (g.D.Disk.state c.args.core.now.disk) c.args.core.now.books c.in-Some.ensures.going;
     })
 
+pub returns-in-Some-clause-given : goal.returns-in-Some-clause-given
+returns-in-Some-clause-given g c =
+    given-told c.args.core.now.books c.args.index.now c.args.step c.in-Some.it c.in-Some.ensures.told
+
 -- no memory
 
 pub returns-in-Err-clause-keeps : goal.returns-in-Err-clause-keeps
@@ -65,6 +70,9 @@ returns-in-Err-clause-keeps g c = λ found first m t.
     c.args.core.now.books c.act-reply.new.core.books c.args.step c.act-reply.result.claims c.act-reply.result.reply
     c.act-reply.ensures.goes c.act-reply.ensures.memory
     (c.in-Err.ensures.memory c.args.step c.act-reply.ensures.fits)).1) refl
+
+pub returns-in-Err-clause-given : goal.returns-in-Err-clause-given
+returns-in-Err-clause-given g c = given-none c.args.core.now.books c.args.step
 
 pub returns-in-Err-clause-notes : goal.returns-in-Err-clause-notes
 returns-in-Err-clause-notes g c = λ found first m t.
@@ -124,6 +132,9 @@ returns-in-Ok-clause-keeps g c = λ found first m t.
     ++ entry_at c.args.caller x.0 (g.D.Disk.state c.act-reply.new.core.disk).moment c.args.step
     c.act-reply.result.claims x.1 ∷ [])
     (λ i. (c.moment-from.ensures i, c.in-Ok.ensures.same i))))
+
+pub returns-in-Ok-clause-given : goal.returns-in-Ok-clause-given
+returns-in-Ok-clause-given g c = record { only = c.act-reply.ensures.goes.early; early = c.act-reply.ensures.early }
 
 pub returns-in-Ok-clause-notes : goal.returns-in-Ok-clause-notes
 returns-in-Ok-clause-notes g c = λ found first m t.

@@ -8,4 +8,4 @@ returns-in-Look-clause-told c = told-look c.args.index.now c.args.step.now c.in-
     c.as_slice.result.now c.found.result
     (c.in-Look.is
     ∙ ap (λ (name : List ℕ). step.Look c.in-Look.directory c.in-Look.generation name) (sym c.as_slice.ensures))
-    c.found.ensures
+    c.found.ensures.finds c.found.ensures.good

@@ -6,6 +6,7 @@ use Rattle.nofs_shared.specs.Mount.Entries.{Unowned}
 use Rattle.nofs_shared.specs.Passes.Entries.{TellsStep}
 use Rattle.nofs_shared.proofs.OnMount.Causes.{causes-roomed, causes-unroomed, order-sound, order-unroomed}
 use Rattle.nofs_shared.proofs.OnMount.Claims.{unowned-none}
+use Rattle.nofs_shared.proofs.OnMount.Given.{given-none}
 use Rattle.nofs_shared.proofs.OnActs.OtherRoom.{roomed, with-room}
 use Rattle.nofs_shared.proofs.OnActs.Room.{adds-none, few-left, settles-memory, taken-left, taken-same, takes-kept}
 use Rattle.std.proofs.Math.Logic.{∥∥₁_elim, ∥∥₁_prop}
@@ -124,3 +125,6 @@ returns-in-Some-clause-order g c =
     (g.D.Disk.state c.step_in.new.core.disk) c.args.self.now.first
     c.args.self.now.core.books c.args.step c.step_in.result _ c.take_room.new.history c.take_room.ensures.stays.1
     c.args.self.now.stands c.step_in.ensures.order
+
+pub returns-in-None-clause-given : goal.returns-in-None-clause-given
+returns-in-None-clause-given g c = given-none c.args.self.now.core.books c.args.step
