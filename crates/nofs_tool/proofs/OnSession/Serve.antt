@@ -29,7 +29,7 @@ use Rattle.nofs_shared.specs.Mount.Entries.{AddsStep}
 use Rattle.nofs_shared.specs.Passes.Entries.{TellsStep}
 use Rattle.nofs_serve.specs.Teams.Users.{UsersServed}
 use Rattle.nofs_serve.specs.Session.{IsUnserved, TeamEnded, TeamMade, TeamServed}
-use Rattle.nofs_serve.specs.Teams.Beside.{SweepsMade}
+use Rattle.nofs_serve.specs.Teams.Beside.{SweepsMade, SweepsServed}
 use Rattle.nofs_script.specs.Session.{IsSession}
 use Rattle.nofs_workers.specs.Sweep.{Sweeps}
 use Rattle.nofs_serve.proofs.OnTeams.Gathered.{length-scripts, neither}
@@ -80,18 +80,24 @@ room-enough : (n i b j c room : ℕ) → n ≡ 0 → i ≡ j → b ≡ c → roo
 room-enough n i b j c room none is bs enough = omega (arith, none, is, bs, enough)
 
 -- the mount took memory for an entry of each element
+pub swept-by : (it at : SuperBlock) (room : ℕ) (H K : List Entry1) → it ≡ at → H ≡ [] → room ≡ at.inodes + at.blocks
+    → SweepsServed room it.inodes it.blocks H K → AreSwept at.inodes at.blocks H K
+swept-by it at room H K same empty is sweeps =
+    let none : sweep_entries H ≡ 0 = ap sweep_entries empty in
+    let enough : sweep_entries H + it.inodes + it.blocks ≤ room =
+    room-enough (sweep_entries H) it.inodes it.blocks at.inodes at.blocks room none
+    (ap (λ (s : SuperBlock). s.inodes) same) (ap (λ (s : SuperBlock). s.blocks) same) is in
+    inr (subst (λ (s : SuperBlock). SweepsMade s.inodes s.blocks false (λ c. steps_by c (drop (length H) K))) same
+    (sweeps enough))
+
+-- so it is of a team
 pub swept-of : (scripts : List (List Command)) (it at : SuperBlock) (room : ℕ) (short : Bool) (early : List Bool)
     (lines : List (List Line)) (H K : List Entry1) → it ≡ at → H ≡ [] → room ≡ at.inodes + at.blocks
     → IsUnserved short early lines H K ⊎ TeamEnded scripts room it.inodes it.blocks early lines H K
     → AreSwept at.inodes at.blocks H K
 swept-of scripts it at room short early lines H K same empty is (inl u) = inl u.stays
 swept-of scripts it at room short early lines H K same empty is (inr t) =
-    let none : sweep_entries H ≡ 0 = ap sweep_entries empty in
-    let enough : sweep_entries H + it.inodes + it.blocks ≤ room =
-    room-enough (sweep_entries H) it.inodes it.blocks at.inodes at.blocks room none
-    (ap (λ (s : SuperBlock). s.inodes) same) (ap (λ (s : SuperBlock). s.blocks) same) is in
-    inr (subst (λ (s : SuperBlock). SweepsMade s.inodes s.blocks false (λ c. steps_by c (drop (length H) K))) same
-    (t.sweeps enough))
+    swept-by it at room H K same empty is t.sweeps
 
 -- where there was no memory for its entry, the flush was not made
 pub not-flushed : (H K : List Entry1) → K ≡ H

@@ -187,6 +187,7 @@ none-walked at H text none said = record {
   early = λ e. said;
   follows = visit-closed AreReads at.inodes at.blocks true false [] [] H (reply.Refused refusal.OutOfMemory) refl
       (visit-none AreReads at.inodes at.blocks true [] [] refl refl (All-nil (λ (m : Made). IsReadingStep m.0)))
+      (inl refl)
       (not-flushed [] H none) refl;
 }
 

@@ -16,6 +16,7 @@ use Rattle.nofs_history.specs.Faults.{has_fault}
 use Rattle.nofs_tool.specs.Session.Whole.{IsWholeScan, ShowsDisk}
 use Rattle.nofs_serve.proofs.OnTeams.Gathered.{neither}
 use Rattle.nofs_serve.proofs.OnSession.{team-unserved}
+use Rattle.nofs_tool.specs.Session.Serve.{AreSwept}
 use Rattle.nofs_tool.specs.Visits.Visit.{IsVisitRun}
 use Rattle.nofs_tool.proofs.OnSession.Serve.{adds-others, sweeps-shorter, twice}
 use Rattle.nofs_tool.proofs.OnSession.Whole.{whole-by}
@@ -39,6 +40,7 @@ module _ (P Q : List Made → Type 0) (inodes blocks : ℕ) (short : Bool) where
       blocks_seen = r.made.blocks_seen;
       others = r.made.others;
     };
+    swept = r.swept;
   }
 
 module _ (P : List Made → Type 0) (inodes blocks : ℕ) where
@@ -61,10 +63,10 @@ module _ (P : List Made → Type 0) (inodes blocks : ℕ) where
 
   -- a visit, and then the flush
   pub visit-closed : (out closed : Bool) (before served all : List Entry1) (flush : Reply)
-      → before ≡ [] → VisitServed P inodes blocks out before served
+      → before ≡ [] → VisitServed P inodes blocks out before served → AreSwept inodes blocks before served
       → TellsStep 0 (step.Flush 0 0) served all flush → closed ≡ not (is_out_of_memory flush)
       → IsVisitRun P inodes blocks (out || not closed) all
-  visit-closed out closed before served all flush empty v adds is =
+  visit-closed out closed before served all flush empty v swept adds is =
       let made : VisitMade P inodes blocks out (λ c. steps_by c served) = subst
       (λ (h : List Entry1). VisitMade P inodes blocks out (λ c. steps_by c (drop (length h) served))) empty v.made in
       record {
@@ -80,6 +82,7 @@ module _ (P : List Made → Type 0) (inodes blocks : ℕ) where
               (λ e. (neither out (not closed) e).0) made.blocks_seen;
           others = made.others;
         };
+        swept = subst (λ (h : List Entry1). AreSwept inodes blocks h served) empty swept;
       }
 
   -- the visitor's steps are those of the whole history

@@ -6,7 +6,7 @@
 
 ghost use Rattle.std.specs.Prelude.{◌≡◌, [], false};
 ghost use Rattle.nofs_serve.specs.Visit.{VisitServed};
-ghost use Rattle.nofs_tool.specs.Session.Serve.{IsClosed};
+ghost use Rattle.nofs_tool.specs.Session.Serve.{AreSwept, IsClosed};
 ghost use Rattle.nofs_tool.specs.Visits.Visit.{IsVisitRun};
 
 use crate::session::serve::close;
@@ -18,7 +18,8 @@ use std::alloc::Global;
 use std::sync::Wait;
 use std::thread::Threads;
 
-// A visit, beside the sweeps and the flusher, which writes out as often as the disk has blocks.
+// A visit, beside the sweeps and the flusher, which writes out as often as the disk has blocks. At a new mount both
+// sweeps examine each element, since it took memory for their entries; or nobody is served.
 fn visit<R: Threads + Wait + Sync, D: Disk + Drop + Send, G: Visits>(
     rt: &R,
     alloc: Global,
@@ -27,6 +28,9 @@ fn visit<R: Threads + Wait + Sync, D: Disk + Drop + Send, G: Visits>(
 ) -> Visited<Mount<D>>
     requires { G.is_ready visitor.old }
     ensures same { (result.mount.found.value ≡ mount.found.value) × (result.mount.first ≡ mount.first) }
+    ensures swept { mount.core.books.history.entries ≡ []
+        → AreSwept mount.core.books.at.inodes mount.core.books.at.blocks mount.core.books.history.entries
+        result.mount.core.books.history.entries }
     ensures served { VisitServed (G.visited visitor.old visitor.new []) mount.core.books.at.inodes
         mount.core.books.at.blocks result.out_of_memory
         mount.core.books.history.entries result.mount.core.books.history.entries }

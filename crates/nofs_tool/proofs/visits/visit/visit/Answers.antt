@@ -1,9 +1,10 @@
-use Rattle.std.proofs.Common.{true, [], refl, sym, ap, subst}
+use Rattle.std.proofs.Common.{true, [], inl, refl, sym, ap, subst}
 use denote.Param.{param}
 use denote.Exit.{no}
 use mir.Syntax.{of_param}
 use denote.Param.Send.{Quiet-if}
 use Rattle.nofs_shared.proofs.OnMount.Threads.{evidence-send, mount-send}
+use Rattle.nofs_tool.proofs.OnSession.Serve.{swept-by}
 use Rattle.nofs_tool.proofs.OnVisits.Visit.{visit-none}
 use Rattle.nofs_tool.proofs.visits.visit.visit.Goals as goal
 
@@ -17,6 +18,13 @@ returns-in-Err-clause-served g c =
     visit-none (g.G.Visits.visited c.args.visitor.now c.attend.new.visitor []) at.inodes at.blocks true _ _
     (ap (λ m. m.core.books.history.entries) same.0)
     refl none
+
+pub returns-in-Err-clause-swept : goal.returns-in-Err-clause-swept
+returns-in-Err-clause-swept g c = λ new. inl (ap (λ m. m.core.books.history.entries) c.in-Err.ensures.unvisited.0)
+
+pub returns-in-Ok-clause-swept : goal.returns-in-Ok-clause-swept
+returns-in-Ok-clause-swept g c = λ new.
+    swept-by _ c.args.mount.core.books.at _ _ _ c.numbers-at.ensures.is new refl c.in-Ok.ensures.sweeps
 
 pub attend-requires-send-V-Evidence : goal.attend-requires-send-V-Evidence
 attend-requires-send-V-Evidence g c κs within =

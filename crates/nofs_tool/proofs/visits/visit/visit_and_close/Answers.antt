@@ -19,4 +19,4 @@ returns-clause-ran g c =
     ] in
     subst (λ b. IsVisitRun V at.inodes at.blocks b all) short
     (visit-closed V at.inodes at.blocks out closed _ _ all adds.0 c.requires.new
-    c.visit-mount.ensures.served adds.1 adds.2)
+    c.visit-mount.ensures.served (c.visit-mount.ensures.swept c.requires.new) adds.1 adds.2)

@@ -73,6 +73,7 @@ returns-clause-ran g c =
         blocks_seen = r.made.blocks_seen;
         others = r.made.others;
       };
+      swept = r.swept;
     } in
     subst (λ (x : g.row.Q.Denot × List Entry1).
     IsVisitRun (IsWired left (Q x.0).left) at.inodes at.blocks v.result.out_of_memory x.1)
