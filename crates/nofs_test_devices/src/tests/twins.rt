@@ -1,5 +1,5 @@
 //! Pages with two places: versions that alternate, and places that are torn, exchanged, another page's or rotten.
-use crate::tests::pages::write_page;
+use crate::tests::pages::{byte_at, write_page, write_pages};
 use nofs_filedisk::{MemFile, Positioned, read_part};
 use nofs_pages::{Layout, layout_of, sum_of, twin_pages};
 use std::alloc::Global;
@@ -9,13 +9,8 @@ use std::test::Fail;
 fn after(alloc: Global, bytes: &[u8], rounds: &[u8]) -> Result<Vec<u8>, Fail> {
     let mut file = twin_pages(alloc, MemFile::new(alloc, bytes, 65_536, &[])?, false)?;
     for byte in rounds.iter() {
-        for number in 0..3 {
-            if !write_page(&mut file, number, *byte) {
-                return Err("a write failed".into());
-            }
-        }
-        if file.sync().is_err() {
-            return Err("a sync failed".into());
+        if !write_pages(&mut file, &[(0, *byte), (1, *byte), (2, *byte)]) {
+            return Err("a write or a sync failed".into());
         }
     }
     Ok(file.into_store().into_file().bytes().to_vec(alloc)?)
@@ -39,6 +34,12 @@ fn shown(alloc: Global, bytes: &[u8], fresh: bool) -> Result<u64, Fail> {
     Ok(digits)
 }
 
+// The versions in both places of page 0, and what is shown.
+fn told(alloc: Global, bytes: &[u8]) -> Result<(u8, u8, u64), Fail> {
+    let (first, second) = (byte_at(bytes, 896), byte_at(bytes, 4096 + 896));
+    Ok((first, second, shown(alloc, bytes, false)?))
+}
+
 // Copies bytes from a place of a file to one of another.
 fn copy(from: &[u8], at: usize, count: usize, into: &mut Vec<u8>, to: usize) -> Result<(), Fail> {
     for k in 0..count {
@@ -51,53 +52,84 @@ fn copy(from: &[u8], at: usize, count: usize, into: &mut Vec<u8>, to: usize) -> 
     Ok(())
 }
 
+// After one version, after five and after six.
+fn versions(alloc: Global) -> Result<[(u8, u8, u64); 3], Fail> {
+    let one = after(alloc, &[], &[1])?;
+    let five = after(alloc, one.as_slice(), &[2, 3, 4, 5])?;
+    let six = after(alloc, five.as_slice(), &[6])?;
+    Ok([
+        told(alloc, one.as_slice())?,
+        told(alloc, five.as_slice())?,
+        told(alloc, six.as_slice())?,
+    ])
+}
+
 #[test]
 fn versions_alternate_between_the_places(rt: HostRuntime) -> Result<(), Fail> {
-    let alloc = rt.alloc();
-    let one = after(alloc, &[], &[1])?;
-    assert_eq!(rt; one.len(), 3 * 8192);
-    assert!(rt; one.iter().take(4096).all(|byte| *byte == 0));
-    assert_eq!(rt; one.get(4096..4104), Some(b"NoFStwin".as_slice()));
-    assert_eq!(rt; one.get(4096 + 896), Some(&1));
-    assert_eq!(rt; shown(alloc, one.as_slice(), false)?, 111);
-    let five = after(alloc, one.as_slice(), &[2, 3, 4, 5])?;
-    assert_eq!(rt; five.len(), 3 * 8192);
-    assert_eq!(rt; five.get(896), Some(&4));
-    assert_eq!(rt; five.get(4096 + 896), Some(&5));
-    assert_eq!(rt; shown(alloc, five.as_slice(), false)?, 555);
-    let six = after(alloc, five.as_slice(), &[6])?;
-    assert_eq!(rt; six.get(896), Some(&6));
-    assert_eq!(rt; shown(alloc, six.as_slice(), false)?, 666);
+    assert_eq!(rt;
+        versions(rt.alloc())?,
+        [(0, 1, 111), (4, 5, 555), (6, 5, 666)]
+    );
     Ok(())
+}
+
+// After one version: how many bytes the file has, how many of the first place are zeros, and whether the second one
+// begins as it should.
+fn put_once(alloc: Global) -> Result<(usize, usize, bool), Fail> {
+    let one = after(alloc, &[], &[1])?;
+    let zeros = one.iter().take_while(|byte| **byte == 0).count();
+    let begins = one.get(4096..4104) == Some(b"NoFStwin".as_slice());
+    Ok((one.len(), zeros, begins))
+}
+
+#[test]
+fn a_page_that_was_put_once_has_a_blank_first_place(rt: HostRuntime) -> Result<(), Fail> {
+    assert_eq!(rt; put_once(rt.alloc())?, (3 * 8192, 4096, true));
+    Ok(())
+}
+
+// What is shown where the place of page 0 that was being written has its first 0, 1, 2 .. sectors.
+fn torn(alloc: Global) -> Result<[u64; 9], Fail> {
+    let old = after(alloc, &[], &[1, 2])?;
+    let new = after(alloc, old.as_slice(), &[3])?;
+    let mut found = [0; 9];
+    for sectors in 0..9 {
+        let mut crashed = old.as_slice().to_vec(alloc)?;
+        copy(new.as_slice(), 4096, 512 * sectors, &mut crashed, 4096)?;
+        found[sectors] = shown(alloc, crashed.as_slice(), false)?;
+    }
+    Ok(found)
 }
 
 #[test]
 fn a_place_that_is_torn_leaves_the_version_before(rt: HostRuntime) -> Result<(), Fail> {
-    let alloc = rt.alloc();
-    let old = after(alloc, &[], &[1, 2])?;
-    let new = after(alloc, old.as_slice(), &[3])?;
-    for sectors in 0..9 {
-        // The place of page 0 that was being written has its first sectors.
-        let mut crashed = old.as_slice().to_vec(alloc)?;
-        copy(new.as_slice(), 4096, 512 * sectors, &mut crashed, 4096)?;
-        let wanted = if sectors == 8 { 322 } else { 222 };
-        assert_eq!(rt; shown(alloc, crashed.as_slice(), false)?, wanted);
-    }
-    // One that was put once has zeros before.
-    let first = after(alloc, &[], &[4])?;
-    let mut crashed = first.as_slice().to_vec(alloc)?;
-    copy(first.as_slice(), 0, 512, &mut crashed, 8192 + 4096 + 512)?;
-    assert_eq!(rt; shown(alloc, crashed.as_slice(), false)?, 404);
+    assert_eq!(rt;
+        torn(rt.alloc())?,
+        [222, 222, 222, 222, 222, 222, 222, 222, 322]
+    );
     Ok(())
 }
 
+// What is shown where the only version of page 1 is torn.
+fn torn_once(alloc: Global) -> Result<u64, Fail> {
+    let first = after(alloc, &[], &[4])?;
+    let mut crashed = first.as_slice().to_vec(alloc)?;
+    copy(first.as_slice(), 0, 512, &mut crashed, 8192 + 4096 + 512)?;
+    shown(alloc, crashed.as_slice(), false)
+}
+
 #[test]
-fn any_mixture_of_old_and_new_bytes_leaves_the_version_before(rt: HostRuntime) -> Result<(), Fail> {
-    let alloc = rt.alloc();
+fn a_page_that_was_put_once_has_zeros_before(rt: HostRuntime) -> Result<(), Fail> {
+    assert_eq!(rt; torn_once(rt.alloc())?, 404);
+    Ok(())
+}
+
+// What is shown where each byte of the place of page 0 that was being written is the old or the new one, by lot.
+fn mixed(alloc: Global) -> Result<[u64; 8], Fail> {
     let old = after(alloc, &[], &[1, 2])?;
     let new = after(alloc, old.as_slice(), &[3])?;
-    let mut draw: u64 = 88_172_645_463_325_252;
-    for _ in 0..8 {
+    let (mut draw, mut found) = (88_172_645_463_325_252u64, [0; 8]);
+    for trial in 0..8 {
         let mut crashed = old.as_slice().to_vec(alloc)?;
         for at in 4096..8192 {
             // George Marsaglia, "Xorshift RNGs", 2003.
@@ -108,70 +140,100 @@ fn any_mixture_of_old_and_new_bytes_leaves_the_version_before(rt: HostRuntime) -
                 copy(new.as_slice(), at, 1, &mut crashed, at)?;
             }
         }
-        assert_eq!(rt; shown(alloc, crashed.as_slice(), false)?, 222);
+        found[trial] = shown(alloc, crashed.as_slice(), false)?;
     }
-    Ok(())
+    Ok(found)
 }
 
 #[test]
-fn places_that_are_exchanged_are_not_read(rt: HostRuntime) -> Result<(), Fail> {
-    let alloc = rt.alloc();
+fn any_mixture_of_old_and_new_bytes_leaves_the_version_before(rt: HostRuntime) -> Result<(), Fail> {
+    assert_eq!(rt; mixed(rt.alloc())?, [222; 8]);
+    Ok(())
+}
+
+// What is shown where the places of page 1 are exchanged, as found and to be written anew; where page 0's first place
+// stands there; and where both do.
+fn exchanged(alloc: Global) -> Result<[u64; 4], Fail> {
     let bytes = after(alloc, &[], &[1, 2])?;
     let mut swapped = bytes.as_slice().to_vec(alloc)?;
     copy(bytes.as_slice(), 8192, 4096, &mut swapped, 8192 + 4096)?;
     copy(bytes.as_slice(), 8192 + 4096, 4096, &mut swapped, 8192)?;
-    assert_eq!(rt; shown(alloc, swapped.as_slice(), false)?, 292);
-    assert_eq!(rt; shown(alloc, swapped.as_slice(), true)?, 202);
+    let found = shown(alloc, swapped.as_slice(), false)?;
+    let fresh = shown(alloc, swapped.as_slice(), true)?;
     let mut strange = bytes.as_slice().to_vec(alloc)?;
     copy(bytes.as_slice(), 0, 4096, &mut strange, 8192)?;
-    assert_eq!(rt; shown(alloc, strange.as_slice(), false)?, 212);
+    let one = shown(alloc, strange.as_slice(), false)?;
     copy(bytes.as_slice(), 4096, 4096, &mut strange, 8192 + 4096)?;
-    assert_eq!(rt; shown(alloc, strange.as_slice(), false)?, 292);
+    Ok([found, fresh, one, shown(alloc, strange.as_slice(), false)?])
+}
+
+#[test]
+fn places_that_are_exchanged_are_not_read(rt: HostRuntime) -> Result<(), Fail> {
+    assert_eq!(rt; exchanged(rt.alloc())?, [292, 202, 212, 292]);
     Ok(())
+}
+
+// Page 1 has no place that is told, and is then put: what is shown before and after, the version in its first place,
+// and whether its second one stays.
+fn put_over_untold(alloc: Global) -> Result<(u64, u64, u8, bool), Fail> {
+    let mut bad = after(alloc, &[], &[1, 2])?;
+    copy(&[7, 7, 7], 0, 3, &mut bad, 8192 + 4000)?;
+    copy(&[7, 7, 7], 0, 3, &mut bad, 8192 + 8000)?;
+    let before = shown(alloc, bad.as_slice(), false)?;
+    let next = after(alloc, bad.as_slice(), &[3])?;
+    let version = byte_at(next.as_slice(), 8192 + 896);
+    let stays = next.get(12_288..16_384) == bad.get(12_288..16_384);
+    Ok((
+        before,
+        shown(alloc, next.as_slice(), false)?,
+        version,
+        stays,
+    ))
 }
 
 #[test]
 fn a_page_without_a_told_place_is_put_to_the_first_one(rt: HostRuntime) -> Result<(), Fail> {
-    let alloc = rt.alloc();
-    let bytes = after(alloc, &[], &[1, 2])?;
-    let mut bad = bytes.as_slice().to_vec(alloc)?;
-    copy(&[7, 7, 7], 0, 3, &mut bad, 8192 + 4000)?;
-    copy(&[7, 7, 7], 0, 3, &mut bad, 8192 + 8000)?;
-    assert_eq!(rt; shown(alloc, bad.as_slice(), false)?, 292);
-    let next = after(alloc, bad.as_slice(), &[3])?;
-    assert_eq!(rt; next.get(8192 + 896), Some(&2));
-    assert_eq!(rt; next.get(8192 + 4096 + 896), bad.get(8192 + 4096 + 896));
-    assert_eq!(rt; shown(alloc, next.as_slice(), false)?, 333);
+    assert_eq!(rt; put_over_untold(rt.alloc())?, (292, 333, 2, true));
     Ok(())
 }
 
-#[test]
-fn a_file_that_had_another_layout_shows_its_own_at_once(rt: HostRuntime) -> Result<(), Fail> {
-    let alloc = rt.alloc();
+// A packed file is written anew: whether that was done, whether its first place begins as it should, what is shown.
+fn over_packed(alloc: Global) -> Result<(bool, bool, u64), Fail> {
     let mut old = vec![in alloc; 5u8; 24_576]?;
     copy(b"NoFSv001".as_slice(), 0, 8, &mut old, 0)?;
     let file = MemFile::new(alloc, old.as_slice(), 65_536, &[])?;
     let mut file = twin_pages(alloc, file, true)?;
-    assert!(rt; write_page(&mut file, 0, 1) && file.sync().is_ok());
+    let done = write_pages(&mut file, &[(0, 1)]);
     let new = file.into_store().into_file().bytes().to_vec(alloc)?;
-    assert_eq!(rt; new.get(..8), Some(b"NoFStwin".as_slice()));
-    assert_eq!(rt; shown(alloc, new.as_slice(), false)?, 199);
-    Ok(())
+    let begins = new.get(..8) == Some(b"NoFStwin".as_slice());
+    Ok((done, begins, shown(alloc, new.as_slice(), false)?))
 }
 
 #[test]
-fn a_second_write_before_a_sync_makes_one(rt: HostRuntime) -> Result<(), Fail> {
-    let file = MemFile::new(rt.alloc(), &[], 65_536, &[])?;
-    let mut file = twin_pages(rt.alloc(), file, false)?;
-    assert!(rt; write_page(&mut file, 0, 1) && write_page(&mut file, 5, 2));
-    assert!(rt; write_page(&mut file, 0, 3) && write_page(&mut file, 7, 4));
-    assert!(rt; file.sync().is_ok());
+fn a_file_that_had_another_layout_shows_its_own_at_once(rt: HostRuntime) -> Result<(), Fail> {
+    assert_eq!(rt; over_packed(rt.alloc())?, (true, true, 199));
+    Ok(())
+}
+
+// Writes page 0, page 5, page 0 again and page 7: whether that was done, how many calls it took, and a byte of each
+// place of page 0.
+fn written_again(alloc: Global) -> Result<(bool, u64, u8, u8), Fail> {
+    let file = MemFile::new(alloc, &[], 65_536, &[])?;
+    let mut file = twin_pages(alloc, file, false)?;
+    let done = write_pages(&mut file, &[(0, 1), (5, 2), (0, 3), (7, 4)]);
     let file = file.into_store().into_file();
-    // Page 0, page 5, a sync, page 0 again, page 7, and the sync that was asked for; a page is read before it is first
-    // put.
-    assert_eq!(rt; file.calls(), 9);
-    assert_eq!(rt; file.bytes().get(4096 + 928), Some(&1));
-    assert_eq!(rt; file.bytes().get(928), Some(&3));
+    let (first, second) = (
+        byte_at(file.bytes(), 928),
+        byte_at(file.bytes(), 4096 + 928),
+    );
+    Ok((done, file.calls(), first, second))
+}
+
+// Four writes, a sync before the second one of page 0, and the sync that was asked for; a page is read before it is
+// first put.
+#[test]
+fn a_second_write_before_a_sync_makes_one(rt: HostRuntime) -> Result<(), Fail> {
+    assert_eq!(rt; written_again(rt.alloc())?, (true, 9, 3, 1));
     Ok(())
 }
 
@@ -186,28 +248,30 @@ fn last_version(alloc: Global, byte: u8) -> Result<Vec<u8>, Fail> {
     Ok(page)
 }
 
-#[test]
-fn a_version_without_a_next_one_stays(rt: HostRuntime) -> Result<(), Fail> {
-    let alloc = rt.alloc();
+// Page 0 has the greatest version, and is put: what is shown before, whether it was put and synced, and whether all
+// stays.
+fn put_over_last(alloc: Global) -> Result<(u64, bool, bool, bool), Fail> {
     let mut bytes = vec![in alloc; 0u8; 24_576]?;
-    copy(
-        last_version(alloc, 8)?.as_slice(),
-        0,
-        4096,
-        &mut bytes,
-        4096,
-    )?;
-    assert_eq!(rt; shown(alloc, bytes.as_slice(), false)?, 800);
+    let last = last_version(alloc, 8)?;
+    copy(last.as_slice(), 0, 4096, &mut bytes, 4096)?;
+    let before = shown(alloc, bytes.as_slice(), false)?;
     let file = MemFile::new(alloc, bytes.as_slice(), 65_536, &[])?;
     let mut file = twin_pages(alloc, file, false)?;
-    assert!(rt; write_page(&mut file, 0, 1) && file.sync().is_err());
-    let left = file.into_store().into_file().bytes().to_vec(alloc)?;
-    assert_eq!(rt; left.as_slice(), bytes.as_slice());
+    let (put, synced) = (write_page(&mut file, 0, 1), file.sync().is_ok());
+    let stays = file.into_store().into_file().bytes() == bytes.as_slice();
+    Ok((before, put, synced, stays))
+}
+
+// The row is taken before it is put to the file.
+#[test]
+fn a_version_without_a_next_one_stays(rt: HostRuntime) -> Result<(), Fail> {
+    assert_eq!(rt; put_over_last(rt.alloc())?, (800, true, false, true));
     Ok(())
 }
 
 // The layout of a file with these first words in its first two pages.
-fn layout(alloc: Global, first: &[u8], second: &[u8]) -> Result<Layout, Fail> {
+fn layout(alloc: Global, words: (&[u8], &[u8])) -> Result<Layout, Fail> {
+    let (first, second) = words;
     let mut bytes = vec![in alloc; 0u8; 8_192]?;
     copy(first, 0, first.len(), &mut bytes, 0)?;
     copy(second, 0, second.len(), &mut bytes, 4096)?;
@@ -217,14 +281,17 @@ fn layout(alloc: Global, first: &[u8], second: &[u8]) -> Result<Layout, Fail> {
 
 #[test]
 fn a_layout_is_known_by_the_first_words(rt: HostRuntime) -> Result<(), Fail> {
-    let alloc = rt.alloc();
     let (packed, paged) = (b"NoFSv001".as_slice(), b"NoFSpage".as_slice());
     let (twin, torn) = (b"NoFStwin".as_slice(), b"NoFStwom".as_slice());
-    assert_eq!(rt; layout(alloc, twin, torn)?, Layout::Twin);
-    assert_eq!(rt; layout(alloc, torn, twin)?, Layout::Twin);
-    assert_eq!(rt; layout(alloc, &[], twin)?, Layout::Twin);
-    assert_eq!(rt; layout(alloc, packed, twin)?, Layout::Packed);
-    assert_eq!(rt; layout(alloc, paged, twin)?, Layout::Paged);
-    assert_eq!(rt; layout(alloc, torn, torn)?, Layout::Packed);
+    for (first, second, wanted) in [
+        (twin, torn, Layout::Twin),
+        (torn, twin, Layout::Twin),
+        (b"".as_slice(), twin, Layout::Twin),
+        (packed, twin, Layout::Packed),
+        (paged, twin, Layout::Paged),
+        (torn, torn, Layout::Packed),
+    ] {
+        assert_eq!(rt; layout(rt.alloc(), (first, second))?, wanted);
+    }
     Ok(())
 }
