@@ -24,7 +24,7 @@ def put(at, data):
     return frame(nofs_client.PUT, nofs_client.handle(LABEL) + struct.pack("<QI", 0, at) + data)
 
 
-# Frames and replies of the table of docs/FORMAT.md, "Frames", over an image whose label file is empty.
+# Frames and replies of the list of docs/FORMAT.md, "Frames", over an image whose label file is empty.
 STAT = bytes.fromhex("0d000000 0a 02000000 0200000000000000")
 STATTED = bytes.fromhex("0e000000 00 01 0000000000000000 00000000")
 GET_HOLE = bytes.fromhex("15000000 07 02000000 0200000000000000 0000000000000000")

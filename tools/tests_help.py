@@ -19,11 +19,11 @@ def page(name):
     return read(os.path.join(HOME, "docs", name)).decode()
 
 
-def rows(text, heading):
-    """The rows of the first table behind a heading of a page, as cells."""
+def items(text, heading):
+    """The items of the first list behind a heading of a page, each in one line."""
     part = text[text.index(f"\n{heading}\n"):]
-    table = re.search(r"\n\|[^\n]*\|\n\|[-| ]+\|\n((?:\|[^\n]*\n)+)", part).group(1)
-    return [[cell.strip().replace("\\|", "|") for cell in re.split(r"(?<!\\)\|", line)[1:-1]] for line in table.splitlines()]
+    found = re.search(r"\n\n((?:- [^\n]*\n(?:  [^\n]*\n)*)+)", part).group(1)
+    return [re.sub(r"\s+", " ", it).strip() for it in re.split(r"(?m)^- ", found)[1:]]
 
 
 def plain(text):
@@ -56,20 +56,20 @@ class Help(Folders):
             self.assertRegex(self.help, rf"(?m)^  {word}\b")
 
     def test_both_have_each_command_of_a_session_with_its_words(self):
-        commands = rows(page("FORMAT.md"), "## Session text")
+        commands = [CELL.match(it).group(1) for it in items(page("FORMAT.md"), "## Session text")]
         self.assertEqual(len(commands), 12)
-        for name, words, _ in commands:
-            # a NEWPATH that comes first is a path here
-            self.each([f"{name.strip('`')} {re.sub('^NEWPATH', 'PATH', words)}"])
+        # a NEWPATH that comes first is a path here
+        self.each([re.sub(r"^(\w+) NEWPATH", r"\1 PATH", it) for it in commands])
 
     def test_both_have_the_line_of_each_command(self):
-        for _, line in rows(page("FORMAT.md"), "## Lines")[:-1]:
+        lines = [it.split(": ", 1)[1] for it in items(page("FORMAT.md"), "## Lines")[:-1]]
+        self.assertEqual(len(lines), 7)
+        for line in lines:
             self.each([text.split()[0] for text in CELL.findall(line) if text.strip() and text.strip()[0] != "/"])
 
     def test_the_page_of_man_has_each_refusal(self):
-        cells = [cell for row in re.findall(r"(?m)^\| (\d+) \| `([^`]+)` \| (\d+) \| `([^`]+)` \|$", page("FORMAT.md")) for cell in row]
-        texts = cells[1::2]
-        self.assertEqual(len(texts), 20)
+        texts = re.findall(r"`(\d+ [a-z][^`]*)`", page("FORMAT.md").split("\n## Lines\n")[1].split("\n## ")[0])
+        self.assertEqual([int(it.split()[0]) for it in texts], list(range(1, 21)))
         self.assertEqual([it for it in texts if it not in self.man], [])
 
     def test_both_have_the_statuses_0_to_8(self):

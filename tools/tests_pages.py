@@ -72,13 +72,13 @@ class Pages(unittest.TestCase):
 
         self.each(lost)
 
-    def test_a_call_of_the_table_of_promises_can_be_called(self):
+    def test_a_call_of_the_list_of_promises_can_be_called(self):
         """A function stands in the crate's lib.rt, and so does the type of a method; a trait in that of its own crate."""
         traits = "\n".join(read(f"crates/{it}/src/lib.rt") for it in ("nofs_filedisk", "nofs_turn"))
-        table = read("docs/PROMISES.md").split("\n## The calls\n")[1]
+        calls = re.findall(r"(?ms)^- \*\*(`nofs_.*?)\*\*", read("docs/PROMISES.md").split("\n## The calls\n")[1])
         lost, seen = [], 0
-        for cell in (line.split("|")[1] for line in table.splitlines() if line.startswith("| `nofs_")):
-            for part in re.split(r"; (?=`nofs_)", cell):
+        for entry in calls:
+            for part in re.split(r";\s(?=`nofs_)", entry):
                 crate, item = re.search(r"`(nofs_[a-z]+)(?:::(\w+))?", part).groups()
                 exported, text = read(f"crates/{crate}/src/lib.rt") + traits, sources(crate)
                 words = [item] if item else []
