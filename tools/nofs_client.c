@@ -1,4 +1,5 @@
-/* Frames of NoFS over a socket, which is the program's standard input and output (docs/FORMAT.md, "Frames"). */
+/* Frames of NoFS over two pipes, which are the program's standard input and output (docs/FORMAT.md, "Frames"). */
+#define _GNU_SOURCE
 #include "nofs_client.h"
 
 #include <errno.h>
@@ -7,7 +8,6 @@
 #include <signal.h>
 #include <stdlib.h>
 #include <string.h>
-#include <sys/socket.h>
 #include <sys/wait.h>
 #include <time.h>
 #include <unistd.h>
@@ -17,7 +17,7 @@ enum {
     /* of them are kept to examine by, so that a step is asked again in the session that refused it */
     RESERVE = 1 << 16,
     ROOM = 1 << 18,             /* for what is received at once */
-    SOCKET_BYTES = 1 << 20,
+    PIPE_BYTES = 1 << 20,
     BODY_BYTES = 1100,
     SEEN_AT_ONCE = 64,          /* often nothing but the last of an image is free */
     ROUNDS = 1 << 15,           /* of examining, which is twice the blocks of the largest image */
@@ -56,32 +56,57 @@ static int grow_replies(struct nofs *it)
 
 /* In a session of its own: a signal from the terminal ends the program only by way of its caller, which may flush
  * before. */
-static void become_program(const struct nofs *it, int end)
+static void become_program(const struct nofs *it, int from, int to)
 {
     sigset_t none;
     sigemptyset(&none);
     sigprocmask(SIG_SETMASK, &none, NULL);
     setsid();
-    for (int n = 0; n < 2; n++) {
-        dup2(end, n);
-        fcntl(n, F_SETFD, 0);
-    }
+    if (dup2(from, 0) < 0 || dup2(to, 1) < 0) _exit(127);
     execl(it->program, it->program, it->image, "wire", (char *)0);
     _exit(127);
 }
 
+/* A descriptor above those of the program's standard files, which it must not be closed or taken for. */
+static int above_standard(int file)
+{
+    int moved = file < 0 || file > 2 ? file : fcntl(file, F_DUPFD_CLOEXEC, 3);
+    if (moved != file) close(file);
+    return moved;
+}
+
+/* One that is larger takes a large batch at once; one that can't grow does as well. */
+static int make_pipe(int ends[2])
+{
+    if (pipe2(ends, O_CLOEXEC)) return 0;
+    for (int n = 0; n < 2; n++) ends[n] = above_standard(ends[n]);
+    if (ends[0] < 0 || ends[1] < 0) return 0;
+    fcntl(ends[1], F_SETPIPE_SZ, PIPE_BYTES);
+    return 1;
+}
+
+static void close_all(const int *files, int count)
+{
+    for (int n = 0; n < count; n++)
+        if (files[n] >= 0) close(files[n]);
+}
+
 static int start(struct nofs *it)
 {
-    int ends[2], room = SOCKET_BYTES;
-    if (socketpair(AF_UNIX, SOCK_STREAM | SOCK_CLOEXEC, 0, ends)) return NOFS_ENDED;
-    for (int n = 0; n < 2; n++) setsockopt(ends[n], SOL_SOCKET, SO_SNDBUF, &room, sizeof room);
-    it->child = fork();
-    if (it->child == 0) become_program(it, ends[1]);
-    close(ends[1]);
+    int ends[4] = {-1, -1, -1, -1};     /* to the program, and from it: where it is read, and where it is written */
+    struct sigaction broken;
+    if (!make_pipe(ends) || !make_pipe(ends + 2) || fcntl(ends[1], F_SETFL, O_NONBLOCK) || (it->child = fork()) < 0) {
+        close_all(ends, 4);
+        return NOFS_ENDED;
+    }
+    if (it->child == 0) become_program(it, ends[0], ends[3]);
+    close(ends[0]);
+    close(ends[3]);
+    it->to = ends[1];
+    it->from = ends[2];
     it->sent = 0;
-    it->socket = it->child > 0 ? ends[0] : -1;
-    if (it->child < 0) close(ends[0]);
-    return it->child > 0 ? NOFS_OK : NOFS_ENDED;
+    it->is_quiet = !sigaction(SIGPIPE, NULL, &broken) && broken.sa_handler == SIG_IGN;
+    return NOFS_OK;
 }
 
 /* One that goes on without a client that takes its replies is ended by force. */
@@ -100,18 +125,30 @@ static int wait_with_grace(pid_t child, int *status)
 static int end_program(struct nofs *it, int with_grace)
 {
     int status = 0, done;
-    shutdown(it->socket, SHUT_WR);
+    close(it->to);
     if (!with_grace || !wait_with_grace(it->child, &status))
         while ((done = waitpid(it->child, &status, 0)) < 0 && errno == EINTR) {}
-    close(it->socket);
-    it->socket = -1;
+    close(it->from);
+    it->to = it->from = -1;
     return WIFEXITED(status) ? WEXITSTATUS(status) : 128 + WTERMSIG(status);
 }
 
-/* A program that refuses the image says so on the stream, in a line that is no frame. */
+/* Waits for some. */
+static int receive(struct nofs *it)
+{
+    if (it->in.room - it->in.length < ROOM / 4 && !grow(&it->in, ROOM)) return NOFS_ENDED;
+    ssize_t got = read(it->from, it->in.bytes + it->in.length, it->in.room - it->in.length);
+    if (got > 0) it->in.length += (size_t)got;
+    return got > 0 || (got < 0 && errno == EINTR) ? NOFS_OK : NOFS_ENDED;
+}
+
+/* A program that refuses the image says so on the stream, in a line that is no frame; it may have ended before it was
+ * given anything. */
 static void keep_said(struct nofs *it)
 {
+    struct pollfd end = {it->from, POLLIN, 0};
     size_t length = 0;
+    if (it->in.length == 0 && it->from >= 0 && poll(&end, 1, 0) > 0) receive(it);
     for (; length < it->in.length && length + 1 < sizeof it->said; length++) {
         char said = (char)it->in.bytes[length];
         if (said < ' ' || said > '~') break;
@@ -123,7 +160,7 @@ static void keep_said(struct nofs *it)
 static int ended(struct nofs *it)
 {
     keep_said(it);
-    if (it->socket >= 0) it->status = end_program(it, 1);
+    if (it->to >= 0) it->status = end_program(it, 1);
     else if (!it->status) it->status = 127;
     it->ended = 1;
     if (it->on_end) it->on_end(it->with);
@@ -135,25 +172,25 @@ int nofs_open(struct nofs *it, const char *program, const char *image)
     memset(it, 0, sizeof *it);
     it->program = program;
     it->image = image;
-    it->socket = -1;
+    it->to = it->from = -1;
     return start(it);
 }
 
 int nofs_again(struct nofs *it)
 {
     it->ended = 0;
-    return it->socket >= 0 || start(it) == NOFS_OK ? NOFS_OK : ended(it);
+    return it->to >= 0 || start(it) == NOFS_OK ? NOFS_OK : ended(it);
 }
 
 int nofs_close(struct nofs *it)
 {
-    int status = it->socket < 0 ? it->status : end_program(it, 0);
+    int status = it->to < 0 ? it->status : end_program(it, 0);
     free(it->out.bytes);
     free(it->in.bytes);
     free(it->starts);
     free(it->replies);
     memset(it, 0, sizeof *it);
-    it->socket = -1;
+    it->to = it->from = -1;
     it->ended = 1;
     it->status = status;
     return status;
@@ -161,7 +198,7 @@ int nofs_close(struct nofs *it)
 
 int nofs_watch(struct nofs *it)
 {
-    struct pollfd end = {it->socket, POLLIN, 0};
+    struct pollfd end = {it->from, POLLIN, 0};
     if (it->ended) return NOFS_ENDED;
     it->in.length = 0;
     return poll(&end, 1, 0) > 0 ? ended(it) : NOFS_OK;
@@ -343,20 +380,38 @@ static long whole_frames(const struct nofs_bytes *in, size_t *at)
     return count;
 }
 
-static int receive(struct nofs *it, int flags)
+/* A program that is gone is no signal to the caller. */
+static ssize_t write_quietly(const struct nofs *it, const uint8_t *from, size_t length)
 {
-    if (it->in.room - it->in.length < ROOM / 4 && !grow(&it->in, ROOM)) return NOFS_ENDED;
-    ssize_t got = recv(it->socket, it->in.bytes + it->in.length, it->in.room - it->in.length, flags);
-    if (got > 0) it->in.length += (size_t)got;
-    return got > 0 || (got < 0 && (errno == EINTR || errno == EAGAIN)) ? NOFS_OK : NOFS_ENDED;
+    const struct timespec at_once = {0, 0};
+    sigset_t broken, old;
+    if (it->is_quiet) return write(it->to, from, length);
+    sigemptyset(&broken);
+    sigaddset(&broken, SIGPIPE);
+    pthread_sigmask(SIG_BLOCK, &broken, &old);
+    ssize_t some = write(it->to, from, length);
+    int error = errno;
+    if (some < 0 && error == EPIPE && !sigismember(&old, SIGPIPE)) sigtimedwait(&broken, NULL, &at_once);
+    pthread_sigmask(SIG_SETMASK, &old, NULL);
+    errno = error;
+    return some;
 }
 
 /* Gives what goes without waiting. */
-static int give(struct nofs *it, const uint8_t *from, size_t length, size_t *put)
+static int give(const struct nofs *it, const uint8_t *from, size_t length, size_t *put)
 {
-    ssize_t some = send(it->socket, from + *put, length - *put, MSG_NOSIGNAL | MSG_DONTWAIT);
+    ssize_t some = write_quietly(it, from + *put, length - *put);
     if (some > 0) *put += (size_t)some;
     return some > 0 || errno == EINTR || errno == EAGAIN ? NOFS_OK : NOFS_ENDED;
+}
+
+/* Waits for replies, or for room while something is left to give; and whether there are replies. */
+static int wait_for_both(const struct nofs *it, int *is_there)
+{
+    struct pollfd ends[2] = {{it->from, POLLIN, 0}, {it->to, POLLOUT, 0}};
+    if (poll(ends, 2, -1) < 0 && errno != EINTR) return NOFS_ENDED;
+    *is_there = ends[0].revents != 0;
+    return NOFS_OK;
 }
 
 /* Both directions at once: the program takes nothing where nobody takes its replies. Once all is given, a
@@ -365,12 +420,10 @@ static int pump(struct nofs *it, const uint8_t *from, size_t length, size_t coun
 {
     size_t put = 0, seen = 0, place = 0;
     while (seen < count) {
+        int is_there = 1;
         if (put < length && give(it, from, length, &put)) return NOFS_ENDED;
-        if (put < length) {
-            struct pollfd end = {it->socket, POLLIN | POLLOUT, 0};
-            if (poll(&end, 1, -1) < 0 && errno != EINTR) return NOFS_ENDED;
-        }
-        if (receive(it, put < length ? MSG_DONTWAIT : 0)) return NOFS_ENDED;
+        if (put < length && wait_for_both(it, &is_there)) return NOFS_ENDED;
+        if (is_there && receive(it)) return NOFS_ENDED;
         long more = whole_frames(&it->in, &place);
         if (more < 0) return NOFS_ENDED;
         seen += (size_t)more;
