@@ -69,9 +69,10 @@ static int look_for_losses(struct mount *it, struct node *node)
 
 static int is_direct(const struct fuse_file_info *file) { return file->fh != 0; }
 
-static void open_handle(struct node *node, struct fuse_file_info *file)
+static void open_handle(struct mount *it, struct node *node, struct fuse_file_info *file)
 {
     node->opened++;
+    it->open_files++;
     file->fh = node->is_lossy;
     file->keep_cache = !node->is_lossy; /* nobody but the kernel changes it */
     file->direct_io = node->is_lossy != 0;
@@ -80,6 +81,7 @@ static void open_handle(struct node *node, struct fuse_file_info *file)
 
 void close_node(struct mount *it, struct node *node)
 {
+    if (node->kind == NOFS_FILE) it->open_files--;
     if (--node->opened == 0 && node->hidden && !node->seen) hidden_let_go(it, node);
     if (it->ahead.node == node) it->ahead.node = NULL;
     nodes_forget(&it->nodes, node, 0);
@@ -96,7 +98,7 @@ void do_open(fuse_req_t request, fuse_ino_t number, struct fuse_file_info *file)
     if (answer && file->flags & O_TRUNC) reply_answer(request, answer);
     else if (answer) reply_asked(request, answer);
     if (answer) return;
-    open_handle(node, file);
+    open_handle(it, node, file);
     if (fuse_reply_open(request, file)) close_node(it, node);
 }
 
@@ -106,7 +108,7 @@ void do_create(fuse_req_t request, fuse_ino_t parent, const char *name, mode_t m
     struct node *node = make(request, parent, name, NOFS_FILE, mode);
     if (!node) return;
     struct fuse_entry_param entry = entry_of(it, node);
-    open_handle(node, file);
+    open_handle(it, node, file);
     if (!fuse_reply_create(request, &entry, file)) return;
     close_node(it, node);
     nodes_forget(&it->nodes, node, 1);

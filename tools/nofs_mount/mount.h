@@ -32,6 +32,7 @@ struct mount {
     /* the first bytes of a file that was opened just now, in `buffer` */
     struct { const struct node *node; size_t length; } ahead;
     uint64_t requests;          /* of the kernel; SIGUSR1 asks for them */
+    uint32_t open_files;        /* as often as they are open */
     int may_ask_again, is_unanswered; /* the request that is served now; it met the end of a session */
 };
 

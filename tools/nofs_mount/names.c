@@ -191,16 +191,40 @@ static void unhide(struct mount *it, struct node *node)
     node->gone = 0;
 }
 
+/* Where no file is open none has to be kept, and a name is looked up and dropped in one batch: it is of the kind that
+ * the kernel saw, unless a session ended since. */
+static int drop_at_once(struct mount *it, const struct node *folder, const char *name, struct node **node)
+{
+    struct nofs_found found;
+    *node = NULL;
+    if (is_hidden(it, folder, name)) return NOFS_MISSING;
+    nofs_begin(&it->nofs);
+    nofs_add_look(&it->nofs, folder->at, name);
+    nofs_add_drop(&it->nofs, folder->at, name);
+    int answer = nofs_claim(&it->nofs, NULL);
+    if (!answer) answer = nofs_take_found(&it->nofs.replies[0], &found);
+    if (!answer) *node = nodes_find(&it->nodes, found.at);
+    return answer;
+}
+
+static int look_and_drop(struct mount *it, const struct node *folder, const char *name, enum nofs_kind kind,
+                         struct node **node)
+{
+    int answer = look(it, folder, name, node);
+    if (!answer && (*node)->kind != kind) answer = kind == NOFS_FILE ? NOFS_IS_A_DIRECTORY : NOFS_NOT_A_DIRECTORY;
+    if (!answer) answer = keep(it, *node, (*node)->opened != 0);
+    if (!answer && (answer = nofs_drop(&it->nofs, folder->at, name)) && answer != NOFS_ENDED) unhide(it, *node);
+    return answer;
+}
+
 static void remove_name(fuse_req_t request, fuse_ino_t parent, const char *name, enum nofs_kind kind)
 {
     struct mount *it = mount_of(request);
     struct node *folder = node_of(it, parent), *node;
     if (is_refused_stale(request, folder, ESTALE)) return;
-    int answer = look(it, folder, name, &node);
-    if (!answer && node->kind != kind) answer = kind == NOFS_FILE ? NOFS_IS_A_DIRECTORY : NOFS_NOT_A_DIRECTORY;
-    if (!answer) answer = keep(it, node, node->opened != 0);
-    if (!answer && (answer = nofs_drop(&it->nofs, folder->at, name)) && answer != NOFS_ENDED) unhide(it, node);
-    if (!answer) {
+    int answer = it->open_files || it->ends ? look_and_drop(it, folder, name, kind, &node)
+                                            : drop_at_once(it, folder, name, &node);
+    if (!answer && node) {
         lost_name(it, folder, node);
         nodes_touch(&it->nodes, folder);
         nodes_forget(&it->nodes, node, 0);
