@@ -8,6 +8,7 @@
 #include <signal.h>
 #include <stdlib.h>
 #include <string.h>
+#include <sys/uio.h>
 #include <sys/wait.h>
 #include <time.h>
 #include <unistd.h>
@@ -18,6 +19,7 @@ enum {
     RESERVE = 1 << 16,
     ROOM = 1 << 18,             /* for what is received at once */
     PIPE_BYTES = 1 << 20,
+    LARGE = 1 << 16,
     BODY_BYTES = 1100,
     SEEN_AT_ONCE = 64,          /* often nothing but the last of an image is free */
     ROUNDS = 1 << 15,           /* of examining, which is twice the blocks of the largest image */
@@ -380,16 +382,24 @@ static long whole_frames(const struct nofs_bytes *in, size_t *at)
     return count;
 }
 
+/* A large batch goes without being copied: it stands until its replies are there. */
+static ssize_t pass(int to, const uint8_t *from, size_t length)
+{
+    const struct iovec all = {(void *)(uintptr_t)from, length};
+    ssize_t some = length < LARGE ? 0 : vmsplice(to, &all, 1, SPLICE_F_NONBLOCK);
+    return some > 0 || (some < 0 && errno != EINVAL && errno != ENOSYS) ? some : write(to, from, length);
+}
+
 /* A program that is gone is no signal to the caller. */
-static ssize_t write_quietly(const struct nofs *it, const uint8_t *from, size_t length)
+static ssize_t pass_quietly(const struct nofs *it, const uint8_t *from, size_t length)
 {
     const struct timespec at_once = {0, 0};
     sigset_t broken, old;
-    if (it->is_quiet) return write(it->to, from, length);
+    if (it->is_quiet) return pass(it->to, from, length);
     sigemptyset(&broken);
     sigaddset(&broken, SIGPIPE);
     pthread_sigmask(SIG_BLOCK, &broken, &old);
-    ssize_t some = write(it->to, from, length);
+    ssize_t some = pass(it->to, from, length);
     int error = errno;
     if (some < 0 && error == EPIPE && !sigismember(&old, SIGPIPE)) sigtimedwait(&broken, NULL, &at_once);
     pthread_sigmask(SIG_SETMASK, &old, NULL);
@@ -400,7 +410,7 @@ static ssize_t write_quietly(const struct nofs *it, const uint8_t *from, size_t 
 /* Gives what goes without waiting. */
 static int give(const struct nofs *it, const uint8_t *from, size_t length, size_t *put)
 {
-    ssize_t some = write_quietly(it, from + *put, length - *put);
+    ssize_t some = pass_quietly(it, from + *put, length - *put);
     if (some > 0) *put += (size_t)some;
     return some > 0 || errno == EINTR || errno == EAGAIN ? NOFS_OK : NOFS_ENDED;
 }
