@@ -270,6 +270,19 @@ class PowerCuts(Mounted):
                 data = read(self.path(folder, name))
                 self.assertEqual((len(data), len(set(data)), os.stat(self.path(folder, name)).st_mode & 0o777), (3000, 1, 0o640))
 
+    def test_what_is_durable_is_not_flushed_again(self):
+        self.nofs = self.logged
+        self.remount()
+        counts = []
+        file, folder = os.open(self.path("f"), os.O_CREAT | os.O_RDWR), os.open(self.top, os.O_RDONLY)
+        for change in (lambda: os.write(file, b"x"), lambda: os.fsync(folder), lambda: os.chmod(self.path("f"), 0o600), lambda: None):
+            change()
+            os.fsync(file)
+            counts.append(sum(kind == 2 for _, kind, _, _ in self.records()))
+        os.close(file)
+        os.close(folder)
+        self.assertEqual([count - counts[0] for count in counts], [0, 0, 1, 1])
+
     def test_a_name_has_the_old_or_the_new_file(self):
         self.check("d", "d/conf.new")
 
