@@ -4,6 +4,7 @@ import random
 import shutil
 import struct
 import subprocess
+import sys
 import threading
 import unittest
 
@@ -83,6 +84,29 @@ class FromC(Images):
     def test_a_program_that_is_not_there_has_ended(self):
         example = self.built("nofs_example.c")
         self.assertEqual(run([example, "/none", self.image, "x"], status=1), (b"", "answer -1\n"))
+
+    def test_a_program_that_is_killed_is_an_answer_and_no_signal(self):
+        source = self.at("killed.c")
+        write(source, b"""
+#include "nofs_client.h"
+#include <signal.h>
+#include <stdio.h>
+int main(int count, char **words)
+{
+    struct nofs disk; struct nofs_stat stat;
+    if (count != 3 || nofs_open(&disk, words[1], words[2])) return 2;
+    for (int round = 0; round < 50; round++) {
+        if (nofs_stat(&disk, nofs_root, &stat) || kill(disk.child, SIGKILL)) return 3;
+        while (nofs_stat(&disk, nofs_root, &stat) != NOFS_ENDED) {}
+        if (disk.status != 128 + SIGKILL || nofs_stat(&disk, nofs_root, &stat) != NOFS_ENDED || nofs_again(&disk)) return 4;
+    }
+    printf("stat %d\\n", nofs_stat(&disk, nofs_root, &stat));
+    return nofs_close(&disk);
+}
+""")
+        script = ("import signal, subprocess, sys\n"            # Python itself ignores SIGPIPE
+                  "sys.exit(subprocess.run(sys.argv[1:], preexec_fn=lambda: signal.signal(signal.SIGPIPE, signal.SIG_DFL)).returncode)")
+        self.assertEqual(run([sys.executable, "-c", script, self.built(source), NOFS, self.image])[0], b"stat 0\n")
 
     def calls(self):
         """A program that makes each call once or more, and prints its answer."""

@@ -11,6 +11,7 @@ import sys
 import tempfile
 import time
 import unittest
+from unittest import mock
 
 from tests_common import NOFS, TOOLS, Folders, read, run, serve, tree, write
 
@@ -502,6 +503,58 @@ class Arguments(Mounted):
             os.symlink(shutil.which(name), self.at("bin", name))
         done = subprocess.run(["/bin/sh", self.at("tools", "nofs-mount"), "--help"], env={"PATH": self.at("bin")}, capture_output=True)
         self.assertEqual((done.returncode, b"a C compiler is missing" in done.stderr), (7, True), done.stderr)
+
+
+NO_GROWTH = b"""
+#include <dlfcn.h>
+#include <errno.h>
+#include <stdarg.h>
+static int pass_on(const char *name, int file, int command, void *word)
+{
+    int (*next)(int, int, ...) = (int (*)(int, int, ...))dlsym(RTLD_NEXT, name);
+    errno = EPERM;
+    return command == 1031 ? -1 : next(file, command, word);    /* F_SETPIPE_SZ */
+}
+#define PASS(name) int name(int file, int command, ...) \\
+    { va_list rest; va_start(rest, command); void *word = va_arg(rest, void *); va_end(rest); return pass_on(#name, file, command, word); }
+PASS(fcntl)
+PASS(fcntl64)
+"""
+
+
+class Where(Mounted):
+    """Where server and program run, and by what they speak."""
+
+    @unittest.skipUnless(len(os.sched_getaffinity(0)) > 1, "one processor")
+    def test_server_and_program_keep_to_one_processor(self):
+        write(self.path("f"), b"x")
+        places = [os.sched_getaffinity(pid) for pid in (self.mount.pid, self.program())]
+        self.assertEqual([len(place) for place in places], [1, 1])
+        self.assertEqual(*places)
+
+    def test_who_begins_a_program_closes_files(self):
+        """The kernel holds a lock of the task then, for which who looks at the task in /proc waits: a server that did would wait for itself."""
+        file = os.open(self.path("f"), os.O_CREAT | os.O_WRONLY | os.O_CLOEXEC)
+        os.write(file, b"x")
+        self.assertEqual([os.spawnv(os.P_WAIT, shutil.which("true"), ["true"]) for _ in range(20)], [0] * 20)
+        os.close(file)
+
+    @unittest.skipUnless(shutil.which("cc"), "no C compiler")
+    def test_pipes_that_cannot_grow_do_as_well(self):
+        write(self.at("no_growth.c"), NO_GROWTH)
+        run(["cc", "-D_GNU_SOURCE", "-shared", "-fPIC", "-o", self.at("no_growth.so"), self.at("no_growth.c"), "-ldl"])
+        data = random.Random(12).randbytes(4 << 20)
+        with mock.patch.dict(os.environ, LD_PRELOAD=self.at("no_growth.so")):
+            self.remount()
+        with open(self.path("f"), "wb", buffering=0) as file:
+            for at in range(0, len(data), 1 << 20):
+                self.assertEqual(os.pwrite(file.fileno(), data[at:at + (1 << 20)], at), 1 << 20)
+        self.remount()
+        with mock.patch.dict(os.environ, LD_PRELOAD=self.at("no_growth.so")):
+            self.remount()
+        self.assertEqual(read(self.path("f")), data)
+
+    blocks = 16384
 
 
 class Long(Mounted):
