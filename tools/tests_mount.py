@@ -1,4 +1,5 @@
-"""tools/nofs-mount: an image as a directory, used by the programs that people use. Left out where there is no /dev/fuse."""
+"""tools/nofs-mount: an image as a directory, used by the programs that people use. Left out where there is no /dev/fuse. $NOFS_MOUNT
+is another server, as a script that runs tools/nofs_mount/out/nofs-mount under valgrind."""
 import errno
 import functools
 import mmap
