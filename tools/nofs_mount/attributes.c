@@ -133,7 +133,7 @@ static int flush_again(struct mount *it)
 int mount_flush(struct mount *it, int with_attributes)
 {
     int with = with_attributes && it->hidden.is_there && it->nodes.dirty_count, is_refused = 0;
-    if (!with && !it->nofs.changed && !it->nofs.ended) return NOFS_OK;
+    if (!with && !it->nofs.changed) return nofs_watch(&it->nofs);
     nofs_begin(&it->nofs);
     if (with) add_dirty(it);
     nofs_add_flush(&it->nofs);
