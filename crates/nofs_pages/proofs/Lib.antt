@@ -9,6 +9,7 @@ mod OnCalls
 mod OnPlaces
 mod OnTwins
 mod OnPairs
+mod OnBench
 mod OnTwinStores
 mod OnCrashes
 mod OnTwinCrashes

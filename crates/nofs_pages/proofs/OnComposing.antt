@@ -1,6 +1,6 @@
 -- The cells of some pages, put together from a row and from the pages.
-use Rattle.std.proofs.Common.{◌≡◌, ℕ, ◌+◌, ◌-◌, ◌*◌, ◌/◌, ◌<◌, ◌≤◌, ◌⊎◌, Bool, true, List, length, take, drop, Result}
-use Rattle.std.proofs.Common.{Ok, Err}
+use Rattle.std.proofs.Common.{◌≡◌, ℕ, ◌+◌, ◌-◌, ◌*◌, ◌/◌, ◌%◌, ◌<◌, ◌≤◌, ◌⊎◌, Bool, true, List, length}
+use Rattle.std.proofs.Common.{take, drop, Result, Ok, Err}
 use Rattle.std.proofs.Common.{arith, refl, sym, ap, ◌∙◌, inl, inr, subst}
 use Rattle.std.specs.Prelude.{IfOk, IsTrue, slice_index, slice_range}
 use Rattle.std.proofs.lemmas.Bool.{cases_lt}
@@ -161,6 +161,20 @@ cells-read cells first offset count pages old areas into shows fits is i low =
     sym (get_or-take count into i 0 low) ∙ ap (λ l. slice_index l i) is
     ∙ range-index areas offset (offset + count) i (omega arith)
     ∙ ap (slice_index areas) none ∙ shows.inside (offset + i) (omega arith) ∙ ap cells place
+
+-- bytes of the cells of whole pages, which were shown from the front on and are not the row's
+pub whole-read : (cells : List ℕ) (row : Row) (first count : ℕ) (old into : List ℕ)
+    → (first + count / 3168 ≤ row.first) ⊎ (row.first + row.count ≤ first) → count % 3168 ≡ 0
+    → ShowsCells (slice_index cells) first (count / 3168) 0 old into
+    → ReadsCells (byte_over cells row) (3168 * first) count into
+whole-read cells row first count old into apart whole shows i low =
+    let none : i ≡ 0 + i = omega arith in
+    let beside = shown-beside cells row first (count / 3168) 0 old into apart shows in
+    ap (slice_index into) none ∙ beside.inside i (omega arith)
+
+pub whole-told : (told : ℕ → Type 0) (row : Row) (first count : ℕ) → count % 3168 ≡ 0
+    → ((j : ℕ) → j < count / 3168 → told (first + j)) → HasTold told row first ((count + 3167) / 3168)
+whole-told told row first count whole is j low = inr (is j (omega arith))
 
 pub composed-same : (cells other : ℕ → ℕ) (first offset : ℕ) (from areas : List ℕ) → ((k : ℕ) → other k ≡ cells k)
     → IsComposed cells first offset from areas → IsComposed other first offset from areas

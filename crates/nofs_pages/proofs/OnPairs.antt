@@ -249,42 +249,66 @@ pub known-kept : (old new : HostFileState) (versions : Versions) → KeepsBytes 
 known-kept old new versions keeps known tells p some =
     known (sym keeps.tells ∙ tells) p some ∙ sym (ap (λ l. version_of l p + 1) keeps.bytes)
 
--- Versions that are known after a page was put
+-- Versions that are known after pages were put
 
-pub known-after : (old new : HostFileState) (before after : Versions) (p : ℕ) (area : List ℕ) → KeepsDurable old new
-    → (IsTrue old.tells → WritesTwins old.bytes new.bytes p 1 area) → KnowsVersions old before
-    → ((q : ℕ) → q ≢ p → next_in after q ≡ next_in before q)
-    → (IsTrue old.tells → 0 < next_in after p → next_in after p ≡ version_of new.bytes p + 1) → KnowsVersions new after
-known-after old new before after p area keeps writes known others here tells q some =
+-- of one page
+abbrev pub KnowsOne : List ℕ → Versions → ℕ → Type 0
+KnowsOne raw versions p = 0 < next_in versions p → next_in versions p ≡ version_of raw p + 1
+
+pub knows-one : (raw : List ℕ) (versions : Versions) (p : ℕ) → KnowsOne raw versions p
+    → (q : ℕ) → p ≤ q → q < p + 1 → KnowsOne raw versions q
+knows-one raw versions p known q low high =
+    let is : p ≡ q = omega arith in
+    subst (KnowsOne raw versions) is known
+
+pub knows-two : (raw : List ℕ) (versions : Versions) (p : ℕ) → KnowsOne raw versions p → KnowsOne raw versions (p + 1)
+    → (q : ℕ) → p ≤ q → q < p + 2 → KnowsOne raw versions q
+knows-two raw versions p one two q low high = elim (cases_lt q (p + 1)) [
+  | inl first ↦ knows-one raw versions p one q low first
+  | inr second ↦ knows-one raw versions (p + 1) two q second (omega arith)
+]
+
+pub known-kept-one : (before after : Versions) (raw : List ℕ) (p : ℕ) → next_in after p ≡ next_in before p
+    → KnowsOne raw before p → KnowsOne raw after p
+known-kept-one before after raw p same known some = same ∙ known (omega (arith, same, some))
+
+-- a page apart from some is none of them
+pub apart-of : (p count q r : ℕ) → p ≤ q → q < p + count → (r < p) ⊎ (p + count ≤ r) → r ≢ q
+apart-of p count q r low high (inl before) is = omega (arith, low, before, is)
+apart-of p count q r low high (inr behind) is = omega (arith, high, behind, is)
+
+pub known-after : (old new : HostFileState) (before after : Versions) (p count : ℕ) (areas : List ℕ)
+    → KeepsDurable old new → (IsTrue old.tells → WritesTwins old.bytes new.bytes p count areas)
+    → KnowsVersions old before → ((q : ℕ) → (q < p) ⊎ (p + count ≤ q) → next_in after q ≡ next_in before q)
+    → (IsTrue old.tells → (q : ℕ) → p ≤ q → q < p + count → KnowsOne new.bytes after q) → KnowsVersions new after
+known-after old new before after p count areas keeps writes known others here tells q some =
     let told : IsTrue old.tells = sym keeps.tells ∙ tells in
-    let at_other : ((q < p) ⊎ (p + 1 ≤ q)) → q ≢ p → next_in after q ≡ version_of new.bytes q + 1 =
-    λ apart other.
-    let same = others q other in
+    let at_other : (q < p) ⊎ (p + count ≤ q) → next_in after q ≡ version_of new.bytes q + 1 =
+    λ apart.
+    let same = others q apart in
     let one = known told q (omega (arith, same, some)) in
-    let two = version-same old.bytes new.bytes q (page-apart old.bytes new.bytes p 1 area (writes told) q apart) in
+    let two =
+    version-same old.bytes new.bytes q (page-apart old.bytes new.bytes p count areas (writes told) q apart) in
     same ∙ one ∙ ap (λ v. v + 1) (sym two) in
-    elim (cases_order q p) [
-      | inl is ↦
-          let F : ℕ → Type 0 = λ i. 0 < next_in after i → next_in after i ≡ version_of new.bytes i + 1 in
-          subst F (sym is) (here told) some
-      | inr order ↦ elim order [
-        | inl low ↦ at_other (inl low) (λ e. omega (arith, e, low))
-        | inr high ↦ at_other (inr (omega arith)) (λ e. omega (arith, e, high))
+    elim (cases_lt q p) [
+      | inl low ↦ at_other (inl low)
+      | inr high ↦ elim (cases_lt q (p + count)) [
+        | inl inside ↦ here told q high inside some
+        | inr behind ↦ at_other (inr behind)
       ]
     ]
 
-pub known-none : (versions : Versions) (new : List ℕ) (p : ℕ) → next_in versions p ≡ 0 → 0 < next_in versions p
-    → next_in versions p ≡ version_of new p + 1
+pub known-none : (versions : Versions) (new : List ℕ) (p : ℕ) → next_in versions p ≡ 0 → KnowsOne new versions p
 known-none versions new p none some = absurd (omega (arith, none, some))
 
-pub known-noted : (versions : Versions) (old new : List ℕ) (p version : ℕ) (area : List ℕ) → p < 349526
-    → WritesTwins old new p 1 area → HasTwins old new p 1 area → version ≡ version_of old p + 1
-    → (next_in versions p ≡ version + 1) ⊎ (next_in versions p ≡ 0) → 0 < next_in versions p
-    → next_in versions p ≡ version_of new p + 1
-known-noted versions old new p version area low writes has next (inr none) some = absurd (omega (arith, none, some))
-known-noted versions old new p version area low writes has next (inl noted) some =
-    let here : p + 0 ≡ p = omega arith in
-    let put = (page-put old new p 1 area writes (omega arith) has 0 (omega arith)).0 in
-    let one = ap (version_of new) here in
-    let two = ap (version_of old) here in
+pub known-noted : (versions : Versions) (old new : List ℕ) (p count j q version : ℕ) (areas : List ℕ)
+    → p + count ≤ 349526 → WritesTwins old new p count areas → HasTwins old new p count areas → j < count → q ≡ p + j
+    → version ≡ version_of old q + 1 → (next_in versions q ≡ version + 1) ⊎ (next_in versions q ≡ 0)
+    → KnowsOne new versions q
+known-noted versions old new p count j q version areas most writes has low is next (inr none) some =
+    absurd (omega (arith, none, some))
+known-noted versions old new p count j q version areas most writes has low is next (inl noted) some =
+    let put = (page-put old new p count areas writes most has j low).0 in
+    let one = ap (version_of new) is in
+    let two = ap (version_of old) is in
     omega (arith, noted, next, put, one, two)

@@ -1,17 +1,16 @@
 -- Two places of a page: which one is current, and what was made of a version and its cells.
 use Rattle.std.proofs.Common.{◌≡◌, ℕ, ◌+◌, ◌-◌, ◌%◌, ◌^◌, ◌<◌, ◌≤◌, ◌⊎◌, Bool, true, false, List, ◌++◌, length}
 use Rattle.std.proofs.Common.{take, drop, arith, refl, sym, ap, ◌∙◌, inl, inr}
-use Rattle.std.specs.Prelude.{nat_lt, slice_range}
-use Rattle.std.proofs.lemmas.Bool.{and_from, and_parts, cases_Bool, cases_lt, cond-false, cond-true, eq-eqb, eqb-true}
-use Rattle.std.proofs.lemmas.Bool.{false≢true}
-use Rattle.std.proofs.lemmas.Bool.{le-ltb, lt-ltb}
+use Rattle.std.specs.Prelude.{◌==◌, cond, nat_lt, slice_range}
+use Rattle.std.proofs.lemmas.Bool.{and_from, and_parts, cases_Bool, cases_lt, eq-eqb, eqb-true, false≢true, le-ltb}
+use Rattle.std.proofs.lemmas.Bool.{lt-ltb}
 use Rattle.std.proofs.lemmas.List.{drop-drop, drop_at, length-drop, length-take-le, take_all, take_at}
 use Rattle.nofs_disk.specs.Number.{length-put_number, length-zeros, number_at, number_at-put_same, put_bytes, zeros}
 use Rattle.nofs_disk.specs.Parts.{length-put_bytes, range-put_behind}
 use Rattle.nofs_pages.specs.Pages.{is_made}
 use Rattle.nofs_pages.specs.Twins.{area_by, current_by, current_of, is_blank, is_twin, twin_area, twin_body, twin_magic}
 use Rattle.nofs_pages.specs.Twins.{twin_sealed}
-use Rattle.nofs_pages.specs.Twins.{twin_version, version_by, version_in}
+use Rattle.nofs_pages.specs.Twins.{twin_version, version_by, version_in, version_of_none}
 use Rattle.nofs_pages.specs.declared.place.Current.{Current}
 use Rattle.nofs_pages.specs.declared.place.Current.TheVariants.{First, Second, Neither}
 use Rattle.nofs_pages.proofs.OnPages.{length-made, made-body, made-is}
@@ -23,9 +22,10 @@ module _ (number : ℕ) (one two : List ℕ) where
   unfolding twin_area
   area-at c is = ap (λ d. area_by d one two) is
 
-  pub version-at : (c : Current) → current_of number one two ≡ c → twin_version number one two ≡ version_by c one two
+  pub version-at : (c : Current) → current_of number one two ≡ c
+      → twin_version number one two ≡ version_by number c one two
   unfolding twin_version
-  version-at c is = ap (λ d. version_by d one two) is
+  version-at c is = ap (λ d. version_by number d one two) is
 
   pub is-first : is_twin 0 number one ≡ true → is_twin 1 number two ≡ false → current_of number one two ≡ First
   unfolding current_of
@@ -127,11 +127,35 @@ pub parity : (place number : ℕ) (page : List ℕ) → is_twin place number pag
 unfolding is_twin
 parity place number page told = eqb-true _ _ (and_parts (is_made twin_magic 896 number page) _ told).1
 
--- an even version is in the first place, or neither is told, and the first one is blank
+-- a page of which neither place is told, and one is blank, has the version of one that is blank
+
+none-even : (number : ℕ) (one two : List ℕ) → version_of_none number one two % 2 ≡ 0
+    → (is_blank one ≡ true) ⊎ (is_blank two ≡ false)
+none-even number one two even = go (number % 2 == 0) (is_blank one) (is_blank two) even
+  where
+    go : (own first second : Bool) → cond own (cond first 0 1) (cond second 1 0) % 2 ≡ 0
+        → (first ≡ true) ⊎ (second ≡ false)
+    go true true second is = inl refl
+    go true false second is = absurd (omega (arith, is))
+    go false first true is = absurd (omega (arith, is))
+    go false first false is = inr refl
+
+none-odd : (number : ℕ) (one two : List ℕ) → version_of_none number one two % 2 ≡ 1
+    → (is_blank two ≡ true) ⊎ (is_blank one ≡ false)
+none-odd number one two odd = go (number % 2 == 0) (is_blank one) (is_blank two) odd
+  where
+    go : (own first second : Bool) → cond own (cond first 0 1) (cond second 1 0) % 2 ≡ 1
+        → (second ≡ true) ⊎ (first ≡ false)
+    go true true second is = absurd (omega (arith, is))
+    go true false second is = inr refl
+    go false first true is = inl refl
+    go false first false is = absurd (omega (arith, is))
+
+-- an even version is in the first place, or neither is told, and the first one is blank if one is
 pub even-first : (number : ℕ) (one two : List ℕ) → twin_version number one two % 2 ≡ 0
     → ((is_twin 0 number one ≡ true) × (current_of number one two ≡ First))
-    ⊎ ((is_twin 0 number one ≡ false) × (is_twin 1 number two ≡ false) × (is_blank one ≡ true)
-    × (current_of number one two ≡ Neither))
+    ⊎ ((is_twin 0 number one ≡ false) × (is_twin 1 number two ≡ false)
+    × ((is_blank one ≡ true) ⊎ (is_blank two ≡ false)) × (current_of number one two ≡ Neither))
 even-first number one two even = elim (cases_Bool (is_twin 1 number two)) [
   | inl second ↦
       let odd = parity 1 number two second in
@@ -151,20 +175,15 @@ even-first number one two even = elim (cases_Bool (is_twin 1 number two)) [
     | inr other ↦
         let current = is-neither number one two other none in
         let e = version-at number one two Neither current in
-        elim (cases_Bool (is_blank one)) [
-          | inl blank ↦ inr (other, none, blank, current)
-          | inr full ↦
-              let one_is = e ∙ cond-false (is_blank one) 0 1 full in
-              absurd (omega (arith, one_is, even))
-        ]
+        inr (other, none, none-even number one two (ap (λ v. v % 2) (sym e) ∙ even), current)
   ]
 ]
 
--- an odd one is in the second place, or neither is told, and the first one isn't blank
+-- an odd one is in the second place, or neither is told, and the second one is blank if one is
 pub odd-second : (number : ℕ) (one two : List ℕ) → twin_version number one two % 2 ≡ 1
     → ((is_twin 1 number two ≡ true) × (current_of number one two ≡ Second))
-    ⊎ ((is_twin 0 number one ≡ false) × (is_twin 1 number two ≡ false) × (is_blank one ≡ false)
-    × (current_of number one two ≡ Neither))
+    ⊎ ((is_twin 0 number one ≡ false) × (is_twin 1 number two ≡ false)
+    × ((is_blank two ≡ true) ⊎ (is_blank one ≡ false)) × (current_of number one two ≡ Neither))
 odd-second number one two odd = elim (cases_Bool (is_twin 0 number one)) [
   | inl first ↦
       let even = parity 0 number one first in
@@ -184,12 +203,7 @@ odd-second number one two odd = elim (cases_Bool (is_twin 0 number one)) [
     | inr none ↦
         let current = is-neither number one two other none in
         let e = version-at number one two Neither current in
-        elim (cases_Bool (is_blank one)) [
-          | inl blank ↦
-              let none_is = e ∙ cond-true (is_blank one) 0 1 blank in
-              absurd (omega (arith, none_is, odd))
-          | inr full ↦ inr (other, none, full, current)
-        ]
+        inr (other, none, none-odd number one two (ap (λ v. v % 2) (sym e) ∙ odd), current)
   ]
 ]
 

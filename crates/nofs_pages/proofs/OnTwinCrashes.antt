@@ -1,6 +1,6 @@
 -- Whatever a crash leaves in a place that was being written, cells are whole.
-use Rattle.std.proofs.Common.{◌≡◌, ℕ, ◌+◌, ◌-◌, ◌*◌, ◌/◌, ◌%◌, ◌<◌, false, List, arith, sym, ap, ◌∙◌}
-use Rattle.std.proofs.Common.{inl, inr}
+use Rattle.std.proofs.Common.{◌≡◌, ℕ, ◌+◌, ◌-◌, ◌*◌, ◌/◌, ◌%◌, ◌<◌, ◌⊎◌, true, false, List, arith, sym, ap}
+use Rattle.std.proofs.Common.{◌∙◌, inl, inr}
 use Rattle.std.specs.Prelude.{slice_index, slice_range}
 use Rattle.std.proofs.lemmas.Bool.{cases_lt, false≢true}
 use Rattle.nofs_disk.specs.CellsOfBytes.{cell_in, part_of}
@@ -106,6 +106,17 @@ module _ (raw new : List ℕ) (p : ℕ) (stays : HasSamePart (8192 * p + 4096 * 
     ]
   ])
 
+  -- one of them is blank
+  is-blank : IsTwinTold p one two → is_twin 0 p one ≡ false → is_twin 1 p two ≡ false
+      → (is_blank one ≡ true) ⊎ (is_blank two ≡ true)
+  is-blank told first second = elim told [
+    | inl front ↦ absurd (false≢true (sym first ∙ front))
+    | inr other ↦ elim other [
+      | inl back ↦ absurd (false≢true (sym second ∙ back))
+      | inr blank ↦ blank
+    ]
+  ]
+
   pub still-told : IsTwinTold p (part_of raw (8192 * p) 4096) (part_of raw (8192 * p + 4096) 4096)
       → IsTwinTold p (part_of new (8192 * p) 4096) (part_of new (8192 * p + 4096) 4096)
   unfolding one two then_one then_two
@@ -114,23 +125,26 @@ module _ (raw new : List ℕ) (p : ℕ) (stays : HasSamePart (8192 * p + 4096 * 
         let same = kept-one (omega arith) in
         elim (even-first p one two (sym version-parts ∙ omega arith)) [
           | inl first ↦ inl (ap (is_twin 0 p) same ∙ first.0)
-          | inr none ↦ inr (inr (inl (ap is_blank same ∙ none.2)))
+          | inr none ↦ inr (inr (inl (ap is_blank same ∙ elim none.2 [
+            | inl blank ↦ blank
+            | inr full ↦ elim (is-blank told none.0 none.1) [
+              | inl front ↦ front
+              | inr back ↦ absurd (false≢true (sym full ∙ back))
+            ]
+          ])))
         ]
     | inr odd ↦
         let odd_now : version_of raw p % 2 ≡ 1 = omega arith in
         let same = kept-two odd_now in
         elim (odd-second p one two (sym version-parts ∙ odd_now)) [
           | inl second ↦ inr (inl (ap (is_twin 1 p) same ∙ second.0))
-          | inr none ↦ elim told [
-            | inl first ↦ absurd (false≢true (sym none.0 ∙ first))
-            | inr other ↦ elim other [
-              | inl second ↦ absurd (false≢true (sym none.1 ∙ second))
-              | inr blank ↦ elim blank [
-                | inl front ↦ absurd (false≢true (sym none.2 ∙ front))
-                | inr back ↦ inr (inr (inr (ap is_blank same ∙ back)))
-              ]
+          | inr none ↦ inr (inr (inr (ap is_blank same ∙ elim none.2 [
+            | inl blank ↦ blank
+            | inr full ↦ elim (is-blank told none.0 none.1) [
+              | inl front ↦ absurd (false≢true (sym full ∙ front))
+              | inr back ↦ back
             ]
-          ]
+          ])))
         ]
   ]
 

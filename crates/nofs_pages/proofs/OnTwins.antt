@@ -1,9 +1,9 @@
 -- Pages with two places: what is read of them, and what is put.
-use Rattle.std.proofs.Common.{◌≡◌, ℕ, ◌+◌, ◌*◌, ◌/◌, ◌%◌, ◌^◌, ◌<◌, ◌≤◌, ◌⊎◌, List, length}
+use Rattle.std.proofs.Common.{◌≡◌, ℕ, ◌+◌, ◌-◌, ◌*◌, ◌/◌, ◌%◌, ◌^◌, ◌<◌, ◌≤◌, ◌⊎◌, List, length, take, drop}
 use Rattle.std.proofs.Common.{arith, refl, sym, ap, ◌∙◌, inl, inr, subst}
 use Rattle.std.specs.Prelude.{slice_index}
-use Rattle.std.proofs.lemmas.Bool.{cases_lt, cases_order}
-use Rattle.std.proofs.lemmas.List.{get_or-take, length-take-le}
+use Rattle.std.proofs.lemmas.Bool.{cases_lt}
+use Rattle.std.proofs.lemmas.List.{get_or-drop, get_or-take, length-drop, length-take-le, take_all}
 use Rattle.nofs_disk.specs.CellsOfBytes.{part-is, part_of}
 use Rattle.nofs_filedisk.specs.Bytes.{IsPartlyPut, IsPut}
 use Rattle.nofs_filedisk.proofs.OnMoving.Units.{part-same}
@@ -137,141 +137,110 @@ module _ (raw new : List ℕ) (p : ℕ) (area : List ℕ) (low_number : p < 2 ^ 
     | inr odd ↦ odd-both (omega arith)
   ]
 
--- One page is put
+-- Some neighbouring pages are put, whose next places touch
 
-alone : (area : List ℕ) → length area ≡ 3168 → part_of area 0 3168 ≡ area
-alone area size = part-is area area 0 3168 size (λ k small.
-    let place : 0 + k ≡ k = omega arith in
-    ap (slice_index area) place)
-
-module _ (old new : List ℕ) (p version : ℕ) (area page : List ℕ) (size : length area ≡ 3168)
-    (next : version ≡ version_of old p + 1) (low_number : p < 2 ^ 64) (low : version < 2 ^ 64)
-    (sealed : page ≡ twin_sealed p version area) where
-  area-alone : (j : ℕ) → j ≡ 0 → part_of area (3168 * j) 3168 ≡ area
-  area-alone j none =
-      let F : ℕ → Type 0 = λ i. part_of area (3168 * i) 3168 ≡ area in
-      subst F (sym none) (alone area size)
-
-  page-next : (j : ℕ) → j ≡ 0 → page ≡ next_of old p j area
-  page-next j none =
-      let here : p ≡ p + j = omega arith in
-      sealed ∙ ap (λ v. twin_sealed p v area) next
-      ∙ ap (λ q. twin_sealed q (version_of old q + 1) area) here
-      ∙ sym (ap (twin_sealed (p + j) (version_of old (p + j) + 1)) (area-alone j none))
-
-  length-page : length page ≡ 4096
-  length-page = ap length sealed ∙ length-twin p version area low_number low size
-
-  next-place : (j : ℕ) → j ≡ 0 → next_at old (p + j) ≡ 8192 * p + 4096 * (version % 2)
-  next-place j none =
-      let here : p + j ≡ p = omega arith in
-      ap (next_at old) here ∙ ap (λ v. 8192 * p + 4096 * (v % 2)) (sym next)
-
-  put-same : IsPartlyPut (8192 * p + 4096 * (version % 2)) page old new → (k : ℕ)
-      → (k / 8192 < p) ⊎ ((p + 1 ≤ k / 8192) ⊎ (k % 8192 / 4096 ≡ version_of old (k / 8192) % 2))
+module _ (old new : List ℕ) (p count at : ℕ) (areas places : List ℕ) (size : length places ≡ 4096 * count)
+    (next : (j : ℕ) → j < count → next_at old (p + j) ≡ at + 4096 * j)
+    (made : (j k : ℕ) → j < count → k < 4096
+    → slice_index places (4096 * j + k) ≡ slice_index (next_of old p j areas) k) where
+  put-same : IsPartlyPut at places old new → (k : ℕ)
+      → (k / 8192 < p) ⊎ ((p + count ≤ k / 8192) ⊎ (k % 8192 / 4096 ≡ version_of old (k / 8192) % 2))
       → slice_index new k ≡ slice_index old k
   put-same did k apart =
       let fits = did.fits in
-      let cut = length-take-le did.count page fits in
-      let whole = length-page in
-      elim (cases_order (k / 8192) p) [
-        | inl here ↦ elim apart [
-          | inl before ↦ absurd (omega arith)
-          | inr other ↦ elim other [
-            | inl behind ↦ absurd (omega arith)
-            | inr current ↦
-                let e = ap (version_of old) here in
-                elim (cases_lt (version % 2) 1) [
-                  | inl even ↦ did.put.behind k (omega (arith, e, current, next))
-                  | inr odd ↦ did.put.before k (omega (arith, e, current, next))
-                ]
-          ]
-        ]
-        | inr order ↦ elim order [
-          | inl before ↦ did.put.before k (omega arith)
+      let cut = length-take-le did.count places fits in
+      elim (cases_lt k at) [
+        | inl before ↦ did.put.before k before
+        | inr after ↦ elim (cases_lt k (at + 4096 * count)) [
           | inr behind ↦ did.put.behind k (omega arith)
+          | inl inside ↦
+              let j = (k - at) / 4096 in
+              let place = next j (omega arith) in
+              let page : k / 8192 ≡ p + j = omega (arith, place) in
+              let same = ap (version_of old) page in
+              elim apart [
+                | inl low ↦ absurd (omega (arith, page, low))
+                | inr other ↦ elim other [
+                  | inl high ↦ absurd (omega (arith, page, high, inside))
+                  | inr current ↦ absurd (omega (arith, place, same, current))
+                ]
+              ]
         ]
       ]
 
-  pub put-writes : IsPartlyPut (8192 * p + 4096 * (version % 2)) page old new → WritesTwins old new p 1 area
+  pub put-writes : IsPartlyPut at places old new → WritesTwins old new p count areas
   put-writes did = record {
     same = put-same did;
-    each = λ j k one small.
-        let none : j ≡ 0 = omega arith in
-        let at = 8192 * p + 4096 * (version % 2) in
-        let place : next_at old (p + j) + k ≡ at + k = ap (λ n. n + k) (next-place j none) in
+    each = λ j k low small.
+        let place : next_at old (p + j) + k ≡ at + (4096 * j + k) = omega (arith, next j low) in
         let fits = did.fits in
-        let cut = length-take-le did.count page fits in
-        elim (cases_lt k did.count) [
-          | inl done ↦ inr (ap (slice_index new) place ∙ did.put.inside k (omega arith)
-              ∙ get_or-take did.count page k 0 done ∙ ap (λ l. slice_index l k) (page-next j none))
-          | inr rest ↦ inl (ap (slice_index new) place ∙ did.put.behind (at + k) (omega arith)
+        let cut = length-take-le did.count places fits in
+        elim (cases_lt (4096 * j + k) did.count) [
+          | inl done ↦ inr (ap (slice_index new) place ∙ did.put.inside (4096 * j + k) (omega arith)
+              ∙ get_or-take did.count places (4096 * j + k) 0 done ∙ made j k low small)
+          | inr rest ↦ inl (ap (slice_index new) place ∙ did.put.behind (at + (4096 * j + k)) (omega arith)
               ∙ sym (ap (slice_index old) place))
         ];
   }
 
-  pub put-has : IsPut (8192 * p + 4096 * (version % 2)) page old new → HasTwins old new p 1 area
-  put-has did j one =
-      let none : j ≡ 0 = omega arith in
-      let here : p ≡ p + j = omega arith in
-      let e = ap (version_of old) here in
-      let whole = length-page in (
-        omega (arith, e, next, low),
-        part-at new (next_at old (p + j)) (8192 * p + 4096 * (version % 2)) (next-place j none)
-            ∙ part-is new page (8192 * p + 4096 * (version % 2)) 4096 whole
-            (λ k small. did.inside k (omega arith))
-            ∙ page-next j none,
+  pub put-has : IsPut at places old new → ((j : ℕ) → j < count → version_of old (p + j) + 1 < 2 ^ 64)
+      → p + count ≤ 349526 → HasTwins old new p count areas
+  put-has did versions numbers j low =
+      let version = versions j low in
+      let area = part_of areas (3168 * j) 3168 in
+      let whole = length-twin (p + j) (version_of old (p + j) + 1) area (omega arith) version
+      (length-part_of areas (3168 * j) 3168) in (
+        version,
+        part-at new (next_at old (p + j)) (at + 4096 * j) (next j low)
+            ∙ part-is new (next_of old p j areas) (at + 4096 * j) 4096 whole
+            (λ k small.
+            let place : at + 4096 * j + k ≡ at + (4096 * j + k) = omega arith in
+            ap (slice_index new) place ∙ did.inside (4096 * j + k) (omega arith) ∙ made j k low small),
       )
 
--- One page after the other
+-- One after the other
 
 pub none-written : (raw : List ℕ) (first count : ℕ) (areas : List ℕ) → WritesTwins raw raw first count areas
 none-written raw first count areas = record { same = λ k apart. refl; each = λ j k low small. inl refl }
 
-module _ (old mid new : List ℕ) (first at : ℕ) (areas area : List ℕ)
-    (cut : area ≡ part_of areas (3168 * at) 3168) (before : WritesTwins old mid first at areas)
-    (then : WritesTwins mid new (first + at) 1 area) where
-  -- the page was as it is
-  page-version : version_of mid (first + at) ≡ version_of old (first + at)
-  page-version = version-same old mid (first + at) (λ k low.
-      before.same (8192 * (first + at) + k) (inr (inl (omega arith))))
+module _ (old mid new : List ℕ) (first at more : ℕ) (areas rest : List ℕ)
+    (cut : (j : ℕ) → j < more → part_of rest (3168 * j) 3168 ≡ part_of areas (3168 * (at + j)) 3168)
+    (before : WritesTwins old mid first at areas) (then : WritesTwins mid new (first + at) more rest) where
+  -- the pages behind are as they were
+  behind-version : (p : ℕ) → first + at ≤ p → version_of mid p ≡ version_of old p
+  behind-version p high = version-same old mid p (λ k low. before.same (8192 * p + k) (inr (inl (omega arith))))
 
-  place-next : (i : ℕ) → i ≡ 0 → next_at mid (first + at + i) ≡ next_at old (first + at)
-  place-next i none =
-      let here : first + at + i ≡ first + at = omega arith in
-      ap (next_at mid) here ∙ ap (λ v. 8192 * (first + at) + 4096 * ((v + 1) % 2)) page-version
+  place-next : (j : ℕ) → next_at mid (first + at + j) ≡ next_at old (first + (at + j))
+  place-next j =
+      let here : first + at + j ≡ first + (at + j) = omega arith in
+      ap (λ v. 8192 * (first + at + j) + 4096 * ((v + 1) % 2)) (behind-version (first + at + j) (omega arith))
+      ∙ ap (next_at old) here
 
-  of-next : next_of mid (first + at) 0 area ≡ next_of old first at areas
-  of-next =
-      let here : first + at + 0 ≡ first + at = omega arith in
-      let whole = alone area (ap length cut ∙ length-part_of areas (3168 * at) 3168) in
-      ap (λ q. twin_sealed q (version_of mid q + 1) (part_of area (3168 * 0) 3168)) here
-      ∙ ap (λ v. twin_sealed (first + at) (v + 1) (part_of area (3168 * 0) 3168)) page-version
-      ∙ ap (twin_sealed (first + at) (version_of old (first + at) + 1)) (whole ∙ cut)
+  of-next : (j : ℕ) → j < more → next_of mid (first + at) j rest ≡ next_of old first (at + j) areas
+  of-next j low =
+      let here : first + at + j ≡ first + (at + j) = omega arith in
+      ap (λ v. twin_sealed (first + at + j) (v + 1) (part_of rest (3168 * j) 3168))
+      (behind-version (first + at + j) (omega arith))
+      ∙ ap (λ q. twin_sealed q (version_of old q + 1) (part_of rest (3168 * j) 3168)) here
+      ∙ ap (twin_sealed (first + (at + j)) (version_of old (first + (at + j)) + 1)) (cut j low)
 
   still : (k : ℕ) → (k / 8192 < first)
-      ⊎ ((first + (at + 1) ≤ k / 8192) ⊎ (k % 8192 / 4096 ≡ version_of old (k / 8192) % 2))
+      ⊎ ((first + (at + more) ≤ k / 8192) ⊎ (k % 8192 / 4096 ≡ version_of old (k / 8192) % 2))
       → slice_index new k ≡ slice_index mid k
-  still k apart = elim (cases_order (k / 8192) (first + at)) [
-    | inl here ↦ elim apart [
+  still k apart = elim (cases_lt (k / 8192) (first + at)) [
+    | inl low ↦ then.same k (inl low)
+    | inr high ↦ elim apart [
       | inl front ↦ absurd (omega arith)
       | inr other ↦ elim other [
-        | inl behind ↦ absurd (omega arith)
+        | inl behind ↦ then.same k (inr (inl (omega arith)))
         | inr current ↦
-            let one = ap (version_of old) here in
-            let two = ap (version_of mid) here in
-            let same = page-version in
-            then.same k (inr (inr (current ∙ ap (λ v. v % 2) (one ∙ sym same ∙ sym two))))
+            then.same k (inr (inr (current ∙ ap (λ v. v % 2) (sym (behind-version (k / 8192) high)))))
       ]
-    ]
-    | inr order ↦ elim order [
-      | inl low ↦ then.same k (inl low)
-      | inr high ↦ then.same k (inr (inl (omega arith)))
     ]
   ]
 
   as-before : (k : ℕ) → (k / 8192 < first)
-      ⊎ ((first + (at + 1) ≤ k / 8192) ⊎ (k % 8192 / 4096 ≡ version_of old (k / 8192) % 2))
+      ⊎ ((first + (at + more) ≤ k / 8192) ⊎ (k % 8192 / 4096 ≡ version_of old (k / 8192) % 2))
       → slice_index mid k ≡ slice_index old k
   as-before k apart = before.same k (elim apart [
     | inl front ↦ inl front
@@ -281,24 +250,24 @@ module _ (old mid new : List ℕ) (first at : ℕ) (areas area : List ℕ)
     ])
   ])
 
-  -- a page before this one stays
+  -- a page before these stays
   early : (j k : ℕ) → j < at → k < 4096
       → slice_index new (next_at old (first + j) + k) ≡ slice_index mid (next_at old (first + j) + k)
   early j k low small = then.same (next_at old (first + j) + k) (inl (omega arith))
 
-  late : (k : ℕ) → k < 4096
-      → (slice_index new (next_at old (first + at) + k) ≡ slice_index old (next_at old (first + at) + k))
-      ⊎ (slice_index new (next_at old (first + at) + k) ≡ slice_index (next_of old first at areas) k)
-  late k small =
-      let place : next_at mid (first + at + 0) + k ≡ next_at old (first + at) + k =
-      ap (λ n. n + k) (place-next 0 refl) in
-      elim (then.each 0 k (omega arith) small) [
+  late : (j k : ℕ) → j < more → k < 4096
+      → (slice_index new (next_at old (first + (at + j)) + k) ≡ slice_index old (next_at old (first + (at + j)) + k))
+      ⊎ (slice_index new (next_at old (first + (at + j)) + k) ≡ slice_index (next_of old first (at + j) areas) k)
+  late j k low small =
+      let place : next_at mid (first + at + j) + k ≡ next_at old (first + (at + j)) + k =
+      ap (λ n. n + k) (place-next j) in
+      elim (then.each j k low small) [
         | inl same ↦ inl (sym (ap (slice_index new) place) ∙ same ∙ ap (slice_index mid) place
-            ∙ before.same (next_at old (first + at) + k) (inr (inl (omega arith))))
-        | inr written ↦ inr (sym (ap (slice_index new) place) ∙ written ∙ ap (λ l. slice_index l k) of-next)
+            ∙ before.same (next_at old (first + (at + j)) + k) (inr (inl (omega arith))))
+        | inr written ↦ inr (sym (ap (slice_index new) place) ∙ written ∙ ap (λ l. slice_index l k) (of-next j low))
       ]
 
-  pub writes-next : WritesTwins old new first (at + 1) areas
+  pub writes-next : WritesTwins old new first (at + more) areas
   writes-next = record {
     same = λ k apart. still k apart ∙ as-before k apart;
     each = λ j k low small. elim (cases_lt j at) [
@@ -306,39 +275,51 @@ module _ (old mid new : List ℕ) (first at : ℕ) (areas area : List ℕ)
         | inl same ↦ inl (early j k less small ∙ same)
         | inr written ↦ inr (early j k less small ∙ written)
       ]
-      | inr more ↦
+      | inr high ↦
           let F : ℕ → Type 0 =
           λ i. (slice_index new (next_at old (first + i) + k) ≡ slice_index old (next_at old (first + i) + k))
           ⊎ (slice_index new (next_at old (first + i) + k) ≡ slice_index (next_of old first i areas) k) in
-          let here : at ≡ j = omega arith in
-          subst F here (late k small)
+          let here : at + (j - at) ≡ j = omega arith in
+          subst F here (late (j - at) k (omega arith) small)
     ];
   }
 
-  pub has-next : HasTwins old mid first at areas → HasTwins mid new (first + at) 1 area
-      → HasTwins old new first (at + 1) areas
-  has-next has one j low = elim (cases_lt j at) [
+  pub has-next : HasTwins old mid first at areas → HasTwins mid new (first + at) more rest
+      → HasTwins old new first (at + more) areas
+  has-next has then_has j low = elim (cases_lt j at) [
     | inl less ↦ (
       (has j less).0,
       part-same new mid (next_at old (first + j)) (next_at old (first + j)) 4096 (λ k small. early j k less small)
           ∙ (has j less).1,
     )
-    | inr more ↦
-        let here : at ≡ j = omega arith in
-        let zero_here : first + at + 0 ≡ first + at = omega arith in
-        let did = one 0 (omega arith) in
-        let e = ap (version_of mid) zero_here in
-        let same = page-version in
+    | inr high ↦
+        let i = j - at in
+        let here : at + i ≡ j = omega arith in
+        let page : first + at + i ≡ first + (at + i) = omega arith in
+        let did = then_has i (omega arith) in
+        let same = behind-version (first + at + i) (omega arith) ∙ ap (version_of old) page in
         let small = did.0 in
         let F : ℕ → Type 0 =
         λ i. (version_of old (first + i) + 1 < 2 ^ 64)
         × (part_of new (next_at old (first + i)) 4096 ≡ next_of old first i areas) in
         subst F here (
-          omega (arith, e, same, small),
-          part-at new (next_at old (first + at)) (next_at mid (first + at + 0)) (sym (place-next 0 refl))
-              ∙ did.1 ∙ of-next,
+          omega (arith, same, small),
+          part-at new (next_at old (first + (at + i))) (next_at mid (first + at + i)) (sym (place-next i))
+              ∙ did.1 ∙ of-next i (omega arith),
         )
   ]
+
+-- the cells of the pages behind
+pub part-rest : (areas : List ℕ) (at j : ℕ)
+    → part_of (take (length areas - 3168 * at) (drop (3168 * at) areas)) (3168 * j) 3168
+    ≡ part_of areas (3168 * (at + j)) 3168
+part-rest areas at j =
+    let rest = drop (3168 * at) areas in
+    let size = length-drop (3168 * at) areas in
+    ap (λ l. part_of l (3168 * j) 3168) (take_all (length areas - 3168 * at) rest (omega arith))
+    ∙ part-same rest areas (3168 * j) (3168 * (at + j)) 3168 (λ k small.
+    let place : 3168 * at + (3168 * j + k) ≡ 3168 * (at + j) + k = omega arith in
+    get_or-drop (3168 * at) areas (3168 * j + k) 0 ∙ ap (slice_index areas) place)
 
 -- the pages behind are written later
 pub writes-more : (old new : List ℕ) (first at count : ℕ) (areas : List ℕ)

@@ -16,7 +16,7 @@ pub record KeepsCells (old new : StoreState) : Type 0 where
   pub faults : old.faults ≤ new.faults
   pub bytes : IsTrue old.tells → (k : ℕ) → slice_index new.bytes k ≡ slice_index old.bytes k
 
--- `show(first, count, areas, to)`: the cells of some pages, from a place on; none where they can't be told
+-- `show(first, count, into, to)`: the cells of some pages, from a place on; none where they can't be told
 pub record Shows (old new : StoreState) (first count to : ℕ) (areas into : List ℕ) (result : Result Bool Failed)
     : Type 0 where
   pub keeps : KeepsCells old new

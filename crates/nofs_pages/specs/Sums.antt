@@ -1,5 +1,5 @@
 -- XXH64 of bytes whose number is a multiple of 32 (docs/FORMAT.md, "Pages").
-use Rattle.std.specs.Prelude.{ℕ, zero, suc, ◌+◌, ◌-◌, ◌*◌, ◌/◌, ◌%◌, ◌^◌, List, length, bit_xor}
+use Rattle.std.specs.Prelude.{ℕ, zero, suc, ◌+◌, ◌-◌, ◌*◌, ◌/◌, ◌%◌, ◌^◌, List, length, slice_range, bit_xor}
 use Rattle.std.specs.Int.{w64, rotate_left}
 use Rattle.nofs_disk.specs.Number.{number_at}
 use Rattle.nofs_pages.specs.declared.sum.Lanes.{Lanes}
@@ -29,13 +29,13 @@ begin_of seed = record {
   four = (seed + (2 ^ 64 - prime_1)) % 2 ^ 64;
 }
 
--- the accumulators took the stripe from a place on
-unfoldable pub stripe_of : Lanes → ℕ → List ℕ → Lanes
-stripe_of lanes at bytes = record {
-  one = round_of lanes.one (number_at 8 at bytes);
-  two = round_of lanes.two (number_at 8 (at + 8) bytes);
-  three = round_of lanes.three (number_at 8 (at + 16) bytes);
-  four = round_of lanes.four (number_at 8 (at + 24) bytes);
+-- the accumulators took a stripe of 32 bytes
+unfoldable pub stripe_of : Lanes → List ℕ → Lanes
+stripe_of lanes stripe = record {
+  one = round_of lanes.one (number_at 8 0 stripe);
+  two = round_of lanes.two (number_at 8 8 stripe);
+  three = round_of lanes.three (number_at 8 16 stripe);
+  four = round_of lanes.four (number_at 8 24 stripe);
 }
 
 -- the sum took an accumulator
@@ -60,7 +60,7 @@ end_of lanes count =
 -- the accumulators after so many stripes
 unfoldable pub lanes_after : ℕ → List ℕ → ℕ → Lanes
 lanes_after seed bytes zero = begin_of seed
-lanes_after seed bytes (suc k) = stripe_of (lanes_after seed bytes k) (32 * k) bytes
+lanes_after seed bytes (suc k) = stripe_of (lanes_after seed bytes k) (slice_range bytes (32 * k) (32 * k + 32))
 
 -- the sum of all bytes
 unfoldable pub sum_in : ℕ → List ℕ → ℕ

@@ -50,15 +50,20 @@ twin_area number one two = area_by (current_of number one two) one two
 abbrev pub is_blank : List ℕ → Bool
 is_blank page = list_all (λ byte. byte == 0) page
 
-abbrev pub version_by : Current → List ℕ → List ℕ → ℕ
-version_by First one two = version_in one
-version_by Second one two = version_in two
-version_by Neither one two = if is_blank one then 0 else 1
+-- the version of a page of which neither place is told. The first place is an even page's own, the second one an odd
+-- page's: if its own is blank, that stays, else it is written over first
+abbrev pub version_of_none : ℕ → List ℕ → List ℕ → ℕ
+version_of_none number one two =
+    if number % 2 == 0 then (if is_blank one then 0 else 1) else (if is_blank two then 1 else 0)
 
--- its version: where neither is told, 0 if the first place is blank, else 1, so that what is there is written over
--- first
+abbrev pub version_by : ℕ → Current → List ℕ → List ℕ → ℕ
+version_by number First one two = version_in one
+version_by number Second one two = version_in two
+version_by number Neither one two = version_of_none number one two
+
+-- its version
 unfoldable pub twin_version : ℕ → List ℕ → List ℕ → ℕ
-twin_version number one two = version_by (current_of number one two) one two
+twin_version number one two = version_by number (current_of number one two) one two
 
 -- one of its places is told, or blank
 abbrev pub IsTwinTold : ℕ → List ℕ → List ℕ → Type 0
@@ -134,6 +139,13 @@ LearnsVersions raw first count old new =
 abbrev pub KnowsVersions : HostFileState → Versions → Type 0
 KnowsVersions file versions =
     IsTrue file.tells → (p : ℕ) → 0 < next_in versions p → next_in versions p ≡ version_of file.bytes p + 1
+
+-- the next versions of a page and of the one behind it are known, the first is odd, and the second even: then their
+-- next places touch
+pub record NextsTouch (versions : Versions) (p : ℕ) : Type 0 where
+  pub odd : next_in versions p % 2 ≡ 1
+  pub known : 0 < next_in versions (p + 1)
+  pub even : next_in versions (p + 1) % 2 ≡ 0
 
 -- Pages that are put
 

@@ -3,7 +3,7 @@
 //! Promise: where the row has a page, it stands in place of what there is; what can't be told is not shown.
 ghost use Rattle.std.specs.Prelude.{◌≡◌, ◌⊎◌, ◌+◌, ◌*◌, ◌/◌, ◌<◌, ◌≤◌, ℕ, IfOk, IsTrue, OnErr, OnOk, length};
 ghost use Rattle.nofs_disk.specs.Disk.{Rose};
-ghost use Rattle.nofs_pages.specs.Stores.{KeepsCells};
+ghost use Rattle.nofs_pages.specs.Stores.{KeepsCells, Shows};
 ghost use Rattle.nofs_pages.specs.Views.{FetchesFirst, FetchesLast, HasTold, IsComposed, ShowsCells, byte_over};
 
 use crate::page::AREA_BYTES;
@@ -17,6 +17,26 @@ pub fn pages_of(end: usize) -> usize
     ensures { result ≡ (end + 3167) / 3168 }
 {
     (end + (AREA_BYTES - 1)) / AREA_BYTES
+}
+
+// Shows the cells of some pages among these, from a place on.
+fn show_among<S: PageStore>(
+    store: &mut S,
+    first: u64,
+    count: usize,
+    areas: &mut Vec<u8>,
+    to: usize,
+) -> Result<bool, Failed>
+    requires place { first + count ≤ 349526 }
+    requires count { count ≤ 32 }
+    requires areas { to + 3168 * count ≤ length areas.old.items }
+    ensures shows { Shows (S.state store.old) (S.state store.new) first count to areas.old.items areas.new.items
+        result }
+    ensures told { IfOk result (λ all. IsTrue all → (j : ℕ) → j < count → S.told store.new (first + j)) }
+    ensures stays_told { (p : ℕ) → S.told store.old p → S.told store.new p }
+    ensures rests { (p : ℕ) → S.rests store.old p → S.rests store.new p }
+{
+    store.show(first, count, areas.as_mut_slice(), to)
 }
 
 /// Puts the cells of a page to a place, from the row or from the pages.
@@ -43,7 +63,7 @@ pub fn fetch<S: PageStore>(
         row.copy(number, areas, to);
         return Ok(true);
     }
-    store.show(number, 1, areas, to)
+    show_among(store, number, 1, areas, to)
 }
 
 /// The cells of some pages, one after the other.
@@ -67,7 +87,7 @@ pub fn gather<S: PageStore>(
     ensures no_fault { OnOk result ((S.state store.new).faults ≡ (S.state store.old).faults) }
 {
     if row.is_apart(first, count) {
-        return store.show(first, count, areas, 0);
+        return show_among(store, first, count, areas, 0);
     }
     for at in 0..count {
         if !fetch(store, row, first + at as u64, areas, AREA_BYTES * at)? {

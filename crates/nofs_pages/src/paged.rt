@@ -8,7 +8,7 @@
 //! rising order nothing is read. Before a page would be written a second time since the last sync, a sync makes the
 //! first one durable. After a write or a sync that failed nobody knows what is durable, and nothing is written any
 //! more.
-ghost use Rattle.std.specs.Prelude.{◌≡◌, ◌+◌, ◌-◌, ◌*◌, ◌/◌, ◌%◌, ◌^◌, ◌<◌, ◌≤◌, ℕ, IfOk, IfSome, IsFalse, IsTrue};
+ghost use Rattle.std.specs.Prelude.{◌≡◌, ◌⊎◌, ◌+◌, ◌-◌, ◌*◌, ◌/◌, ◌%◌, ◌^◌, ◌<◌, ◌≤◌, ℕ, IfOk, IfSome, IsFalse, IsTrue};
 ghost use Rattle.std.specs.Prelude.{OnErr, OnOk, length, min, slice_index, slice_range, take};
 ghost use Rattle.nofs_disk.specs.Disk.{Rose};
 ghost use Rattle.nofs_filedisk.specs.Bytes.{IsPart, IsPut, IsSynced, KeepsBytes, KeepsDurable};
@@ -441,6 +441,82 @@ impl<S: PageStore + Drop> Paged<S> {
 
     // Reads some bytes of the cells from a place in a page on.
     fn read_pieces(
+        &mut self,
+        first: u64,
+        offset: usize,
+        count: usize,
+        into: &mut [u8],
+    ) -> Result<Option<usize>, Failed>
+        requires offset { offset < 3168 }
+        requires fits { offset + count ≤ 101376 }
+        requires place { 3168 * first + offset + count ≤ 1107296256 }
+        requires into { count ≤ length into.old }
+        ensures keeps { KeepsBytes
+            (paged_state (S.state self.old.store) (S.state self.old.synced.value) self.old.row self.old.faults)
+            (paged_state (S.state self.new.store) (S.state self.new.synced.value) self.new.row self.new.faults) }
+        ensures row { self.new.row ≡ self.old.row }
+        ensures len { length into.new ≡ length into.old }
+        ensures fits { IfOk result (λ told. IfSome told (λ n. n ≡ count)) }
+        ensures part { IfOk result (λ told. IfSome told (λ n. IsTrue (S.state self.old.store).tells
+            → ReadsCells (byte_over (S.state self.old.store).bytes self.old.row)
+            (3168 * first + offset) count into.new)) }
+        ensures told { IfOk result (λ told. IfSome told (λ n.
+            HasTold (S.told self.new.store) self.new.row first ((offset + count + 3167) / 3168))) }
+        ensures cause { OnErr result (Rose self.old.faults self.new.faults) }
+        ensures no_fault { OnOk result (self.new.faults ≡ self.old.faults) }
+    {
+        if self.are_whole(first, offset, count) {
+            return self.read_whole(first, count, into);
+        }
+        self.read_parts(first, offset, count, into)
+    }
+
+    // Whether some bytes of the cells are those of whole pages, none of which the row has.
+    fn are_whole(&self, first: u64, offset: usize, count: usize) -> bool
+        requires { 3168 * first + offset + count ≤ 1107296256 }
+        ensures offset { IsTrue result → offset ≡ 0 }
+        ensures count { IsTrue result → count % 3168 ≡ 0 }
+        ensures apart { IsTrue result → (first + count / 3168 ≤ self.now.row.first)
+            ⊎ (self.now.row.first + self.now.row.count ≤ first) }
+    {
+        offset == 0 && count % AREA_BYTES == 0 && self.row.is_apart(first, count / AREA_BYTES)
+    }
+
+    // Reads the cells of whole pages, none of which the row has: they are shown right where they are wanted.
+    fn read_whole(
+        &mut self,
+        first: u64,
+        count: usize,
+        into: &mut [u8],
+    ) -> Result<Option<usize>, Failed>
+        requires whole { count % 3168 ≡ 0 }
+        requires fits { count ≤ 101376 }
+        requires place { 3168 * first + count ≤ 1107296256 }
+        requires into { count ≤ length into.old }
+        requires apart { (first + count / 3168 ≤ self.old.row.first)
+            ⊎ (self.old.row.first + self.old.row.count ≤ first) }
+        ensures keeps { KeepsBytes
+            (paged_state (S.state self.old.store) (S.state self.old.synced.value) self.old.row self.old.faults)
+            (paged_state (S.state self.new.store) (S.state self.new.synced.value) self.new.row self.new.faults) }
+        ensures row { self.new.row ≡ self.old.row }
+        ensures len { length into.new ≡ length into.old }
+        ensures fits { IfOk result (λ told. IfSome told (λ n. n ≡ count)) }
+        ensures part { IfOk result (λ told. IfSome told (λ n. IsTrue (S.state self.old.store).tells
+            → ReadsCells (byte_over (S.state self.old.store).bytes self.old.row) (3168 * first) count into.new)) }
+        ensures told { IfOk result (λ told. IfSome told (λ n.
+            HasTold (S.told self.new.store) self.new.row first ((count + 3167) / 3168))) }
+        ensures cause { OnErr result (Rose self.old.faults self.new.faults) }
+        ensures no_fault { OnOk result (self.new.faults ≡ self.old.faults) }
+    {
+        match self.store.show(first, count / AREA_BYTES, into, 0) {
+            Ok(true) => Ok(Some(count)),
+            Ok(false) => Ok(None),
+            Err(_) => Err(self.failed()),
+        }
+    }
+
+    // Reads some bytes of the cells from a place in a page on, out of the pages that they are in.
+    fn read_parts(
         &mut self,
         first: u64,
         offset: usize,

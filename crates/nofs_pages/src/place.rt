@@ -13,14 +13,16 @@
 //! | 904..928 | zeros |
 //! | 928..4096 | three cells |
 //!
-//! A page of which neither place is right has zeros, and is told where one of them is blank. It has version 0 where the
-//! first one is blank, else 1: so what another layout left at the beginning of a file is written over first.
-ghost use Rattle.std.specs.Prelude.{◌≡◌, ◌+◌, ◌*◌, ◌<◌, ◌≤◌, ◌^◌, ◌%◌, ℕ, IfSome, IsFalse, IsTrue, if◌then◌else◌};
-ghost use Rattle.std.specs.Prelude.{length, slice_range};
+//! A page of which neither place is right has zeros, and is told where one of them is blank. The first place is an even
+//! page's own, the second one an odd page's. Where its own is blank, the page has the version 0 or 1 that would stand
+//! there, else the other one: so what another layout left at the beginning of a file is written over first, and the
+//! places that two neighbours get first touch.
+ghost use Rattle.std.specs.Prelude.{◌≡◌, ◌+◌, ◌*◌, ◌<◌, ◌≤◌, ◌^◌, ◌%◌, ℕ, IfSome, IsFalse, IsTrue, length, slice_range};
+ghost use Rattle.nofs_disk.specs.CellsOfBytes.{part_of};
 ghost use Rattle.nofs_disk.specs.Number.{put_bytes};
 ghost use Rattle.nofs_pages.specs.Twins.{HasTwinAreas, HasTwinsTold, IsTwinTold, LearnsVersions, current_of, is_blank};
 ghost use Rattle.nofs_pages.specs.Twins.{is_twin};
-ghost use Rattle.nofs_pages.specs.Twins.{twin_area, twin_body, twin_sealed, twin_version, version_in};
+ghost use Rattle.nofs_pages.specs.Twins.{twin_area, twin_body, twin_sealed, twin_version, version_in, version_of_none};
 
 use crate::page::{AREA_AT, AREA_BYTES, PAGE_BYTES, clear_area, is_blank, is_made, seal};
 use crate::versions::Versions;
@@ -99,10 +101,16 @@ fn copy_place(page: &[u8], into: &mut [u8], to: usize) -> u64
 }
 
 // The version of a page of which neither place is told.
-fn version_of_none(one: &[u8]) -> u64
-    ensures { result ≡ (if is_blank one.now then 0 else 1) }
+fn version_of_none(one: &[u8], two: &[u8], number: u64) -> u64
+    ensures { result ≡ version_of_none number one.now two.now }
 {
-    if is_blank(one) { 0 } else { 1 }
+    if number % 2 == 0 {
+        if is_blank(one) { 0 } else { 1 }
+    } else if is_blank(two) {
+        1
+    } else {
+        0
+    }
 }
 
 // Shows the cells of a page, and answers its version. One that can't be told has zeros where it is going to be written
@@ -128,9 +136,8 @@ fn open_pair(
         Current::Second => Some(copy_place(two, into, to)),
         Current::Neither => {
             clear_area(into, to);
-            let version = version_of_none(one);
-            if fresh || version == 0 || is_blank(two) {
-                Some(version)
+            if fresh || is_blank(one) || is_blank(two) {
+                Some(version_of_none(one, two, number))
             } else {
                 None
             }
@@ -148,7 +155,7 @@ fn version_of(one: &[u8], two: &[u8], number: u64) -> u64
     match judge(one, two, number) {
         Current::First => version_at(one),
         Current::Second => version_at(two),
-        Current::Neither => version_of_none(one),
+        Current::Neither => version_of_none(one, two, number),
     }
 }
 
@@ -209,10 +216,9 @@ fn fill_body(version: u64, area: &[u8], body: &mut [u8])
     write_u64_at(body, 0, version);
 }
 
-/// Makes the place with a page's number, a version and these cells; `body` is where what is under its sum is put
-/// together.
+// Makes the place with a page's number, a version and these cells.
 #[tactic(auto, unfolding(crate::specs::Twins::twin_sealed))]
-pub fn seal_place(number: u64, version: u64, area: &[u8], body: &mut [u8], page: &mut [u8])
+fn seal_one(number: u64, version: u64, area: &[u8], body: &mut [u8], page: &mut [u8])
     requires area { length area.now ≡ 3168 }
     requires body { length body.old ≡ 3200 }
     requires page { length page.old ≡ 4096 }
@@ -221,4 +227,32 @@ pub fn seal_place(number: u64, version: u64, area: &[u8], body: &mut [u8], page:
 {
     fill_body(version, area, body);
     seal(TWIN_MAGIC, BODY_AT, body, number, page);
+}
+
+/// Makes the place of a version of one of some pages, behind the places of those before it; `body` is where what is
+/// under its sum is put together.
+pub fn seal_place(
+    first: u64,
+    at: usize,
+    version: u64,
+    areas: &[u8],
+    body: &mut [u8],
+    places: &mut [u8],
+)
+    requires number { first + at < 349526 }
+    requires areas { 3168 * at + 3168 ≤ length areas.now }
+    requires body { length body.old ≡ 3200 }
+    requires places { 4096 * at + 4096 ≤ length places.old }
+    ensures body { length body.new ≡ 3200 }
+    ensures places { places.new ≡ put_bytes (4096 * at)
+        (twin_sealed (first + at) version (part_of areas.now (3168 * at) 3168)) places.old }
+{
+    let (from, to) = (AREA_BYTES * at, PAGE_BYTES * at);
+    seal_one(
+        first + at as u64,
+        version,
+        &areas[from..from + AREA_BYTES],
+        body,
+        &mut places[to..to + PAGE_BYTES],
+    );
 }

@@ -85,24 +85,17 @@ fn open_row(
     first: u64,
     count: usize,
     fresh: bool,
-    areas: &mut Vec<u8>,
+    into: &mut [u8],
     to: usize,
 ) -> bool
     requires pages { 4096 * count ≤ length pages.now.items }
-    requires areas { to + 3168 * count ≤ length areas.old.items }
+    requires into { to + 3168 * count ≤ length into.old }
     requires number { first + count < 2 ^ 60 }
-    ensures len { length areas.new.items ≡ length areas.old.items }
-    ensures areas { IsTrue result → HasAreas pages.now.items first count to areas.old.items areas.new.items }
+    ensures len { length into.new ≡ length into.old }
+    ensures areas { IsTrue result → HasAreas pages.now.items first count to into.old into.new }
     ensures told { IsTrue result → IsFalse fresh → HasTold pages.now.items first count }
 {
-    open_pages(
-        pages.as_slice(),
-        first,
-        count,
-        fresh,
-        areas.as_mut_slice(),
-        to,
-    )
+    open_pages(pages.as_slice(), first, count, fresh, into, to)
 }
 
 // Makes some pages.
@@ -155,12 +148,12 @@ impl<B: Positioned + Drop> PageStore for Single<B> {
         &mut self,
         first: u64,
         count: usize,
-        areas: &mut Vec<u8>,
+        into: &mut [u8],
         to: usize,
     ) -> Result<bool, Failed> {
         read_pages(&mut self.file, first, count, &mut self.pages)?;
         let fresh = self.fresh;
-        Ok(open_row(&self.pages, first, count, fresh, areas, to))
+        Ok(open_row(&self.pages, first, count, fresh, into, to))
     }
 
     /// What was durable stays so. Each byte of these pages is what it was, which is durable, or that of the page that

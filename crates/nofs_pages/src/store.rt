@@ -21,17 +21,11 @@ pub trait PageStore {
     ghost told: { Self → ℕ → Type 0 };
 
     /// Shows the cells of some pages, at most 32, from a place on. It answers false where one of them can't be told.
-    fn show(
-        &mut self,
-        first: u64,
-        count: usize,
-        areas: &mut Vec<u8>,
-        to: usize,
-    ) -> Result<bool, Failed>
+    fn show(&mut self, first: u64, count: usize, into: &mut [u8], to: usize) -> Result<bool, Failed>
         requires place { first + count ≤ 349526 }
         requires count { count ≤ 32 }
-        requires areas { to + 3168 * count ≤ length areas.old.items }
-        ensures shows { Shows (state self.old) (state self.new) first count to areas.old.items areas.new.items result }
+        requires into { to + 3168 * count ≤ length into.old }
+        ensures shows { Shows (state self.old) (state self.new) first count to into.old into.new result }
         ensures told { IfOk result (λ all. IsTrue all → (j : ℕ) → j < count → told self.new (first + j)) }
         ensures stays_told { (p : ℕ) → told self.old p → told self.new p }
         ensures rests { (p : ℕ) → rests self.old p → rests self.new p };

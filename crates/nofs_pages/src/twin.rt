@@ -5,14 +5,18 @@
 //! has what it had at the last sync, or what was put since. A page that can't be told shows nothing, but in a file that
 //! is going to be written anew, where it has zeros until the first sync. What lies past the end has zeros.
 //!
+//! The next places of two neighbours touch where that of the first one is its second place, and that of the other one
+//! its first: then both are put by one call. Mostly they do, since new pages of odd numbers begin in the first place.
+//!
 //! A place that decays shows the version before, which may be older than the last sync, never another page's.
 ghost use Rattle.std.specs.Prelude.{◌≡◌, ◌⊎◌, ◌+◌, ◌*◌, ◌^◌, ◌<◌, ◌≤◌, ◌%◌, ℕ, IfOk, IsFalse, IsTrue, OnErr, OnOk};
-ghost use Rattle.std.specs.Prelude.{length};
+ghost use Rattle.std.specs.Prelude.{length, take};
 ghost use Rattle.nofs_disk.specs.CellsOfBytes.{part_of};
+ghost use Rattle.nofs_disk.specs.Number.{put_bytes};
 ghost use Rattle.nofs_disk.specs.Disk.{Rose};
 ghost use Rattle.nofs_filedisk.specs.Bytes.{IsPartlyPut, IsPut, KeepsBytes, KeepsDurable};
 ghost use Rattle.nofs_pages.specs.Twins.{HasReadPairs, HasTwinAreas, HasTwins, HasTwinsTold, KnowsVersions};
-ghost use Rattle.nofs_pages.specs.Twins.{LearnsVersions};
+ghost use Rattle.nofs_pages.specs.Twins.{LearnsVersions, NextsTouch};
 ghost use Rattle.nofs_pages.specs.Twins.{TwinRests, WritesTwins, next_in, twin_sealed, twin_state};
 
 use crate::page::{AREA_BYTES, PAGE_BYTES};
@@ -27,13 +31,13 @@ use std::alloc::{AllocError, Global};
 /// How many bytes both places of 32 pages have: so many a call of the file reads at most.
 const ROW_BYTES: usize = 262_144;
 
-/// Where a place is made.
+/// Where places are made: one, or two that touch.
 #[derive(Drop)]
 struct Bench {
     body: Vec<u8>,
-    page: Vec<u8>,
+    places: Vec<u8>,
     ghost body_size: { length body.items ≡ 3200 },
-    ghost page_size: { length page.items ≡ 4096 },
+    ghost places_size: { length places.items ≡ 8192 },
 }
 
 /// A file with two places for each page.
@@ -55,17 +59,21 @@ pub struct Twin<B: Positioned + Drop> {
 }
 
 impl Bench {
-    // Makes a place.
-    fn seal(&mut self, number: u64, version: u64, area: &[u8])
-        requires { length area.now ≡ 3168 }
-        ensures { self.new.page.items ≡ twin_sealed number version area.now }
+    // Makes the place of a version of one of some pages, behind those of the pages before it.
+    fn seal(&mut self, first: u64, at: usize, version: u64, areas: &[u8])
+        requires first { first + at < 349526 }
+        requires at { at < 2 }
+        requires areas { 3168 * at + 3168 ≤ length areas.now }
+        ensures { self.new.places.items ≡ put_bytes (4096 * at)
+            (twin_sealed (first + at) version (part_of areas.now (3168 * at) 3168)) self.old.places.items }
     {
         seal_place(
-            number,
+            first,
+            at,
             version,
-            area,
+            areas,
             self.body.as_mut_slice(),
-            self.page.as_mut_slice(),
+            self.places.as_mut_slice(),
         );
     }
 }
@@ -99,26 +107,18 @@ fn open_row(
     count: usize,
     fresh: bool,
     versions: &mut Versions,
-    areas: &mut Vec<u8>,
+    into: &mut [u8],
     to: usize,
 ) -> bool
     requires pairs { 8192 * count ≤ length pairs.now.items }
-    requires areas { to + 3168 * count ≤ length areas.old.items }
+    requires into { to + 3168 * count ≤ length into.old }
     requires number { first + count ≤ 349526 }
-    ensures len { length areas.new.items ≡ length areas.old.items }
-    ensures areas { IsTrue result → HasTwinAreas pairs.now.items first count to areas.old.items areas.new.items }
+    ensures len { length into.new ≡ length into.old }
+    ensures areas { IsTrue result → HasTwinAreas pairs.now.items first count to into.old into.new }
     ensures told { IsTrue result → IsFalse fresh → HasTwinsTold pairs.now.items first count }
     ensures learns { LearnsVersions pairs.now.items first count versions.old versions.new }
 {
-    open_pairs(
-        pairs.as_slice(),
-        first,
-        count,
-        fresh,
-        versions,
-        areas.as_mut_slice(),
-        to,
-    )
+    open_pairs(pairs.as_slice(), first, count, fresh, versions, into, to)
 }
 
 // Learns the versions of some pages where not all are known.
@@ -143,25 +143,27 @@ fn learn<B: Positioned>(
     Ok(())
 }
 
-// Writes a version of a page to its place.
-fn write_place<B: Positioned>(
+// Writes so many places that were made, from that of a version of a page on.
+fn write_places<B: Positioned>(
     file: &mut B,
     number: u64,
     version: u64,
-    page: &Vec<u8>,
+    count: usize,
+    places: &Vec<u8>,
 ) -> Result<(), Failed>
     requires number { number < 349526 }
-    requires page { length page.now.items ≡ 4096 }
+    requires count { count ≤ 2 }
+    requires places { length places.now.items ≡ 8192 }
     ensures keeps { KeepsDurable (B.state file.old) (B.state file.new) }
     ensures put { OnOk result (IsTrue (B.state file.old).tells
-        → IsPut (8192 * number + 4096 * (version % 2)) page.now.items
+        → IsPut (8192 * number + 4096 * (version % 2)) (take (4096 * count) places.now.items)
         (B.state file.old).bytes (B.state file.new).bytes) }
     ensures err { OnErr result (IsTrue (B.state file.old).tells
-        → IsPartlyPut (8192 * number + 4096 * (version % 2)) page.now.items (B.state file.old).bytes
-        (B.state file.new).bytes) }
+        → IsPartlyPut (8192 * number + 4096 * (version % 2)) (take (4096 * count) places.now.items)
+        (B.state file.old).bytes (B.state file.new).bytes) }
 {
     let at = PAIR_BYTES as u64 * number + PAGE_BYTES as u64 * (version % 2);
-    write_part(file, at, page.as_slice())
+    write_part(file, at, &places.as_slice()[..PAGE_BYTES * count])
 }
 
 // Puts a page whose version is known.
@@ -170,26 +172,87 @@ fn put_one<B: Positioned>(
     versions: &mut Versions,
     bench: &mut Bench,
     number: u64,
-    area: &[u8],
+    areas: &[u8],
 ) -> Result<(), Failed>
     requires number { number < 349526 }
-    requires area { length area.now ≡ 3168 }
+    requires areas { 3168 ≤ length areas.now }
     requires known { KnowsVersions (B.state file.old) versions.old }
     ensures keeps { KeepsDurable (B.state file.old) (B.state file.new) }
     ensures known { KnowsVersions (B.state file.new) versions.new }
     ensures writes { IsTrue (B.state file.old).tells
-        → WritesTwins (B.state file.old).bytes (B.state file.new).bytes number 1 area.now }
-    ensures twin { OnOk result (IsTrue (B.state file.old).tells
-        → HasTwins (B.state file.old).bytes (B.state file.new).bytes number 1 area.now) }
+        → WritesTwins (B.state file.old).bytes (B.state file.new).bytes number 1 areas.now }
+    ensures twins { OnOk result (IsTrue (B.state file.old).tells
+        → HasTwins (B.state file.old).bytes (B.state file.new).bytes number 1 areas.now) }
 {
     let version = versions.take(number);
     if version == 0 {
         return Err(Failed);
     }
-    bench.seal(number, version, area);
-    write_place(file, number, version, &bench.page)?;
+    bench.seal(number, 0, version, areas);
+    write_places(file, number, version, 1, &bench.places)?;
     versions.note(number, version);
     Ok(())
+}
+
+// Puts a page and the one behind it, the next places of which touch, by one call.
+fn put_two<B: Positioned>(
+    file: &mut B,
+    versions: &mut Versions,
+    bench: &mut Bench,
+    number: u64,
+    areas: &[u8],
+) -> Result<(), Failed>
+    requires number { number + 2 ≤ 349526 }
+    requires areas { 6336 ≤ length areas.now }
+    requires known { KnowsVersions (B.state file.old) versions.old }
+    requires touch { NextsTouch versions.old number }
+    ensures keeps { KeepsDurable (B.state file.old) (B.state file.new) }
+    ensures known { KnowsVersions (B.state file.new) versions.new }
+    ensures writes { IsTrue (B.state file.old).tells
+        → WritesTwins (B.state file.old).bytes (B.state file.new).bytes number 2 areas.now }
+    ensures twins { OnOk result (IsTrue (B.state file.old).tells
+        → HasTwins (B.state file.old).bytes (B.state file.new).bytes number 2 areas.now) }
+{
+    let one = versions.take(number);
+    let two = versions.take(number + 1);
+    bench.seal(number, 0, one, areas);
+    bench.seal(number, 1, two, areas);
+    write_places(file, number, one, 2, &bench.places)?;
+    versions.note(number, one);
+    versions.note(number + 1, two);
+    Ok(())
+}
+
+// Puts the first one of some pages, or the first two where their next places touch, and answers how many.
+fn put_next<B: Positioned>(
+    file: &mut B,
+    versions: &mut Versions,
+    bench: &mut Bench,
+    first: u64,
+    count: usize,
+    areas: &[u8],
+) -> Result<usize, Failed>
+    requires place { first + count ≤ 349526 }
+    requires count { 0 < count }
+    requires areas { 3168 * count ≤ length areas.now }
+    requires known { KnowsVersions (B.state file.old) versions.old }
+    ensures keeps { KeepsDurable (B.state file.old) (B.state file.new) }
+    ensures known { KnowsVersions (B.state file.new) versions.new }
+    ensures some { IfOk result (λ n. (0 < n) × (n ≤ count)) }
+    ensures writes { IfOk result (λ n. IsTrue (B.state file.old).tells
+        → WritesTwins (B.state file.old).bytes (B.state file.new).bytes first n areas.now) }
+    ensures twins { IfOk result (λ n. IsTrue (B.state file.old).tells
+        → HasTwins (B.state file.old).bytes (B.state file.new).bytes first n areas.now) }
+    ensures err { OnErr result (IsTrue (B.state file.old).tells
+        → WritesTwins (B.state file.old).bytes (B.state file.new).bytes first count areas.now) }
+{
+    if count > 1 && versions.touch(first) {
+        put_two(file, versions, bench, first, areas)?;
+        Ok(2)
+    } else {
+        put_one(file, versions, bench, first, areas)?;
+        Ok(1)
+    }
 }
 
 // Puts some pages.
@@ -211,9 +274,10 @@ fn put_all<B: Positioned>(
     ensures twins { OnOk result (IsTrue (B.state file.old).tells
         → HasTwins (B.state file.old).bytes (B.state file.new).bytes first count areas.now) }
 {
-    for at in 0..count {
-        let area = &areas[AREA_BYTES * at..AREA_BYTES * at + AREA_BYTES];
-        put_one(file, versions, bench, first + at as u64, area)?;
+    let mut at = 0;
+    while at < count {
+        let rest = &areas[AREA_BYTES * at..];
+        at += put_next(file, versions, bench, first + at as u64, count - at, rest)?;
     }
     Ok(())
 }
@@ -235,7 +299,7 @@ impl<B: Positioned + Drop> Twin<B> {
             pairs: zeros(alloc, ROW_BYTES)?,
             bench: Bench {
                 body: zeros(alloc, BODY_BYTES)?,
-                page: zeros(alloc, PAGE_BYTES)?,
+                places: zeros(alloc, PAIR_BYTES)?,
             },
         })
     }
@@ -262,19 +326,19 @@ impl<B: Positioned + Drop> Twin<B> {
         &mut self,
         first: u64,
         count: usize,
-        areas: &mut Vec<u8>,
+        into: &mut [u8],
         to: usize,
     ) -> Result<bool, Failed>
         requires place { first + count ≤ 349526 }
         requires count { count ≤ 32 }
-        requires areas { to + 3168 * count ≤ length areas.old.items }
+        requires into { to + 3168 * count ≤ length into.old }
         ensures keeps { KeepsBytes (B.state self.old.file) (B.state self.new.file) }
         ensures fresh { self.new.fresh ≡ self.old.fresh }
         ensures faults { self.new.faults ≡ self.old.faults }
-        ensures len { length areas.new.items ≡ length areas.old.items }
+        ensures len { length into.new ≡ length into.old }
         ensures areas { IfOk result (λ all. IsTrue all → IsTrue (B.state self.old.file).tells
             → HasReadPairs (B.state self.old.file).bytes first count self.new.pairs.items
-            × HasTwinAreas self.new.pairs.items first count to areas.old.items areas.new.items) }
+            × HasTwinAreas self.new.pairs.items first count to into.old into.new) }
         ensures told { IfOk result (λ all. IsTrue all → IsFalse self.old.fresh
             → HasTwinsTold self.new.pairs.items first count) }
     {
@@ -286,7 +350,7 @@ impl<B: Positioned + Drop> Twin<B> {
             count,
             fresh,
             &mut self.versions,
-            areas,
+            into,
             to,
         ))
     }
@@ -336,10 +400,10 @@ impl<B: Positioned + Drop> PageStore for Twin<B> {
         &mut self,
         first: u64,
         count: usize,
-        areas: &mut Vec<u8>,
+        into: &mut [u8],
         to: usize,
     ) -> Result<bool, Failed> {
-        match self.show_row(first, count, areas, to) {
+        match self.show_row(first, count, into, to) {
             Ok(all) => Ok(all),
             Err(_) => Err(self.failed()),
         }

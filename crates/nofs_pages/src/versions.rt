@@ -30,6 +30,8 @@ fn reach(next: &mut Vec<u64>, end: usize)
 }
 
 impl Versions {
+    ghost use Rattle.nofs_pages.specs.Twins.{NextsTouch};
+
     /// None is known. All memory is taken here.
     pub fn new(alloc: Global) -> Result<Versions, AllocError>
         ensures { IfOk result (λ versions. (p : ℕ) → slice_index versions.next.items p ≡ 0) }
@@ -51,6 +53,20 @@ impl Versions {
             }
         }
         true
+    }
+
+    /// Whether the next places of a page and of the one behind it are known to touch: then the first one's next version
+    /// is odd, and the other one's is even.
+    pub fn touch(&self, page: u64) -> bool
+        requires { page + 1 < 349526 }
+        ensures { IsTrue result → NextsTouch self.now page }
+    {
+        let at = page as usize;
+        if at + 1 >= self.next.len() {
+            return false;
+        }
+        let (one, two) = (self.next[at], self.next[at + 1]);
+        one % 2 == 1 && two != 0 && two % 2 == 0
     }
 
     /// Notes the next version of a page that has a version. One that has no next is not known.

@@ -158,14 +158,14 @@ pub fn page_store_show<S: PageStore>(
     store: &mut S,
     first: u64,
     count: usize,
-    areas: &mut Vec<u8>,
+    into: &mut [u8],
     to: usize,
 ) -> Result<bool, Failed>
     requires place { first + count ≤ 349526 }
     requires count { count ≤ 32 }
-    requires areas { to + 3168 * count ≤ length areas.old.items }
+    requires into { to + 3168 * count ≤ length into.old }
 {
-    store.show(first, count, areas, to)
+    store.show(first, count, into, to)
 }
 
 /// `nofs_pages::PageStore::put`

@@ -1,6 +1,6 @@
 //! Pages with two places: versions that alternate, and places that are torn, exchanged, another page's or rotten.
 use crate::tests::pages::{byte_at, write_page, write_pages};
-use nofs_filedisk::{MemFile, Positioned, read_part};
+use nofs_filedisk::{MemFile, Positioned, read_part, write_part};
 use nofs_pages::{Layout, layout_of, sum_of, twin_pages};
 use std::alloc::Global;
 use std::test::Fail;
@@ -114,7 +114,7 @@ fn a_place_that_is_torn_leaves_the_version_before(rt: HostRuntime) -> Result<(),
 fn torn_once(alloc: Global) -> Result<u64, Fail> {
     let first = after(alloc, &[], &[4])?;
     let mut crashed = first.as_slice().to_vec(alloc)?;
-    copy(first.as_slice(), 0, 512, &mut crashed, 8192 + 4096 + 512)?;
+    copy(first.as_slice(), 4096, 512, &mut crashed, 8192 + 512)?;
     shown(alloc, crashed.as_slice(), false)
 }
 
@@ -151,7 +151,7 @@ fn any_mixture_of_old_and_new_bytes_leaves_the_version_before(rt: HostRuntime) -
     Ok(())
 }
 
-// What is shown where the places of page 1 are exchanged, as found and to be written anew; where page 0's first place
+// What is shown where the places of page 1 are exchanged, as found and to be written anew; where page 0's second place
 // stands there; and where both do.
 fn exchanged(alloc: Global) -> Result<[u64; 4], Fail> {
     let bytes = after(alloc, &[], &[1, 2])?;
@@ -161,9 +161,9 @@ fn exchanged(alloc: Global) -> Result<[u64; 4], Fail> {
     let found = shown(alloc, swapped.as_slice(), false)?;
     let fresh = shown(alloc, swapped.as_slice(), true)?;
     let mut strange = bytes.as_slice().to_vec(alloc)?;
-    copy(bytes.as_slice(), 0, 4096, &mut strange, 8192)?;
-    let one = shown(alloc, strange.as_slice(), false)?;
     copy(bytes.as_slice(), 4096, 4096, &mut strange, 8192 + 4096)?;
+    let one = shown(alloc, strange.as_slice(), false)?;
+    copy(bytes.as_slice(), 0, 4096, &mut strange, 8192)?;
     Ok([found, fresh, one, shown(alloc, strange.as_slice(), false)?])
 }
 
@@ -173,27 +173,84 @@ fn places_that_are_exchanged_are_not_read(rt: HostRuntime) -> Result<(), Fail> {
     Ok(())
 }
 
-// Page 1 has no place that is told, and is then put: what is shown before and after, the version in its first place,
-// and whether its second one stays.
-fn put_over_untold(alloc: Global) -> Result<(u64, u64, u8, bool), Fail> {
+// Pages 1 and 2 have no place that is told, and are then put: what is shown before and after, the versions in the
+// second place of page 1 and in the first one of page 2, and whether their other places stay.
+fn put_over_untold(alloc: Global) -> Result<(u64, u64, [u8; 2], bool), Fail> {
     let mut bad = after(alloc, &[], &[1, 2])?;
-    copy(&[7, 7, 7], 0, 3, &mut bad, 8192 + 4000)?;
-    copy(&[7, 7, 7], 0, 3, &mut bad, 8192 + 8000)?;
+    for page in [8_192, 16_384] {
+        copy(&[7, 7, 7], 0, 3, &mut bad, page + 4000)?;
+        copy(&[7, 7, 7], 0, 3, &mut bad, page + 8000)?;
+    }
     let before = shown(alloc, bad.as_slice(), false)?;
     let next = after(alloc, bad.as_slice(), &[3])?;
-    let version = byte_at(next.as_slice(), 8192 + 896);
-    let stays = next.get(12_288..16_384) == bad.get(12_288..16_384);
+    let versions = [
+        byte_at(next.as_slice(), 12_288 + 896),
+        byte_at(next.as_slice(), 16_384 + 896),
+    ];
+    let stays = next.get(8_192..12_288) == bad.get(8_192..12_288)
+        && next.get(20_480..24_576) == bad.get(20_480..24_576);
     Ok((
         before,
         shown(alloc, next.as_slice(), false)?,
-        version,
+        versions,
         stays,
     ))
 }
 
 #[test]
-fn a_page_without_a_told_place_is_put_to_the_first_one(rt: HostRuntime) -> Result<(), Fail> {
-    assert_eq!(rt; put_over_untold(rt.alloc())?, (292, 333, 2, true));
+fn a_page_without_a_told_place_is_put_over_its_own(rt: HostRuntime) -> Result<(), Fail> {
+    assert_eq!(rt; put_over_untold(rt.alloc())?, (299, 333, [1, 2], true));
+    Ok(())
+}
+
+// The versions in both places of a page, 0 of a blank one, and the byte of its cells in each.
+fn both(bytes: &[u8], number: u16) -> [u8; 4] {
+    let at = 8192 * number as usize;
+    [
+        byte_at(bytes, at + 896),
+        byte_at(bytes, at + 4096 + 896),
+        byte_at(bytes, at + 928),
+        byte_at(bytes, at + 4096 + 928),
+    ]
+}
+
+// Pages 0 to 31 are written at once, all of the first of some bytes, and synced; so with the next bytes: how many calls
+// of the file that took, what the places of pages 0 and 1 have, and how many pages have the same in theirs.
+fn rows(alloc: Global, rounds: &[u8]) -> Result<(u64, [u8; 4], [u8; 4], u8), Fail> {
+    let mut file = twin_pages(alloc, MemFile::new(alloc, &[], 65_536, &[])?, false)?;
+    for byte in rounds.iter() {
+        let row = vec![in alloc; *byte; 101_376]?;
+        if write_part(&mut file, 0, row.as_slice()).is_err() || file.sync().is_err() {
+            return Err("a write or a sync failed".into());
+        }
+    }
+    let file = file.into_store().into_file();
+    let (even, odd) = (both(file.bytes(), 0), both(file.bytes(), 1));
+    let mut same: u8 = 0;
+    for number in 0..32 {
+        let wanted = if number % 2 == 0 { even } else { odd };
+        same = same.saturating_add((both(file.bytes(), number) == wanted) as u8);
+    }
+    Ok((file.calls(), even, odd, same))
+}
+
+// A read, as no version is known, 16 writes of two places, and a sync.
+#[test]
+fn two_new_pages_are_put_by_one_call(rt: HostRuntime) -> Result<(), Fail> {
+    assert_eq!(rt;
+        rows(rt.alloc(), &[5])?,
+        (18, [0, 1, 0, 5], [2, 0, 5, 0], 32)
+    );
+    Ok(())
+}
+
+// Then one write of page 0, 15 of two places, one of page 31, and a sync.
+#[test]
+fn two_pages_are_put_again_by_one_call(rt: HostRuntime) -> Result<(), Fail> {
+    assert_eq!(rt;
+        rows(rt.alloc(), &[5, 6])?,
+        (36, [2, 1, 6, 5], [2, 3, 5, 6], 32)
+    );
     Ok(())
 }
 

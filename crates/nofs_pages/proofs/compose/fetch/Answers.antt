@@ -15,7 +15,7 @@ returns-clause-cells g c =
     let old = g.S.PageStore.state c.args.store.now in
     let row = c.args.row.now in
     let apart = one-apart row c.args.number (c.has.ensures.no c.if-has.false) in
-    if-ok c.show.result (λ (b : Bool) (shows : IsTrue b → IsTrue old.tells → ShowsCells (slice_index old.bytes)
-    c.args.number 1 c.args.to c.args.areas.now.items c.show.new.areas.items) all tells.
-    shown-beside old.bytes row c.args.number 1 c.args.to c.args.areas.now.items c.show.new.areas.items apart
-    (shows all tells)) c.show.ensures.shows.cells
+    if-ok c.show_among.result (λ (b : Bool) (shows : IsTrue b → IsTrue old.tells → ShowsCells (slice_index old.bytes)
+    c.args.number 1 c.args.to c.args.areas.now.items c.show_among.new.areas.items) all tells.
+    shown-beside old.bytes row c.args.number 1 c.args.to c.args.areas.now.items c.show_among.new.areas.items apart
+    (shows all tells)) c.show_among.ensures.shows.cells

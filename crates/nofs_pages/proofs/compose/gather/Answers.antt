@@ -9,10 +9,10 @@ pub returns-then-is_apart-clause-cells : goal.returns-then-is_apart-clause-cells
 returns-then-is_apart-clause-cells g c =
     let old = g.S.PageStore.state c.args.store.now in
     let row = c.args.row.now in
-    if-ok c.show.result (λ (b : Bool) (shows : IsTrue b → IsTrue old.tells → ShowsCells (slice_index old.bytes)
-    c.args.first c.args.count 0 c.args.areas.now.items c.show.new.areas.items) all tells.
-    shown-beside old.bytes row c.args.first c.args.count 0 c.args.areas.now.items c.show.new.areas.items
-    (c.is_apart.ensures c.if-is_apart.true) (shows all tells)) c.show.ensures.shows.cells
+    if-ok c.show_among.result (λ (b : Bool) (shows : IsTrue b → IsTrue old.tells → ShowsCells (slice_index old.bytes)
+    c.args.first c.args.count 0 c.args.areas.now.items c.show_among.new.areas.items) all tells.
+    shown-beside old.bytes row c.args.first c.args.count 0 c.args.areas.now.items c.show_among.new.areas.items
+    (c.is_apart.ensures c.if-is_apart.true) (shows all tells)) c.show_among.ensures.shows.cells
 
 pub loop-at-preserved : goal.loop-at-preserved
 loop-at-preserved g c =

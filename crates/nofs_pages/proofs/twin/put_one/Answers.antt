@@ -1,63 +1,66 @@
-use Rattle.std.proofs.Common.{◌*◌, ◌+◌, ◌%◌, ◌∙◌, ◌≢◌, arith, ℕ}
+use Rattle.std.proofs.Common.{◌*◌, ◌+◌, ◌%◌, ◌≤◌, ◌<◌, ◌⊎◌, ◌∙◌, arith, take, ℕ}
+use Rattle.nofs_pages.proofs.OnBench.{one-has, one-writes}
+use Rattle.nofs_pages.proofs.OnPairs.{apart-of, known-after, known-none, known-noted, knows-one}
 use Rattle.nofs_pages.proofs.OnViews.{whole-partly}
-use Rattle.nofs_pages.proofs.OnPairs.{known-after, known-none, known-noted}
-use Rattle.nofs_pages.proofs.OnTwins.{put-has, put-writes}
 use Rattle.nofs_pages.proofs.twin.put_one.Goals as goal
 
-pub returns-in_err-write_place-clause-writes : goal.returns-in_err-write_place-clause-writes
-returns-in_err-write_place-clause-writes g c tells =
-    let old = g.B.Positioned.state c.args.file.now in
-    let new = g.B.Positioned.state c.write_place.new.file in
-    let version = c.take-version.result in
+pub returns-in_err-write_places-clause-writes : goal.returns-in_err-write_places-clause-writes
+returns-in_err-write_places-clause-writes g c tells =
     let taken = c.take-version.ensures.result in
-    put-writes old.bytes new.bytes c.args.number version c.args.area.now c.seal.new.self.page.items c.requires.area
+    one-writes (g.B.Positioned.state c.args.file.now).bytes (g.B.Positioned.state c.write_places.new.file).bytes
+    c.args.bench.now.places.items c.seal.new.self.places.items c.args.number c.take-version.result c.args.areas.now
+    c.requires.number (omega arith)
     (taken ∙ c.requires.known tells c.args.number (omega (arith, taken, c.if-version-eq0.false)))
-    (omega arith) (omega arith)
-    c.seal.ensures (c.in_err-write_place.ensures.err tells)
+    c.args.bench.now.places_size c.seal.new.self.places_size c.seal.ensures (c.in_err-write_places.ensures.err tells)
 
 pub returns-clause-writes : goal.returns-clause-writes
 returns-clause-writes g c tells =
     let old = g.B.Positioned.state c.args.file.now in
-    let new = g.B.Positioned.state c.write_place.new.file in
+    let new = g.B.Positioned.state c.write_places.new.file in
     let version = c.take-version.result in
     let taken = c.take-version.ensures.result in
     let at = 8192 * c.args.number + 4096 * (version % 2) in
-    put-writes old.bytes new.bytes c.args.number version c.args.area.now c.seal.new.self.page.items c.requires.area
+    one-writes old.bytes new.bytes c.args.bench.now.places.items c.seal.new.self.places.items c.args.number version
+    c.args.areas.now c.requires.number (omega arith)
     (taken ∙ c.requires.known tells c.args.number (omega (arith, taken, c.if-version-eq0.false)))
-    (omega arith) (omega arith)
-    c.seal.ensures
-    (whole-partly at c.seal.new.self.page.items old.bytes new.bytes (c.in_ok-write_place.ensures.put tells))
+    c.args.bench.now.places_size c.seal.new.self.places_size c.seal.ensures
+    (whole-partly at (take (4096 * 1) c.seal.new.self.places.items) old.bytes new.bytes
+    (c.in_ok-write_places.ensures.put tells))
 
-pub returns-clause-twin : goal.returns-clause-twin
-returns-clause-twin g c tells =
-    let old = g.B.Positioned.state c.args.file.now in
-    let new = g.B.Positioned.state c.write_place.new.file in
-    let version = c.take-version.result in
+pub returns-clause-twins : goal.returns-clause-twins
+returns-clause-twins g c tells =
     let taken = c.take-version.ensures.result in
-    put-has old.bytes new.bytes c.args.number version c.args.area.now c.seal.new.self.page.items c.requires.area
+    one-has (g.B.Positioned.state c.args.file.now).bytes (g.B.Positioned.state c.write_places.new.file).bytes
+    c.args.bench.now.places.items c.seal.new.self.places.items c.args.number c.take-version.result c.args.areas.now
+    c.requires.number (omega arith)
     (taken ∙ c.requires.known tells c.args.number (omega (arith, taken, c.if-version-eq0.false)))
-    (omega arith) (omega arith)
-    c.seal.ensures (c.in_ok-write_place.ensures.put tells)
+    c.args.bench.now.places_size c.seal.new.self.places_size c.seal.ensures (c.in_ok-write_places.ensures.put tells)
 
-pub returns-in_err-write_place-clause-known : goal.returns-in_err-write_place-clause-known
-returns-in_err-write_place-clause-known g c =
+pub returns-in_err-write_places-clause-known : goal.returns-in_err-write_places-clause-known
+returns-in_err-write_places-clause-known g c =
     let old = g.B.Positioned.state c.args.file.now in
-    let new = g.B.Positioned.state c.write_place.new.file in
+    let new = g.B.Positioned.state c.write_places.new.file in
     let p = c.args.number in
-    known-after old new c.args.versions.now c.take-version.new.self p c.args.area.now c.in_err-write_place.ensures.keeps
-    (returns-in_err-write_place-clause-writes g c) c.requires.known c.take-version.ensures.others
-    (λ tells some. known-none c.take-version.new.self new.bytes p c.take-version.ensures.here some)
+    let taken = c.take-version.new.self in
+    known-after old new c.args.versions.now taken p 1 c.args.areas.now c.in_err-write_places.ensures.keeps
+    (returns-in_err-write_places-clause-writes g c) c.requires.known
+    (λ (q : ℕ) (apart : (q < p) ⊎ (p + 1 ≤ q)).
+    c.take-version.ensures.others q (apart-of p 1 p q (omega arith) (omega arith) apart))
+    (λ tells. knows-one new.bytes taken p (known-none taken new.bytes p c.take-version.ensures.here))
 
 pub returns-clause-known : goal.returns-clause-known
 returns-clause-known g c =
     let old = g.B.Positioned.state c.args.file.now in
-    let new = g.B.Positioned.state c.write_place.new.file in
+    let new = g.B.Positioned.state c.write_places.new.file in
     let p = c.args.number in
     let version = c.take-version.result in
     let taken = c.take-version.ensures.result in
-    known-after old new c.args.versions.now c.note.new.self p c.args.area.now c.in_ok-write_place.ensures.keeps
+    let noted = c.note.new.self in
+    known-after old new c.args.versions.now noted p 1 c.args.areas.now c.in_ok-write_places.ensures.keeps
     (returns-clause-writes g c) c.requires.known
-    (λ (q : ℕ) (other : q ≢ p). c.note.ensures.others q other ∙ c.take-version.ensures.others q other)
-    (λ tells some. known-noted c.note.new.self old.bytes new.bytes p version c.args.area.now c.requires.number
-    (returns-clause-writes g c tells) (returns-clause-twin g c tells)
-    (taken ∙ c.requires.known tells p (omega (arith, taken, c.if-version-eq0.false))) c.note.ensures.here some)
+    (λ (q : ℕ) (apart : (q < p) ⊎ (p + 1 ≤ q)).
+    c.note.ensures.others q (apart-of p 1 p q (omega arith) (omega arith) apart)
+    ∙ c.take-version.ensures.others q (apart-of p 1 p q (omega arith) (omega arith) apart))
+    (λ tells. knows-one new.bytes noted p (known-noted noted old.bytes new.bytes p 1 0 p version c.args.areas.now
+    (omega arith) (returns-clause-writes g c tells) (returns-clause-twins g c tells) (omega arith) (omega arith)
+    (taken ∙ c.requires.known tells p (omega (arith, taken, c.if-version-eq0.false))) c.note.ensures.here))

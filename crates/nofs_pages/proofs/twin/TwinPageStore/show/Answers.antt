@@ -8,7 +8,7 @@ returns-in-Ok-clause-shows g c =
     let old = c.args.self.now in
     let new = c.show_row.new.self in
     shows-twins (g.B.Positioned.state old.file) (g.B.Positioned.state new.file) old.faults new.faults new.pairs.items
-    c.args.first c.args.count c.args.to c.args.areas.now.items c.show_row.new.areas.items c.in-Ok.all did.faults
+    c.args.first c.args.count c.args.to c.args.into.now c.show_row.new.into c.in-Ok.all did.faults
     c.requires.place did.keeps did.len did.areas
 
 pub returns-in-Ok-clause-told : goal.returns-in-Ok-clause-told
