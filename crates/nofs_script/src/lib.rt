@@ -10,18 +10,21 @@
 //! - `digits`: hexadecimal digits, read and written.
 //! - `words`: the words of a line, and the numbers among them.
 //! - `commands`: commands by their words.
-//! - `session`: the scripts of a text, read line by line.
+//! - `session`: what is read of the lines of a text.
+//! - `pieces`: the session of a text that comes in pieces.
 //! - `text`: the text of a line.
 #![tactic(auto)]
 
 mod commands;
 mod digits;
 mod faults;
+mod pieces;
 mod session;
 mod text;
 mod words;
 
 pub use faults::{ParseFault, ScriptFault, ScriptKind, TextFault};
-pub use session::{Session, parse};
+pub use pieces::{SessionReader, parse};
+pub use session::Session;
 pub use text::{add_line, line_text, push_number};
 pub use words::number_of;

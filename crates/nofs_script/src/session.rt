@@ -1,4 +1,4 @@
-//! Sessions: the scripts of a text, read line by line.
+//! Sessions: what is read of the lines of a text.
 
 ghost use Rattle.std.specs.Prelude.{◌≡◌, ◌≢◌, ◌<◌, All, Some, [], map, length, ◌∷◌, MatchOption, IfOk, IfSome};
 ghost use Rattle.std.specs.Prelude.{slice_get, take};
@@ -12,7 +12,7 @@ ghost use Rattle.nofs_script.specs.Session.{session_of};
 
 use crate::commands::{Verb, command, verb_of};
 use crate::faults::{LineFault, ParseFault, ScriptFault, ScriptKind};
-use crate::words::{is_spelled, place_of, text_after, words};
+use crate::words::{is_spelled, place_of, words};
 use nofs_client::{Command, CommandList};
 use nofs_dirent::ListOf;
 use nofs_history::MOST_USERS;
@@ -172,7 +172,8 @@ fn read_line(alloc: Global, reading: Reading, line: &[u8]) -> Result<Reading, Li
     read_words(alloc, reading, &words)
 }
 
-fn without_return(line: &[u8]) -> &[u8]
+/// A line without the carriage return at its end.
+pub(crate) fn without_return(line: &[u8]) -> &[u8]
     ensures { result.now ≡ strip_carriage_return line.now }
 {
     let length = line.len();
@@ -183,8 +184,8 @@ fn without_return(line: &[u8]) -> &[u8]
     }
 }
 
-// The place of the first line feed.
-fn end_of(text: &[u8]) -> Option<usize>
+/// The place of the first line feed.
+pub(crate) fn end_of(text: &[u8]) -> Option<usize>
     ensures first { MatchOption result (All (λ byte. byte ≢ 10) text.now)
         (λ end. (slice_get text.now end ≡ Some 10) × All (λ byte. byte ≢ 10) (take end text.now)) }
     ensures within { IfSome result (λ end. end < length text.now) }
@@ -192,15 +193,13 @@ fn end_of(text: &[u8]) -> Option<usize>
     place_of(b'\n', text)
 }
 
-// The line that ends at this line feed.
-fn line_before(text: &[u8], end: usize) -> &[u8]
-    requires { end < length text.now }
-    ensures { result.now ≡ strip_carriage_return (take end text.now) }
-{
-    without_return(&text[..end])
-}
-
-fn read_at(alloc: Global, number: u64, reading: Reading, line: &[u8]) -> Result<Reading, ParseFault>
+/// Reads one line.
+pub(crate) fn read_at(
+    alloc: Global,
+    number: u64,
+    reading: Reading,
+    line: &[u8],
+) -> Result<Reading, ParseFault>
     ensures { MatchesReading (λ r. r) result (at_line number (line_read reading line.now)) }
 {
     match read_line(alloc, reading, line) {
@@ -208,44 +207,4 @@ fn read_at(alloc: Global, number: u64, reading: Reading, line: &[u8]) -> Result<
         Err(LineFault::OutOfMemory) => Err(ParseFault::OutOfMemory),
         Err(LineFault::Wrong(kind)) => Err(ParseFault::Wrong(ScriptFault { line: number, kind })),
     }
-}
-
-// Reads line after line, each in its turn: nothing is kept of a text but its commands.
-fn read_lines(alloc: Global, text: &[u8]) -> Result<Reading, ParseFault>
-    ensures { MatchesReading (λ r. r) result (read_from 1 empty_reading (text_lines text.now)) }
-{
-    let mut reading = Reading {
-        done: Session::new(alloc),
-        current: CommandList::new(alloc),
-        count: 0,
-        asked: 0,
-    };
-    let mut rest = text;
-    for number in 1..text.len() as u64 + 2 {
-        match end_of(rest) {
-            None => return read_at(alloc, number, reading, rest),
-            Some(end) => {
-                reading = read_at(alloc, number, reading, line_before(rest, end))?;
-                rest = text_after(rest, end);
-            }
-        }
-    }
-    unreachable!()
-}
-
-/// The session that a text spells, or its first bad line (docs/FORMAT.md, "Session text"). Only want of memory can stop
-/// it otherwise. A session has 1 to 8 scripts, and each of its commands is well formed.
-#[tactic(auto, unfolding(crate::specs::Session::session_of))]
-pub fn parse(alloc: Global, text: &[u8]) -> Result<Session, ParseFault>
-    ensures exact { MatchesReading (λ session. session) result (session_of text.now) }
-    ensures session { IfOk result IsSession }
-{
-    let Reading {
-        mut done,
-        current,
-        count: _,
-        asked: _,
-    } = read_lines(alloc, text)?;
-    done.push(current)?;
-    Ok(done)
 }

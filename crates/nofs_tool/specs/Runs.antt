@@ -6,3 +6,4 @@ pub mod Complete
 pub mod Said
 pub mod Statuses
 pub mod Call
+pub mod Texts

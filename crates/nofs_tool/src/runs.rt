@@ -4,4 +4,5 @@ pub(crate) mod outcomes;
 pub(crate) mod says;
 pub(crate) mod sessions;
 pub(crate) mod tasks;
+pub(crate) mod texts;
 pub(crate) mod tool;

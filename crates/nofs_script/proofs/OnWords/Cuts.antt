@@ -21,16 +21,25 @@ not_this byte text none = λ k d l. ne_eqb _ byte (none k d l)
 pub one_part : (byte : ℕ) (text : List ℕ) → Lacks byte text → slice_split (λ other. other == byte) text ≡ text ∷ []
 one_part byte text none = slice_split_none (λ other. other == byte) text (not_this byte text none)
 
--- the first part ends at the first such byte
-pub first_part : (byte : ℕ) (text : List ℕ) (end : ℕ) → slice_get text end ≡ Some byte → Lacks byte (take end text)
-    → slice_split (λ other. other == byte) text ≡ take end text ∷ slice_split (λ other. other == byte) (after end text)
-first_part byte text end here none =
+-- where the byte stands behind text without it, the first part ends there
+pub part_before : (byte : ℕ) (part rest : List ℕ) → Lacks byte part
+    → slice_split (λ other. other == byte) (part ++ byte ∷ rest) ≡ part ∷ slice_split (λ other. other == byte) rest
+part_before byte part rest none =
+    slice_split_at (λ other. other == byte) part byte rest (not_this byte part none) (eq-eqb byte byte refl)
+
+-- a text is what stands before a byte of it, that, and what stands behind it
+pub cut_at : (byte : ℕ) (text : List ℕ) (end : ℕ) → slice_get text end ≡ Some byte
+    → take end text ++ (byte ∷ after end text) ≡ text
+cut_at byte text end here =
     let within = slice_get_within text end byte here in
     let cut : drop end text ≡ byte ∷ after end text =
     drop-cons text end 0 within ∙ ap (λ b. b ∷ drop (suc end) text) (get_or_from_slice_get text end byte 0 here)
     ∙ ap (λ n. byte ∷ drop n text) (sym (add-one end)) in
-    let whole : take end text ++ (byte ∷ after end text) ≡ text = ap (λ l. take end text ++ l) (sym cut)
-    ∙ take-append-drop end text in
-    ap (slice_split (λ other. other == byte)) (sym whole)
-    ∙ slice_split_at (λ other. other == byte) (take end text) byte (after end text) (not_this byte (take end text) none)
-    (eq-eqb byte byte refl)
+    ap (λ l. take end text ++ l) (sym cut) ∙ take-append-drop end text
+
+-- the first part ends at the first such byte
+pub first_part : (byte : ℕ) (text : List ℕ) (end : ℕ) → slice_get text end ≡ Some byte → Lacks byte (take end text)
+    → slice_split (λ other. other == byte) text ≡ take end text ∷ slice_split (λ other. other == byte) (after end text)
+first_part byte text end here none =
+    ap (slice_split (λ other. other == byte)) (sym (cut_at byte text end here))
+    ∙ part_before byte (take end text) (after end text) none

@@ -18,8 +18,8 @@ use Rattle.nofs_tool.specs.declared.begin.mounts.Cause.TheVariants.{Device, NoMe
 use Rattle.nofs_tool.specs.declared.begin.mounts.Numbers.{Numbers}
 use Rattle.nofs_tool.specs.Session.Whole.{IsMet}
 
--- Over any disk the superblock of a mount is the one that was read of the disk that it found, with a mount number one
--- higher; where the disk tells, block 0 spells the one that was read
+-- Over any disk the superblock of a mount is one by which a disk of so many blocks can be mounted, with a mount number
+-- one higher; where the disk that it found tells, it is the one that block 0 spelled
 pub record IsRaisedFrom (found : DiskState) (at : SuperBlock) : Type 0 where
   pub before : SuperBlock
   pub mounts : MountsBy found before

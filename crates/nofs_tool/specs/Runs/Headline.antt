@@ -25,16 +25,16 @@ use Rattle.nofs_tool.specs.Visits.Visit.{FollowsVisit}
 use Rattle.nofs_tool.specs.Visits.Wire.{IsWired}
 
 -- THE HEADLINE, of one history over the disk that the mount found. Its entries follow what was asked for (`Follows`, by
--- the numbers of the mount, and whether memory was wanting, which is so at status 7 alone); those numbers are of the
--- superblock that the mount read, over any disk. At status 0 no entry has a fault, and where none has one, but at 7,
--- the last flush was made: each block of the disk handed back may then be left as a read gives it alone. Where the
--- premises are met, `Ends` says further: the history is a run of the machine with its replies; at each moment, in
--- mid-step too, every image that a crash may leave is allowed; what is claimed was free; and each image is one on which
--- the premises are met again. At status 0 the machine knows every inode and every block, and says of each what the full
--- scan of the disk handed back says
+-- the numbers of the mount, and whether memory was wanting, which is so at status 7 alone); over any disk those numbers
+-- are of a superblock by which it can be mounted, and where it tells, of the one in block 0. At status 0 no entry has a
+-- fault, and where none has one, but at 7, the last flush was made: each block of the disk handed back may then be left
+-- as a read gives it alone. Where the premises are met, `Ends` says further: the history is a run of the machine with
+-- its replies; at each moment, in mid-step too, every image that a crash may leave is allowed; what is claimed was
+-- free; and each image is one on which the premises are met again. At status 0 the machine knows every inode and every
+-- block, and says of each what the full scan of the disk handed back says
 pub record IsHeadlineOf (Follows : SuperBlock → Bool → List Entry1 → Type 0) (found last : DiskState) (status : ℕ)
     (h : HistoryState) : Type 0 where
-  -- the numbers of the mount, which it read over any disk
+  -- the numbers of the mount
   pub at : SuperBlock
   pub read : IsRaisedFrom found at
   pub numbers : IsMet found → at ≡ raised (super_at found.now)

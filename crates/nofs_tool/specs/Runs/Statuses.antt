@@ -63,7 +63,8 @@ pub record HoldsOfTask (task : Option Request) (picks : List ℕ → Bool) (sour
     (old new : DiskState) (status : ℕ) (h : Option HistoryState) : Type 0 where
   -- at every moment a crash leaves an image that it could leave before, or that one with version 2
   pub upgrade : task ≡ Some Upgrade → IsTrue old.tells → StaysOrUpgrades old new
-  -- at status 0 the sink took what is lost in the world that the mount found
+  -- at status 0 the sink took the text of a walk: where the premises are met, what is lost in the world that the mount
+  -- found
   pub salvage : task ≡ Some Salvage → status ≡ 0 → IsSalvaged picks old h sink_old sink_new
   -- at 3 and 5 with a history it took the line of the mount's counts, or nothing where a write failed, and the text of
   -- the walk that was made, or a part

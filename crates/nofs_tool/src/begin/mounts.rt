@@ -1,7 +1,8 @@
 //! Formatting a device and mounting it.
 //!
-//! Promise: a mount that begins has raised the mount number, durably, and its numbers are those that it read. A fault
-//! of the device is answered only where the device's count of faults rose.
+//! Promise: a mount that begins has raised the mount number, durably. Its numbers are of a superblock by which such a
+//! device can be mounted: where the device tells, of the one in block 0. A fault of the device is answered only where
+//! the device's count of faults rose.
 
 ghost use Rattle.std.specs.Prelude.{◌≡◌, ◌≤◌, [], IfErr, IfOk, IsTrue, Some};
 ghost use Rattle.nofs_super.specs.Format.{IsFormatted};
@@ -84,7 +85,8 @@ fn mount_cause(fault: MountFault) -> Cause
     }
 }
 
-/// Mounts a device: its mount number is then one higher, durably, and its numbers are those that block 0 was read as.
+/// Mounts a device: its mount number is then one higher, durably. Its numbers are of a superblock by which such a
+/// device can be mounted: where the device tells, of the one in block 0.
 pub(crate) fn mount<D: Disk + Drop>(alloc: Global, disk: D) -> Result<Mount<D>, Refused<D>>
     ensures mount { IfOk result (λ m. (m.found.value ≡ disk) × (m.first ≡ 0) × (m.core.books.history.entries ≡ [])) }
     ensures raised { IfOk result (λ m. IsRaisedFrom (D.state m.found.value) m.core.books.at) }

@@ -1,6 +1,7 @@
 //! What comes of a session: its text is read, a mount serves it, and its lines are written.
 
-ghost use Rattle.std.specs.Prelude.{◌≡◌, ◌≢◌, ◌⊎◌, ◌+◌, [], None, Some, IfSome};
+ghost use Rattle.std.specs.Prelude.{◌≡◌, ◌≢◌, ◌⊎◌, ◌+◌, [], ℕ, IfOk, IfSome, List, None, Some};
+ghost use Rattle.nofs_script.specs.Pieces.{Spells};
 ghost use Rattle.nofs_script.specs.Session.{IsSession};
 ghost use Rattle.nofs_io.specs.Texts.{AppendsAll, TakesAtMost};
 ghost use Rattle.nofs_tool.specs.Begin.Mounts.{HasNoMount, IsRaisedFrom};
@@ -14,10 +15,11 @@ use crate::begin::lines::{FixedLine, fixed_text, script_text};
 use crate::begin::mounts::{Numbers, format_and_mount, mount};
 use crate::begin::words::Request;
 use crate::runs::outcomes::{Outcome, refused, told, told_line, told_nothing, written};
+use crate::runs::texts::read_session;
 use crate::session::serve::run_session;
 use nofs_disk::Disk;
-use nofs_io::{ReadFault, Sink, Source, TEXT_LIMIT, read_all};
-use nofs_script::{ParseFault, Session, parse};
+use nofs_io::{ReadFault, Sink, Source, TEXT_LIMIT};
+use nofs_script::{ParseFault, Session};
 use nofs_shared::Mount;
 use std::alloc::Global;
 use std::sync::Wait;
@@ -130,33 +132,37 @@ fn session_outcome<R: Threads + Wait + Sync, K: Sink, D: Disk + Drop + Send>(
     }
 }
 
-// What comes of a text that was read whole.
+// What comes of what a text was read to.
 fn text_outcome<R: Threads + Wait + Sync, K: Sink, D: Disk + Drop + Send>(
     rt: &R,
     alloc: Global,
     sink: &mut K,
     disk: D,
     numbers: Option<Numbers>,
-    text: &[u8],
+    read: Result<Session, ParseFault>,
 ) -> Outcome<D>
-    ensures headline { IfSome result.history (λ h. WithSession text.now (λ session.
+    requires { IfOk read IsSession }
+    ensures headline { (text : List ℕ) → Spells text read → IfSome result.history (λ h. WithSession text (λ session.
         HeadlineOf D.state numbers session disk (D.state result.disk) result.status h)) }
-    ensures script { result.status ≡ 2 → IsNoSession text.now × (result.disk ≡ disk) × (result.history ≡ None) }
+    ensures script { (text : List ℕ) → Spells text read
+        → result.status ≡ 2 → IsNoSession text × (result.disk ≡ disk) × (result.history ≡ None) }
     ensures ends { result.status ≢ 2
         → SessionEnds (IsRefusedBy numbers (D.state disk) (D.state result.disk)) (D.state disk) (D.state result.disk)
         (K.state sink.old) (K.state sink.new) result.status result.history }
-    ensures session { (result.status ≡ 0) ⊎ (result.status ≡ 3) ⊎ (result.status ≡ 4) ⊎ (result.status ≡ 5)
-        → WithSession text.now (λ _. Unit {0}) }
-    ensures done { result.status ≡ 0 → WithSession text.now
+    ensures session { (text : List ℕ) → Spells text read
+        → (result.status ≡ 0) ⊎ (result.status ≡ 3) ⊎ (result.status ≡ 4) ⊎ (result.status ≡ 5)
+        → WithSession text (λ _. Unit {0}) }
+    ensures done { (text : List ℕ) → Spells text read → result.status ≡ 0 → WithSession text
         (λ session. IsSessionAnswered session result.history (K.state sink.old) (K.state sink.new)) }
-    ensures fault { result.status ≡ 2 → SaysFault (K.state sink.old) (K.state sink.new) text.now }
+    ensures fault { (text : List ℕ) → Spells text read
+        → result.status ≡ 2 → SaysFault (K.state sink.old) (K.state sink.new) text }
     ensures unserved { result.history ≡ None → IsUnread disk result.disk result.status
         ⊎ SaysCause (HasNoMount D.state numbers disk result.disk) (K.state sink.old) (K.state sink.new) result.status }
     ensures silent { result.status ≡ 7 → AppendsAll (K.state sink.old) (K.state sink.new) [] }
-    ensures part { (result.status ≡ 3) ⊎ (result.status ≡ 5)
-        → WithSession text.now (λ session. SaysSession (K.state sink.old) (K.state sink.new) session result.history) }
+    ensures part { (text : List ℕ) → Spells text read → (result.status ≡ 3) ⊎ (result.status ≡ 5)
+        → WithSession text (λ session. SaysSession (K.state sink.old) (K.state sink.new) session result.history) }
 {
-    match parse(alloc, text) {
+    match read {
         Ok(session) => session_outcome(rt, alloc, sink, disk, numbers, session),
         Err(ParseFault::Wrong(fault)) => told_line(sink, disk, 2, script_text(fault)),
         Err(ParseFault::OutOfMemory) => told_nothing(sink, disk),
@@ -192,8 +198,8 @@ pub(crate) fn source_outcome<R: Threads + Wait + Sync, S: Source, K: Sink, D: Di
         (K.state sink.new) result.status
         result.history }
 {
-    match read_all(alloc, source, TEXT_LIMIT) {
-        Ok(text) => text_outcome(rt, alloc, sink, disk, numbers, &text),
+    match read_session(alloc, source, TEXT_LIMIT) {
+        Ok(read) => text_outcome(rt, alloc, sink, disk, numbers, read),
         Err(ReadFault::Source) => told(sink, disk, 6, fixed_text(FixedLine::SourceFault)),
         Err(ReadFault::TooLong) => told(sink, disk, 8, fixed_text(FixedLine::TooLong)),
         Err(ReadFault::OutOfMemory) => told_nothing(sink, disk),

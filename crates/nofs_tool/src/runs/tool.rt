@@ -58,9 +58,9 @@ use std::thread::Threads;
 /// the steps that the session asks for; and where the premises are met, it is a run of the machine, and at every moment
 /// a crash leaves only what it allows.
 ///
-/// A salvage tells what is lost in the world that the mount found (`IsSalvaged` in specs/Visits/Salvage.antt here).
-/// Frames are served until they end (`WireEnds` in specs/Visits/Wire.antt here); of its statuses 6, 8, 2 and 7 come
-/// before 3, and 5 after it.
+/// A salvage tells of its walk: where the premises are met, what is lost in the world that the mount found
+/// (`IsSalvaged` in specs/Visits/Salvage.antt here). Frames are served until they end (`WireEnds` in
+/// specs/Visits/Wire.antt here); of its statuses 6, 8, 2 and 7 come before 3, and 5 after it.
 ///
 /// An upgrade begins no mount: at each moment of it a crash leaves an image that it could leave before, or that one
 /// with version 2.

@@ -1,8 +1,9 @@
 //! Serving a session at a mount, and counting what is used.
 //!
 //! Promise: user `u` of a session is caller `u`, the sweeps and the flusher are the callers that `nofs_history`
-//! names; the flusher makes no entry, and the program itself the last one, a flush of the whole disk. The text is that
-//! of the session by the replies in the history; there is none where memory was wanting.
+//! names; the flusher makes no entry, and the program itself the last one, a flush of the whole disk, where there is
+//! memory for it. The text is that of the session by the replies in the history, and is not there where memory was
+//! wanting.
 
 ghost use Rattle.std.specs.Prelude.{◌≡◌, ◌≤◌, ◌++◌, [], true, false, not, map, flat_map};
 ghost use Rattle.std.specs.Prelude.{All, List, vec_len, IfOk, IfSome, OnOk};

@@ -1,8 +1,8 @@
 //! Telling what is lost on a disk.
 //!
-//! Promise: the walk is `FIRST_USER`'s and only reads. Where no call of the device failed, the text is that of the
-//! report of the world that the mount found; or of the refusal of the root or of the label file, where one of them
-//! isn't there.
+//! Promise: the walk is `FIRST_USER`'s and only reads, and the text tells of it. Where the premises are met and no call
+//! of the device failed, that is the report of the world that the mount found; or the refusal of the root or of the
+//! label file, where one of them isn't there.
 
 ghost use Rattle.std.specs.Prelude.{◌≡◌, ◌≢◌, ◌++◌, ℕ, Bool, List, [], Err, IfOk, IfSome, OnOk, codes, map};
 ghost use Rattle.std.specs.Prelude.{string_bytes};

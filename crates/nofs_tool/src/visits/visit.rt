@@ -2,7 +2,7 @@
 //!
 //! Promise: the visitor is `FIRST_USER`, and the history has of it just the steps that it made; the sweeps are the
 //! callers that `nofs_history` names, the flusher makes no entry, and the program itself the last one, a flush of
-//! the whole disk.
+//! the whole disk, where there is memory for it.
 
 ghost use Rattle.std.specs.Prelude.{◌≡◌, [], false};
 ghost use Rattle.nofs_serve.specs.Visit.{VisitServed};
