@@ -2,6 +2,9 @@
 
 mod cases;
 
+ghost use Rattle.std.specs.Prelude.{IfOk};
+ghost use Rattle.nofs_client.specs.Task.Commands.{AreWellFormed};
+
 use crate::tests::commands::cases::{ACCEPTED, BYTES, MOVES, REFUSED, REPEATED};
 use crate::tests::texts::{first_command, plain_text};
 use nofs_client::{Client, Command, CommandList, Line, LineList, Next, Path, drive};
@@ -32,6 +35,14 @@ fn text_of(alloc: Global, line: &Line) -> Result<String, AllocError> {
     }
 }
 
+/// How it ended.
+fn end_text(alloc: Global, end: Result<Line, AllocError>) -> Result<String, AllocError> {
+    match end {
+        Ok(line) => text_of(alloc, &line),
+        Err(_) => String::from_str(alloc, "no memory\n"),
+    }
+}
+
 /// The steps that were made, and how it ended.
 fn ended(
     alloc: Global,
@@ -39,10 +50,7 @@ fn ended(
     end: Result<Line, AllocError>,
 ) -> Result<String, AllocError> {
     let mut text = client.into_inner().answers.text;
-    match end {
-        Ok(line) => text.push_str(text_of(alloc, &line)?.as_str())?,
-        Err(_) => text.push_str("no memory\n")?,
-    }
+    text.push_str(end_text(alloc, end)?.as_str())?;
     Ok(text)
 }
 
@@ -82,11 +90,16 @@ fn came_of(alloc: Global, case: &str, by_mover: bool) -> Result<String, AllocErr
     }
 }
 
+/// Whether that which is told comes of a case.
+fn comes_of(alloc: Global, case: &str, by_mover: bool) -> Result<bool, AllocError> {
+    let (_, told) = case.split_once('\n').unwrap_or((case, ""));
+    let came = came_of(alloc, case, by_mover)?;
+    Ok(came.as_str().trim_end() == told.trim_end())
+}
+
 fn check(rt: &impl Abort, alloc: Global, cases: &str, by_mover: bool) -> Result<(), Fail> {
     for case in cases.split("\n\n") {
-        let (_, told) = case.split_once('\n').unwrap_or((case, ""));
-        let came = came_of(alloc, case, by_mover)?;
-        assert_eq!(rt; came.as_str().trim_end(), told.trim_end(), "{case}");
+        assert!(rt; comes_of(alloc, case, by_mover)?, "{case}");
     }
     Ok(())
 }
@@ -101,8 +114,17 @@ fn each_command_makes_its_steps_and_says_its_line(rt: HostRuntime) -> Result<(),
 
 #[test]
 fn a_move_by_itself_makes_the_steps_of_the_command(rt: HostRuntime) -> Result<(), Fail> {
-    assert!(rt; !Path::Names(PathNames::new(rt.alloc())).has_name());
     check(&rt, rt.alloc(), MOVES, true)
+}
+
+fn is_named(path: Path) -> bool {
+    path.has_name()
+}
+
+#[test]
+fn a_path_without_names_has_no_name(rt: HostRuntime) -> Result<(), Fail> {
+    assert!(rt; !is_named(Path::Names(PathNames::new(rt.alloc()))));
+    Ok(())
 }
 
 /// What a driver asks for, or says.
@@ -113,48 +135,78 @@ fn next_text(alloc: Global, next: &Next) -> Result<String, AllocError> {
     }
 }
 
-#[test]
-fn a_driver_asks_for_a_stat_and_ends_with_its_line(rt: HostRuntime) -> Result<(), Fail> {
-    let alloc = rt.alloc();
+// What it asks for in a stat of the label file.
+fn asked(alloc: Global) -> Result<String, AllocError> {
     let command = Command::Stat { path: Path::Label };
-    let asked = next_text(alloc, &drive(alloc, &command, &[])?)?;
-    assert_eq!(rt; asked.as_str(), "stat 2/2");
+    next_text(alloc, &drive(alloc, &command, &[])?)
+}
+
+#[test]
+fn a_driver_asks_for_a_stat(rt: HostRuntime) -> Result<(), Fail> {
+    assert_eq!(rt; asked(rt.alloc())?.as_str(), "stat 2/2");
+    Ok(())
+}
+
+// What it says behind the reply.
+fn said(alloc: Global) -> Result<String, AllocError> {
+    let command = Command::Stat { path: Path::Label };
     let told = Reply::Stat(Stat {
         kind: FileKind::File,
         size: 9,
         links: 0,
     });
-    let said = next_text(alloc, &drive(alloc, &command, slice::from_ref(&told))?)?;
-    assert_eq!(rt; said.as_str(), "stat file 9 0\n");
-    Ok(())
+    next_text(alloc, &drive(alloc, &command, slice::from_ref(&told))?)
 }
 
 #[test]
-fn a_get_of_all_bytes_from_the_last_on_is_empty(rt: HostRuntime) -> Result<(), Fail> {
+fn a_driver_ends_with_its_line(rt: HostRuntime) -> Result<(), Fail> {
+    assert_eq!(rt; said(rt.alloc())?.as_str(), "stat file 9 0\n");
+    Ok(())
+}
+
+// What comes of a get of all bytes from the last on.
+fn got_from_last(alloc: Global, told: &str) -> Result<String, AllocError> {
     let all = Command::Get {
         path: Path::Label,
         offset: u64::MAX,
         length: u64::MAX,
     };
-    let came = run(rt.alloc(), &all, "stat 2/2 -> file 10 1")?;
+    run(alloc, &all, told)
+}
+
+#[test]
+fn a_get_of_all_bytes_from_the_last_on_is_empty(rt: HostRuntime) -> Result<(), Fail> {
+    let came = got_from_last(rt.alloc(), "stat 2/2 -> file 10 1")?;
     assert_eq!(rt; came.as_str(), "stat 2/2 -> file 10 1\ngot\n");
     Ok(())
 }
 
-#[test]
-fn a_user_runs_each_command_to_its_line(rt: HostRuntime) -> Result<(), Fail> {
-    let alloc = rt.alloc();
+// A size and a flush of the label file.
+fn size_and_flush(alloc: Global) -> Result<CommandList, AllocError>
+    ensures { IfOk result (λ commands. AreWellFormed commands) }
+{
     let mut commands = CommandList::new(alloc);
     commands.push(Command::Size {
         path: Path::Label,
         size: 0,
     })?;
     commands.push(Command::Fsync { path: Path::Label })?;
-    let told = "size 2/2 0 -> resized\nflush 2/2 -> flushed\n";
+    Ok(commands)
+}
+
+// The steps of both commands, and how many lines they end with.
+fn ran_both(alloc: Global, told: &str) -> Result<(String, u64), AllocError> {
+    let commands = size_and_flush(alloc)?;
     let mut client = client_of(alloc, told);
     let mut lines = LineList::new(alloc);
     client.run_all(alloc, &commands, &mut lines)?;
-    assert_eq!(rt; client.into_inner().answers.text.as_str(), told);
-    assert_eq!(rt; lines.len(), 2);
+    Ok((client.into_inner().answers.text, lines.len()))
+}
+
+#[test]
+fn a_user_runs_each_command_to_its_line(rt: HostRuntime) -> Result<(), Fail> {
+    let told = "size 2/2 0 -> resized\nflush 2/2 -> flushed\n";
+    let (text, lines) = ran_both(rt.alloc(), told)?;
+    assert_eq!(rt; (text.as_str(), lines), (told, 2));
     Ok(())
 }

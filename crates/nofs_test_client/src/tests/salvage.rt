@@ -2,7 +2,7 @@
 
 ghost use Rattle.std.specs.Prelude.{◌≡◌, true};
 
-use nofs_salvage::{All, NameFilter, salvage};
+use nofs_salvage::{All, Loss, NameFilter, Report, SalvageFault, salvage};
 use nofs_test_standin::{Told, Transcript};
 use std::alloc::{AllocError, Global};
 use std::test::Fail;
@@ -47,6 +47,23 @@ Refused(Stale)
 ",
 ];
 
+/// The report of a walk, or why there is none.
+fn report_text(alloc: Global, report: Result<Report, SalvageFault>) -> Result<String, AllocError> {
+    match report {
+        Ok(report) => losses_text(alloc, report.as_slice()),
+        Err(fault) => format!(in alloc; "{fault:?}\n"),
+    }
+}
+
+/// What is lost, one a line.
+fn losses_text(alloc: Global, losses: &[Loss]) -> Result<String, AllocError> {
+    let mut text = String::new(alloc);
+    for loss in losses {
+        text.push_str(format!(in alloc; "{loss:?}\n")?.as_str())?;
+    }
+    Ok(text)
+}
+
 /// The steps of a walk over all names, and its report or why there is none.
 fn walked(alloc: Global, told: &str) -> Result<String, AllocError> {
     let mut told = Told::new(Transcript::new(alloc, told));
@@ -58,14 +75,7 @@ fn walked(alloc: Global, told: &str) -> Result<String, AllocError> {
     );
     let report = salvage(alloc, &mut told, &filter);
     let mut text = told.answers.text;
-    match report {
-        Ok(report) => {
-            for loss in report.as_slice() {
-                text.push_str(format!(in alloc; "{loss:?}\n")?.as_str())?;
-            }
-        }
-        Err(fault) => text.push_str(format!(in alloc; "{fault:?}\n")?.as_str())?,
-    }
+    text.push_str(report_text(alloc, report)?.as_str())?;
     Ok(text)
 }
 
