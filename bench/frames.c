@@ -1,6 +1,6 @@
 /* Does a work by frames: reads the steps of a list, and the files that it names, and makes them by `nofs PROGRAM wire`.
  *
- *     cc -O2 -I tools -o frames bench/frames.c tools/nofs_client.c && ./frames PROGRAM IMAGE LIST
+ *     cc -O2 -I clients -o frames bench/frames.c clients/nofs_client.c && ./frames PROGRAM IMAGE LIST
  *
  * A line of the list is `d FOLDER -` (a folder of the root is made), `n FOLDER NAME` (a file is made in it),
  * `w FOLDER NAME PATH` (the bytes of a file of the host are put from its first byte on), `r FOLDER NAME` (all its bytes
