@@ -1,3 +1,4 @@
+-- The index of a mount stays true: what it tells of a name is what a search finds.
 pub mod Names
 pub mod NewNames
 pub mod WasLinks
