@@ -1,15 +1,17 @@
 //! A worker that runs the commands of one user.
 //!
 //! Promise: its steps are just those that its commands ask for, in order, and its lines are theirs.
-ghost use Rattle.std.specs.Prelude.{◌≡◌, false, []};
+ghost use Rattle.std.specs.Prelude.{◌≡◌, false, [], OnOk};
+ghost use Rattle.nofs_client.specs.Driver.{LinesFollow, RunsAll, RunsSome};
 ghost use Rattle.nofs_client.specs.Task.Commands.{AreWellFormed};
 ghost use Rattle.nofs_workers.specs.User.{steps_in, WorkedAsUser};
 
 use crate::gate::{Gate, Gated};
 use crate::tasks::Script;
-use nofs_client::{Client, CommandList, LineList};
+use nofs_client::{Client, Command, CommandList, LineList, Path};
 use nofs_history::Steps;
-use std::alloc::Global;
+use std::alloc::{AllocError, Global};
+use std::mem;
 
 /// A worker that runs the commands of one user, with a gate before each of its steps.
 #[derive(Drop)]
@@ -34,6 +36,29 @@ pub struct UserEnd<S: Steps> {
     pub out_of_memory: bool,
 }
 
+// Runs the commands one after the other, and appends the line of each. A command is given up as soon as it has its
+// line, so that its bytes are room for what comes next. It ends early for want of memory alone.
+fn run_out<S: Steps>(
+    client: &mut Client<S>,
+    alloc: Global,
+    commands: CommandList,
+    lines: &mut LineList,
+) -> Result<(), AllocError>
+    requires { AreWellFormed commands }
+    ensures ran { OnOk result
+        (RunsAll commands (S.made client.old.steps) (S.made client.new.steps) lines.old lines.new) }
+    ensures some { RunsSome commands (S.made client.old.steps) (S.made client.new.steps) lines.old lines.new }
+    ensures goes { S.goes client.old.steps client.new.steps }
+    ensures lines_follow { LinesFollow }
+{
+    let mut left = commands.into_vec();
+    for at in 0..left.len() {
+        lines.push(client.run(alloc, &left[at])?)?;
+        left[at] = Command::Stat { path: Path::Label };
+    }
+    Ok(())
+}
+
 impl<S: Steps, T: Gate> UserWorker<S, T> {
     /// A worker that has run no command yet. It takes no memory.
     pub fn new(alloc: Global, steps: S, commands: CommandList, gate: T) -> Self
@@ -51,13 +76,13 @@ impl<S: Steps, T: Gate> UserWorker<S, T> {
         }
     }
 
-    /// Runs the commands one after the other. It ends early for want of memory alone.
+    /// Runs the commands one after the other, and has none left. It ends early for want of memory alone.
     pub fn work(&mut self)
         ensures { WorkedAsUser S.made S.goes self.old self.new }
     {
-        let ran = self
-            .client
-            .run_all(self.alloc, &self.script.commands, &mut self.lines);
+        let none = Script::new(CommandList::new(self.alloc));
+        let Script { commands } = mem::replace(&mut self.script, none);
+        let ran = run_out(&mut self.client, self.alloc, commands, &mut self.lines);
         self.out_of_memory = ran.is_err();
     }
 }
