@@ -3,6 +3,7 @@ pub mod WritesBelow
 pub mod Settled
 pub mod Calls
 pub mod Writes
+pub mod Forgotten
 pub mod Flushes
 pub mod Leaves
 pub mod Past

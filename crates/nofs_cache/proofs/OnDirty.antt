@@ -1,7 +1,7 @@
 -- Entries of dirty blocks in another order, and the order in which they are written.
-use Rattle.std.proofs.Common.{◌≡◌, ℕ, ◌+◌, ◌-◌, ◌<◌, true≢false, List, length, map, take, drop, get_or}
+use Rattle.std.proofs.Common.{◌≡◌, ℕ, ◌+◌, ◌-◌, ◌<◌, ◌≤◌, true≢false, List, length, map, take, drop, get_or}
 use Rattle.std.proofs.Common.{arith, inl, inr, sym, ap, subst, eqb, eq-eqb}
-use Rattle.std.proofs.Common.{◌∙◌, Option, Result, Ok, Err}
+use Rattle.std.proofs.Common.{◌∙◌, Err}
 use Rattle.std.specs.Prelude.{Contains, IsPermutation, slice_index}
 use Rattle.std.specs.List.{swap}
 use Rattle.std.specs.List.Sorted.{IsNonDecreasing}
@@ -14,24 +14,11 @@ use Rattle.std.proofs.lemmas.List.Elements.{Contains-get_or}
 use Rattle.std.proofs.lemmas.List.Sorted.{Contains-permutation, IsPermutation-map, IsPermutation-sym}
 use Rattle.std.proofs.lemmas.Map.Keys.{IsDistinct-from_apart, IsDistinct-IsPermutation, apart_from_distinct}
 use Rattle.nofs_disk.specs.declared.Failed.{Failed}
-use Rattle.nofs_disk.specs.Disk.{DiskState, Rose, cell_at}
-use Rattle.nofs_disk.specs.Chains.{IsSameDisk-refl, KeepsPast-refl}
+use Rattle.nofs_disk.specs.Disk.{DiskState, Rose}
 use Rattle.nofs_cache.specs.declared.dirty.cells.DirtyEntry.{DirtyEntry}
-use Rattle.nofs_cache.specs.Cached.{SettlesDirty, TakesOut, WritesRising, WrittenBack}
-use Rattle.nofs_cache.specs.Dirty.Entries.{AreLeft, AreSlotted, HaveOwnBlocks, IsDirtyEntryOf, IsLast, IsOrder, Rises}
-use Rattle.nofs_cache.specs.Dirty.Entries.{dirty_entry_at, no_dirty_entry}
-
--- where an entry stands in another order
-pub place_of : (xs ys : List DirtyEntry) → IsPermutation xs ys → (k : ℕ) → k < length xs
-    → (j : ℕ) × (j < length ys) × (dirty_entry_at ys j ≡ dirty_entry_at xs k)
-place_of xs ys same k low =
-    let h = Contains-permutation xs ys (dirty_entry_at xs k) same (Contains-get_or xs k no_dirty_entry low) in
-    (h.0, h.1, get_or_default ys h.0 no_dirty_entry (dirty_entry_at xs k) h.1 ∙ h.2)
-
--- and where it stood
-pub place_before : (xs ys : List DirtyEntry) → IsPermutation xs ys → (k : ℕ) → k < length ys
-    → (j : ℕ) × (j < length xs) × (dirty_entry_at xs j ≡ dirty_entry_at ys k)
-place_before xs ys same k low = place_of ys xs (IsPermutation-sym xs ys same) k low
+use Rattle.nofs_cache.specs.Cached.{SettlesDirty, WritesRising, WrittenBack}
+use Rattle.nofs_cache.specs.Dirty.Entries.{AreAmong, AreLeft, AreSlotted, HaveOwnBlocks, IsDirtyEntryOf, IsLast}
+use Rattle.nofs_cache.specs.Dirty.Entries.{IsOrder, Rises, dirty_entry_at, no_dirty_entry}
 
 -- the slots tell the blocks apart
 pub own_slotted : (slots : List ℕ) (entries : List DirtyEntry) → AreSlotted slots entries → HaveOwnBlocks entries
@@ -51,12 +38,6 @@ last_exchanged l new at b entry is =
       some = omega arith;
       block = ap (λ k. (dirty_entry_at new k).block) end ∙ ap (λ e. e.block) moved.1 ∙ entry.block;
     }
-
--- a write below that failed took nothing out
-pub stays_out : (before after : List DirtyEntry) (result : Result (Option ℕ) Failed) (failed : Failed)
-    → TakesOut before after result → result ≡ Err failed → after ≡ before
-stays_out before after (Err f) failed out is = out.1
-stays_out before after (Ok o) failed out is = cc
 
 -- the block at a place
 block_at : (entries : List DirtyEntry) (k b : ℕ) → k < length entries
@@ -95,7 +76,8 @@ order_sorted entries order is same sorted =
     }
 
 -- what stands behind a place of an order
-behind : (order : List ℕ) (k m b : ℕ) → k + m < length order → get_or order (k + m) b ≡ b → Contains (drop k order) b
+pub behind : (order : List ℕ) (k m b : ℕ) → k + m < length order → get_or order (k + m) b ≡ b
+    → Contains (drop k order) b
 behind order k m b low is =
     let len = length-drop k order in (m, omega arith, get_or-drop k order m b ∙ is)
 
@@ -128,6 +110,25 @@ left_here entries order place b low is left =
     let F : ℕ → Type 0 = λ m. get_or order m b ≡ b in
     let here : place ≡ place + 0 = omega arith in
     left.dirty b (behind order place 0 b (omega arith) (subst F here (get_or_default order place b 0 low ∙ sym is)))
+
+-- the block at a place of the order has an entry
+pub ordered : (entries : List DirtyEntry) (order : List ℕ) (place : ℕ) → IsOrder entries order → place < length order
+    → Contains (map (λ e. e.block) entries) (slice_index order place)
+ordered entries order place is low = Contains-permutation _ _ (slice_index order place)
+    (IsPermutation-sym _ _ is.same) (Contains-get_or order place 0 low)
+
+-- and is one of the disk's
+pub ordered_low : (slots : List ℕ) (entries : List DirtyEntry) (order : List ℕ) (place blocks : ℕ)
+    → AreSlotted slots entries → length slots ≤ blocks → IsOrder entries order → place < length order
+    → slice_index order place < blocks
+ordered_low slots entries order place blocks slotted few is low =
+    let h = ordered entries order place is low in
+    let long = length-map entries (λ e. e.block) in
+    let i_low = h.1 in
+    let at : (dirty_entry_at entries h.0).block ≡ slice_index order place =
+    sym (block_at entries h.0 (slice_index order place) (omega arith)) ∙ h.2 in
+    let within = slotted.low h.0 (omega arith) in
+    omega arith
 
 -- what stands at a place stands at an equal one
 moves : (order : List ℕ) (i j b : ℕ) → i ≡ j → get_or order i b ≡ b → get_or order j b ≡ b
@@ -198,6 +199,19 @@ module _ (entries after : List DirtyEntry) (order : List ℕ) (place b : ℕ) (o
   pub left_next : AreLeft after order (place + 1)
   left_next = record { listed = next_listed; dirty = next_dirty }
 
+-- a front of entries in another order is among them
+pub front_among : (xs ys front : List DirtyEntry) → IsPermutation xs ys → front ≡ take (length ys - 1) ys
+    → AreAmong front xs
+front_among xs ys front same cut = record {
+  each = λ e has.
+      let F : List DirtyEntry → Type 0 = λ l. Contains l e in
+      let h = subst F cut has in
+      let len = length-take-le (length ys - 1) ys (omega arith) in
+      let low = h.1 in
+      Contains-permutation ys xs e (IsPermutation-sym xs ys same)
+      (h.0, omega arith, sym (get_or-take (length ys - 1) ys h.0 e (omega arith)) ∙ h.2);
+}
+
 -- what was written is below what is left
 pub rising_left : (before after : List DirtyEntry) (order : List ℕ) (place : ℕ) → IsOrder before order
     → AreLeft after order place → WritesRising (map (λ e. e.block) before) (map (λ e. e.block) after)
@@ -216,37 +230,6 @@ rising_left before after order place is left = record {
             let same : p.0 ≡ place + (p.0 - place) = omega arith in
             absurd (gone (left.dirty c (behind order place (p.0 - place) c (omega arith) (subst F same p.2))))
       ];
-}
-
--- what is known of the cells below does not depend on the order of the entries
-pub WrittenBack-reordered : (d : DiskState) (xs ys : List DirtyEntry) → IsPermutation xs ys → WrittenBack d d xs ys
-WrittenBack-reordered d xs ys same = record {
-  disk = IsSameDisk-refl d;
-  past = KeepsPast-refl d;
-  later = omega arith;
-  covers = λ may n blocks cov. record {
-    below = cov.below;
-    kept = λ i low.
-        let h = place_before xs ys same i low in
-        let F : DirtyEntry → Type 0 = λ e. Contains (may e.block) e.cell in
-        subst F h.2 (cov.kept h.0 h.1);
-  };
-  picks = λ may n from blocks cov at. at;
-  agrees = λ now ag. record {
-    len = ag.len;
-    kept = λ i low.
-        let h = place_before xs ys same i low in
-        let F : DirtyEntry → Type 0 = λ e. e.block < length now → e.cell ≡ cell_at now e.block in
-        subst F h.2 (ag.kept h.0 h.1);
-    clean = λ b clean. ag.clean b (record {
-      none = λ i low e.
-          let h = place_of xs ys same i low in
-          clean.none h.0 h.1 (ap (λ x. x.block) h.2 ∙ e);
-    });
-  };
-  fewer = λ b has.
-      let blocks = IsPermutation-map (λ e. e.block) ys xs (IsPermutation-sym xs ys same) in
-      Contains-permutation (map (λ e. e.block) ys) (map (λ e. e.block) xs) b blocks has;
 }
 
 -- a write below failed

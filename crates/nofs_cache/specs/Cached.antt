@@ -1,10 +1,10 @@
 -- What a cached disk holds, and what a crash may leave of it.
 use Rattle.std.specs.Prelude.{◌≡◌, ◌⊎◌, ℕ, ◌+◌, ◌-◌, ◌*◌, ◌<◌, ◌≤◌, ◌==◌, if◌then◌else◌, Bool, true, false, List, []}
-use Rattle.std.specs.Prelude.{◌∷◌, length, map, take}
+use Rattle.std.specs.Prelude.{◌∷◌, length, map, slice_index, take}
 use Rattle.std.specs.Prelude.{slice_index_or, Contains, Option, None, Some, Result, Ok, Err, IsPermutation, OnOk, OnErr}
 use Rattle.nofs_disk.specs.declared.Failed.{Failed}
 use Rattle.nofs_disk.specs.declared.tag.Cell.{Cell}
-use Rattle.nofs_disk.specs.Disk.{DiskState, IsSameDisk, IsSettled, KeepsPast, Picks, Rose, cell_at}
+use Rattle.nofs_disk.specs.Disk.{DiskState, IsSameDisk, IsSettled, KeepsPast, Picks, Rose, Writes, cell_at}
 use Rattle.nofs_disk.specs.Cells.{has_cell}
 use Rattle.nofs_disk.specs.Moments.{AtEach}
 use Rattle.nofs_disk.specs.Held.{Held, IsWithin, written}
@@ -13,7 +13,7 @@ use Rattle.nofs_cache.specs.declared.dirty.past.CacheCall.TheVariants.{Write, Fl
 use Rattle.nofs_cache.specs.declared.dirty.cells.DirtyEntry.{DirtyEntry}
 use Rattle.nofs_cache.specs.declared.dirty.cells.DirtyBlocks.{DirtyBlocks}
 use Rattle.nofs_cache.specs.Dirty.Blocks.{block_count, entries_of, order_of, room_of}
-use Rattle.nofs_cache.specs.Dirty.Entries.{IsClean, dirty_entry_at}
+use Rattle.nofs_cache.specs.Dirty.Entries.{IsClean, IsDirtyEntryOf, dirty_entry_at}
 
 -- this cell, where it may be there
 abbrev pub only : Bool → Cell → List Cell
@@ -126,6 +126,19 @@ pub record WrittenBack (old new : DiskState) (before after : List DirtyEntry) : 
       → AtEach (λ m image. Picks may n image) from new
   pub agrees : (now : List Cell) → Agrees now old.now before → Agrees now new.now after
   pub fewer : (b : ℕ) → Contains (map (λ e. e.block) after) b → Contains (map (λ e. e.block) before) b
+
+-- the dirty cell of a block was written to the disk below
+pub record WritesDirty (old new : DiskState) (entries : List DirtyEntry) (b : ℕ)
+    (result : Result (Unit {0}) Failed) : Type 0 where
+  pub at : ℕ
+  pub is : IsDirtyEntryOf entries b at
+  pub writes : Writes old new (dirty_entry_at entries at).block (dirty_entry_at entries at).cell result
+
+-- the disk below has the cells of the first places of an order
+pub record AreBelow (below : List Cell) (entries : List DirtyEntry) (order : List ℕ) (places : ℕ) : Type 0 where
+  pub each : (i k : ℕ) → i < length entries → k < places → slice_index order k ≡ (dirty_entry_at entries i).block
+      → (dirty_entry_at entries i).block < length below
+      → cell_at below (dirty_entry_at entries i).block ≡ (dirty_entry_at entries i).cell
 
 -- blocks were written below in rising order: each that is still dirty is above each that no longer is
 pub record WritesRising (before after : List ℕ) : Type 0 where

@@ -1,6 +1,6 @@
 -- What a write below does to what is known of a cached disk.
-use Rattle.std.proofs.Common.{◌≡◌, ◌≢◌, ℕ, ◌+◌, ◌-◌, ◌<◌, List, [], ◌∷◌, ◌++◌, length, take, map, set, get_or, arith}
-use Rattle.std.proofs.Common.{inl, inr, sym, ap, subst, ◌∙◌, Result}
+use Rattle.std.proofs.Common.{◌≡◌, ◌≢◌, ◌⊎◌, ℕ, ◌+◌, ◌-◌, ◌<◌, List, [], ◌∷◌, ◌++◌, length, take, map, set, get_or}
+use Rattle.std.proofs.Common.{arith, inl, inr, sym, ap, subst, ◌∙◌, Result}
 use Rattle.std.proofs.Common.{Ok, Err}
 use Rattle.std.specs.Prelude.{Contains, IsPermutation}
 use Rattle.std.proofs.lemmas.Bool.{cases_eq, cases_lt}
@@ -193,33 +193,35 @@ writes_back_ok old new entries some is w =
         let all : length (map f entries) ≡ length entries = length-map entries f in
         (k, omega arith, sym (get_or-take i (map f entries) k b (omega arith)) ∙ ap (λ l. get_or l k b) e ∙ is)
 
--- a write below of the last entry that fails
-pub writes_back_err : (old new : DiskState) (entries : List DirtyEntry) (failed : Failed)
-    → 0 < length entries → IsDisk new
-    → Writes old new
-    (dirty_entry_at entries (length entries - 1)).block (dirty_entry_at entries (length entries - 1)).cell (Err failed)
+-- what the disk below holds after a write
+now_after : (old new : DiskState) (b : ℕ) (c : Cell) (result : Result (Unit {0}) Failed) → Writes old new b c result
+    → (new.now ≡ old.now) ⊎ (new.now ≡ set old.now b c)
+now_after old new b c (Ok u) w = inr w.ok
+now_after old new b c (Err failed) w = w.err
+
+-- a write below of an entry that stays
+pub writes_stay : (old new : DiskState) (entries : List DirtyEntry) (i : ℕ) (result : Result (Unit {0}) Failed)
+    → i < length entries → IsDisk new
+    → Writes old new (dirty_entry_at entries i).block (dirty_entry_at entries i).cell result
     → WrittenBack old new entries entries
-writes_back_err old new entries failed some is w =
-    let i = length entries - 1 in
-    let low : i < length entries = omega arith in
-    record {
-      disk = w.disk;
-      past = w.past;
-      later = let e = w.moment in omega arith;
-      covers = λ may n same cov. record { below = below_covers may n old new entries i low w cov; kept = cov.kept };
-      picks = λ may n from same cov at. write_picks may n from old new entries i low is w same cov at;
-      agrees = λ now ag. elim w.err [
-        | inl stays ↦ let F : List Cell → Type 0 = λ l. Agrees now l entries in subst F (sym stays) ag
-        | inr taken ↦ record {
-          len = ap length taken
-              ∙ length-set old.now (dirty_entry_at entries i).block (dirty_entry_at entries i).cell ∙ ag.len;
-          kept = ag.kept;
-          clean = λ b clean. ap (λ l. cell_at l b) taken ∙ get_or-set_other old.now (dirty_entry_at entries i).block b
-              (dirty_entry_at entries i).cell no_cell (λ e. clean.none i low (sym e)) ∙ ag.clean b clean;
-        }
-      ];
-      fewer = λ b has. has;
+writes_stay old new entries i result low is w = record {
+  disk = w.disk;
+  past = w.past;
+  later = let e = w.moment in omega arith;
+  covers = λ may n same cov. record { below = below_covers may n old new entries i low w cov; kept = cov.kept };
+  picks = λ may n from same cov at. write_picks may n from old new entries i low is w same cov at;
+  agrees = λ now ag. elim (now_after old new _ _ result w) [
+    | inl stays ↦ let F : List Cell → Type 0 = λ l. Agrees now l entries in subst F (sym stays) ag
+    | inr taken ↦ record {
+      len = ap length taken
+          ∙ length-set old.now (dirty_entry_at entries i).block (dirty_entry_at entries i).cell ∙ ag.len;
+      kept = ag.kept;
+      clean = λ b clean. ap (λ l. cell_at l b) taken ∙ get_or-set_other old.now (dirty_entry_at entries i).block b
+          (dirty_entry_at entries i).cell no_cell (λ e. clean.none i low (sym e)) ∙ ag.clean b clean;
     }
+  ];
+  fewer = λ b has. has;
+}
 
 -- the same, of the entry that `last` gave
 pub last_writes_back_ok : (old new : DiskState) (entries after : List DirtyEntry) (blocks : ℕ) (e : DirtyEntry)
@@ -242,7 +244,8 @@ last_writes_back_err old new entries blocks e result failed last is err w =
     let F : DirtyEntry → Type 0 = λ x. Writes old new x.block x.cell result in
     let G : Result (Unit {0}) Failed → Type 0 = λ r. Writes old new (dirty_entry_at entries (length entries - 1)).block
     (dirty_entry_at entries (length entries - 1)).cell r in
-    writes_back_err old new entries failed last.some is (subst G err (subst F last.is w))
+    let some = last.some in
+    writes_stay old new entries (length entries - 1) (Err failed) (omega arith) is (subst G err (subst F last.is w))
 
 pub last_out : (entries after : List DirtyEntry) (blocks : ℕ) (e : DirtyEntry) → HasLast entries blocks e
     → after ≡ take (length entries - 1) entries

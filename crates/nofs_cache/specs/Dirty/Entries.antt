@@ -41,6 +41,10 @@ pub record AreLeft (entries : List DirtyEntry) (order : List ℕ) (place : ℕ) 
   pub listed : (b : ℕ) → Contains (map (λ e. e.block) entries) b → Contains (drop place order) b
   pub dirty : (b : ℕ) → Contains (drop place order) b → Contains (map (λ e. e.block) entries) b
 
+-- each of these entries is among all
+pub record AreAmong (these all : List DirtyEntry) : Type 0 where
+  pub each : (e : DirtyEntry) → Contains these e → Contains all e
+
 -- the entry at a place is that of a block
 pub record IsDirtyEntryOf (entries : List DirtyEntry) (b : ℕ) (i : ℕ) : Type 0 where
   pub low : i < length entries

@@ -154,7 +154,7 @@ impl DirtyBlocks {
         ensures blocks { block_count self.new ≡ block_count self.old }
         ensures room { room_of self.old ≤ room_of self.new }
     {
-        self.entries[at] = DirtyEntry { block, cell: *cell };
+        self.entries[at].cell = *cell;
     }
 
     /// Keeps a cell, in the place of the block's earlier one where it is dirty already.
@@ -238,5 +238,15 @@ impl DirtyBlocks {
         ensures room { room_of self.old ≤ room_of self.new }
     {
         self.entries.pop();
+    }
+
+    /// Removes every entry: each block is then clean.
+    pub fn clear(&mut self)
+        ensures entries { entries_of self.new ≡ [] }
+        ensures order { order_of self.new ≡ order_of self.old }
+        ensures blocks { block_count self.new ≡ block_count self.old }
+        ensures room { room_of self.old ≤ room_of self.new }
+    {
+        self.entries.clear();
     }
 }

@@ -3,11 +3,11 @@
 //! Promise: a block is clean only once its cell was written below, and a call that fails below
 //! leaves its block dirty. Any order is safe: what is written below is always the cell that a read
 //! gives. A flush writes in rising order, so that neighbouring cells follow one another.
-ghost use Rattle.std.specs.Prelude.{◌≡◌, ◌+◌, ◌<◌, ◌≤◌, OnOk, OnErr, length, map};
+ghost use Rattle.std.specs.Prelude.{◌≡◌, ◌+◌, ◌<◌, ◌≤◌, OnOk, OnErr, length, map, slice_index};
 ghost use Rattle.nofs_cache.specs.Dirty.Blocks.{block_count, entries_of, order_of, room_of};
-ghost use Rattle.nofs_cache.specs.Dirty.Entries.{AreLeft, IsOrder, Rises};
+ghost use Rattle.nofs_cache.specs.Dirty.Entries.{AreAmong, AreLeft, IsOrder, Rises};
 ghost use Rattle.nofs_cache.specs.Cached.{WrittenBack, WritesRising, SettlesDirty, TakesOut, Shrinks, SpendsOne};
-ghost use Rattle.nofs_cache.specs.Cached.{CallsOnce, KeepsOrder, WroteBelow, WroteAllBelow, Stopped};
+ghost use Rattle.nofs_cache.specs.Cached.{CallsOnce, KeepsOrder, WritesDirty, WroteBelow, WroteAllBelow, Stopped};
 
 use crate::dirty::cells::DirtyBlocks;
 use nofs_disk::{Disk, Failed};
@@ -44,37 +44,53 @@ pub(crate) fn write_back<D: Disk>(
     }
 }
 
-// Writes the block at a place of the order below, where those before it are clean already.
-fn write_back_next<D: Disk>(
-    under: &mut D,
-    dirty: &mut DirtyBlocks,
-    place: usize,
-) -> Result<(), Failed>
-    requires blocks { block_count dirty.old ≡ (D.state under.old).blocks }
+// Writes the block at a place of the order below. Its entry stays.
+fn write_dirty<D: Disk>(under: &mut D, dirty: &DirtyBlocks, place: usize) -> Result<(), Failed>
+    requires blocks { block_count dirty.now ≡ (D.state under.old).blocks }
     requires spare { 1 ≤ (D.state under.old).spare }
-    requires rises { Rises (order_of dirty.old) }
-    requires place { place < length (order_of dirty.old) }
-    requires left { AreLeft (entries_of dirty.old) (order_of dirty.old) place }
-    ensures writes_back { WrittenBack (D.state under.old) (D.state under.new) (entries_of dirty.old)
-        (entries_of dirty.new) }
-    ensures keeps { KeepsOrder dirty.old dirty.new }
-    ensures wrote { OnOk result
-        (WroteBelow (D.state under.old) (D.state under.new) (entries_of dirty.old) (entries_of dirty.new)) }
-    ensures next { OnOk result (AreLeft (entries_of dirty.new) (order_of dirty.new) (place + 1)) }
-    ensures stopped { OnErr result
-        (Stopped (D.state under.old) (D.state under.new) (entries_of dirty.old) (entries_of dirty.new)) }
-    ensures stays { OnErr result (AreLeft (entries_of dirty.new) (order_of dirty.new) place) }
-    ensures as_many { OnErr result (length (entries_of dirty.new) ≡ length (entries_of dirty.old)) }
+    requires order { IsOrder (entries_of dirty.now) (order_of dirty.now) }
+    requires place { place < length (order_of dirty.now) }
+    ensures { WritesDirty (D.state under.old) (D.state under.new) (entries_of dirty.now)
+        (slice_index (order_of dirty.now) place) result }
 {
     let block = dirty.in_order(place);
-    dirty.bring_last(block);
-    match write_back(under, dirty) {
-        Ok(_) => Ok(()),
-        Err(failed) => Err(failed),
+    match dirty.get(block) {
+        Some(cell) => under.write(block, cell),
+        None => unreachable!(),
     }
 }
 
-/// Writes every dirty block below in rising order, up to the first call that fails.
+// Lets the block at a place of the order be clean, where those before it are.
+fn forget_next(dirty: &mut DirtyBlocks, place: usize)
+    requires rises { Rises (order_of dirty.old) }
+    requires place { place < length (order_of dirty.old) }
+    requires left { AreLeft (entries_of dirty.old) (order_of dirty.old) place }
+    ensures left { AreLeft (entries_of dirty.new) (order_of dirty.new) (place + 1) }
+    ensures among { AreAmong (entries_of dirty.new) (entries_of dirty.old) }
+    ensures fewer { length (entries_of dirty.new) + 1 ≡ length (entries_of dirty.old) }
+    ensures keeps { KeepsOrder dirty.old dirty.new }
+{
+    let block = dirty.in_order(place);
+    dirty.bring_last(block);
+    dirty.pop();
+}
+
+// Lets the blocks of the first places of the order be clean.
+fn forget_first(dirty: &mut DirtyBlocks, places: usize)
+    requires order { IsOrder (entries_of dirty.old) (order_of dirty.old) }
+    requires places { places ≤ length (order_of dirty.old) }
+    ensures left { AreLeft (entries_of dirty.new) (order_of dirty.old) places }
+    ensures among { AreAmong (entries_of dirty.new) (entries_of dirty.old) }
+    ensures fewer { length (entries_of dirty.new) + places ≡ length (entries_of dirty.old) }
+    ensures keeps { KeepsOrder dirty.old dirty.new }
+{
+    for place in 0..places {
+        forget_next(dirty, place);
+    }
+}
+
+/// Writes every dirty block below in rising order, up to the first call that fails. No entry moves
+/// before all are written, or a call has failed.
 pub(crate) fn write_back_all<D: Disk>(under: &mut D, dirty: &mut DirtyBlocks) -> Result<(), Failed>
     requires order { IsOrder (entries_of dirty.old) (order_of dirty.old) }
     requires blocks { block_count dirty.old ≡ (D.state under.old).blocks }
@@ -91,11 +107,15 @@ pub(crate) fn write_back_all<D: Disk>(under: &mut D, dirty: &mut DirtyBlocks) ->
         (Stopped (D.state under.old) (D.state under.new) (entries_of dirty.old) (entries_of dirty.new)) }
 {
     for place in 0..dirty.len() {
-        match write_back_next(under, dirty, place) {
+        match write_dirty(under, dirty, place) {
             Ok(()) => {}
-            Err(failed) => return Err(failed),
+            Err(failed) => {
+                forget_first(dirty, place);
+                return Err(failed);
+            }
         }
     }
+    dirty.clear();
     Ok(())
 }
 
