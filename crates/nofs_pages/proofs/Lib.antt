@@ -7,6 +7,7 @@ mod OnComposing
 mod OnBlanks
 mod OnCalls
 mod OnPlaces
+mod OnLaying
 mod OnTwins
 mod OnPairs
 mod OnBench

@@ -16,6 +16,11 @@ unfoldable pub made : ℕ → ℕ → ℕ → List ℕ → List ℕ
 made magic at number body =
     put_number 8 16 (sum_in number body) (put_number 8 8 number (put_number 8 0 magic (put_bytes at body (zeros 4096))))
 
+-- these bytes, with a magic, a number and the sum of what stands from a place on put at their beginning
+unfoldable pub signed : ℕ → ℕ → ℕ → List ℕ → List ℕ
+signed magic at number page =
+    put_number 8 16 (sum_in number (slice_range page at 4096)) (put_number 8 8 number (put_number 8 0 magic page))
+
 -- "NoFSpage"
 abbrev pub single_magic : ℕ
 single_magic = 0x6567617053466f4e

@@ -13,7 +13,7 @@ ghost use Rattle.std.specs.Prelude.{◌≡◌, ◌==◌, ◌+◌, ◌*◌, ◌-�
 ghost use Rattle.std.specs.Prelude.{slice_range};
 ghost use Rattle.std.specs.List.{list_all};
 ghost use Rattle.nofs_disk.specs.Number.{put_bytes, zeros};
-ghost use Rattle.nofs_pages.specs.Pages.{HasAreas, HasPages, HasTold, IsBlank, IsTold, area_of, is_made, is_page, made};
+ghost use Rattle.nofs_pages.specs.Pages.{HasAreas, HasPages, HasTold, IsBlank, IsTold, area_of, is_made, is_page, signed};
 ghost use Rattle.nofs_pages.specs.Pages.{sealed};
 
 use crate::sum::sum_of;
@@ -51,19 +51,46 @@ pub fn is_page(page: &[u8], number: u64) -> bool
     is_made(MAGIC, AREA_AT, page, number)
 }
 
-/// Makes the page with a magic and a number, and with some bytes at its end, from a place on.
-#[tactic(auto, unfolding(crate::specs::Pages::made))]
-pub fn seal(magic: u64, at: usize, body: &[u8], number: u64, page: &mut [u8])
-    requires at { 24 ≤ at }
+// Clears what a page has before a place.
+#[tactic(auto, unfolding(nofs_disk::specs::Number::put_bytes))]
+fn clear_front(page: &mut [u8], at: usize)
+    requires { at ≤ length page.old }
+    ensures { page.new ≡ put_bytes 0 (zeros at) page.old }
+{
+    clear(&mut page[0..at]);
+}
+
+/// Puts some bytes at the end of a page, from a place on, with zeros before them.
+pub fn lay(page: &mut [u8], at: usize, body: &[u8])
     requires body { at + length body.now ≡ 4096 }
     requires page { length page.old ≡ 4096 }
-    ensures { page.new ≡ made magic at number body.now }
+    ensures { page.new ≡ put_bytes at body.now (zeros 4096) }
 {
-    clear(page);
+    clear_front(page, at);
     write_bytes_at(page, at, body);
+}
+
+/// Puts a magic, a number and the sum of what stands from a place on at the beginning of a page.
+#[tactic(auto, unfolding(crate::specs::Pages::signed))]
+pub fn sign(magic: u64, at: usize, number: u64, page: &mut [u8])
+    requires at { at ≤ 4096 }
+    requires page { length page.old ≡ 4096 }
+    ensures { page.new ≡ signed magic at number page.old }
+{
+    let sum = sum_of(&page[at..PAGE_BYTES], number);
     write_u64_at(page, 0, magic);
     write_u64_at(page, 8, number);
-    write_u64_at(page, 16, sum_of(body, number));
+    write_u64_at(page, 16, sum);
+}
+
+// Makes the page with a number and these cells.
+fn seal(number: u64, area: &[u8], page: &mut [u8])
+    requires area { length area.now ≡ 3168 }
+    requires page { length page.old ≡ 4096 }
+    ensures { page.new ≡ sealed number area.now }
+{
+    lay(page, AREA_AT, area);
+    sign(MAGIC, AREA_AT, number, page);
 }
 
 /// Whether all bytes are zeros. Their bits are joined up to the end, which LLVM does for many bytes at once; to stop at
@@ -146,10 +173,8 @@ fn seal_one(area: &[u8], from: usize, number: u64, raw: &mut [u8], to: usize)
     ensures { raw.new ≡ put_bytes to (sealed number (slice_range area.now from (from + 3168))) raw.old }
 {
     seal(
-        MAGIC,
-        AREA_AT,
-        &area[from..from + AREA_BYTES],
         number,
+        &area[from..from + AREA_BYTES],
         &mut raw[to..to + PAGE_BYTES],
     );
 }

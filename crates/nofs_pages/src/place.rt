@@ -22,11 +22,11 @@ ghost use Rattle.nofs_disk.specs.CellsOfBytes.{part_of};
 ghost use Rattle.nofs_disk.specs.Number.{put_bytes};
 ghost use Rattle.nofs_pages.specs.Twins.{HasTwinAreas, HasTwinsTold, IsTwinTold, LearnsVersions, current_of, is_blank};
 ghost use Rattle.nofs_pages.specs.Twins.{is_twin};
-ghost use Rattle.nofs_pages.specs.Twins.{twin_area, twin_body, twin_sealed, twin_version, version_in, version_of_none};
+ghost use Rattle.nofs_pages.specs.Twins.{twin_area, twin_sealed, twin_version, version_in, version_of_none};
 
-use crate::page::{AREA_AT, AREA_BYTES, PAGE_BYTES, clear_area, is_blank, is_made, seal};
+use crate::page::{AREA_AT, AREA_BYTES, PAGE_BYTES, clear_area, is_blank, is_made, lay, sign};
 use crate::versions::Versions;
-use nofs_disk::{clear, read_u64_at, write_bytes_at, write_u64_at};
+use nofs_disk::{read_u64_at, write_bytes_at, write_u64_at};
 
 /// How many bytes both places of a page have.
 pub const PAIR_BYTES: usize = 8_192;
@@ -36,12 +36,6 @@ pub const TWIN_MAGIC: u64 = 0x6e69_7774_5346_6f4e;
 
 /// Where in a place stands what is under its sum, the version first.
 const BODY_AT: usize = 896;
-
-/// How many bytes that has.
-pub const BODY_BYTES: usize = 3_200;
-
-/// Where the cells are in it.
-const AREA_IN_BODY: usize = AREA_AT - BODY_AT;
 
 /// Which place of a page is current.
 #[derive(Clone, Copy, Debug, PartialEq, Eq)]
@@ -204,47 +198,23 @@ pub fn learn_pairs(raw: &[u8], first: u64, count: usize, versions: &mut Versions
     }
 }
 
-// Makes what stands under the sum of a version with these cells.
-#[tactic(auto, unfolding(crate::specs::Twins::twin_body))]
-fn fill_body(version: u64, area: &[u8], body: &mut [u8])
-    requires area { length area.now ≡ 3168 }
-    requires body { length body.old ≡ 3200 }
-    ensures { body.new ≡ twin_body version area.now }
-{
-    clear(body);
-    write_bytes_at(body, AREA_IN_BODY, area);
-    write_u64_at(body, 0, version);
-}
-
 // Makes the place with a page's number, a version and these cells.
-#[tactic(auto, unfolding(crate::specs::Twins::twin_sealed))]
-fn seal_one(number: u64, version: u64, area: &[u8], body: &mut [u8], page: &mut [u8])
+fn seal_one(number: u64, version: u64, area: &[u8], page: &mut [u8])
     requires area { length area.now ≡ 3168 }
-    requires body { length body.old ≡ 3200 }
     requires page { length page.old ≡ 4096 }
-    ensures body { length body.new ≡ 3200 }
-    ensures page { page.new ≡ twin_sealed number version area.now }
+    ensures { page.new ≡ twin_sealed number version area.now }
 {
-    fill_body(version, area, body);
-    seal(TWIN_MAGIC, BODY_AT, body, number, page);
+    lay(page, AREA_AT, area);
+    write_u64_at(page, BODY_AT, version);
+    sign(TWIN_MAGIC, BODY_AT, number, page);
 }
 
-/// Makes the place of a version of one of some pages, behind the places of those before it; `body` is where what is
-/// under its sum is put together.
-pub fn seal_place(
-    first: u64,
-    at: usize,
-    version: u64,
-    areas: &[u8],
-    body: &mut [u8],
-    places: &mut [u8],
-)
+/// Makes the place of a version of one of some pages, behind the places of those before it.
+pub fn seal_place(first: u64, at: usize, version: u64, areas: &[u8], places: &mut [u8])
     requires number { first + at < 349526 }
     requires areas { 3168 * at + 3168 ≤ length areas.now }
-    requires body { length body.old ≡ 3200 }
     requires places { 4096 * at + 4096 ≤ length places.old }
-    ensures body { length body.new ≡ 3200 }
-    ensures places { places.new ≡ put_bytes (4096 * at)
+    ensures { places.new ≡ put_bytes (4096 * at)
         (twin_sealed (first + at) version (part_of areas.now (3168 * at) 3168)) places.old }
 {
     let (from, to) = (AREA_BYTES * at, PAGE_BYTES * at);
@@ -252,7 +222,6 @@ pub fn seal_place(
         first + at as u64,
         version,
         &areas[from..from + AREA_BYTES],
-        body,
         &mut places[to..to + PAGE_BYTES],
     );
 }

@@ -20,7 +20,7 @@ ghost use Rattle.nofs_pages.specs.Twins.{LearnsVersions, NextsTouch};
 ghost use Rattle.nofs_pages.specs.Twins.{TwinRests, WritesTwins, next_in, twin_sealed, twin_state};
 
 use crate::page::{AREA_BYTES, PAGE_BYTES};
-use crate::place::{BODY_BYTES, PAIR_BYTES, learn_pairs, open_pairs, seal_place};
+use crate::place::{PAIR_BYTES, learn_pairs, open_pairs, seal_place};
 use crate::row::zeros;
 use crate::store::PageStore;
 use crate::versions::Versions;
@@ -34,9 +34,7 @@ const ROW_BYTES: usize = 262_144;
 /// Where places are made: one, or two that touch.
 #[derive(Drop)]
 struct Bench {
-    body: Vec<u8>,
     places: Vec<u8>,
-    ghost body_size: { length body.items ≡ 3200 },
     ghost places_size: { length places.items ≡ 8192 },
 }
 
@@ -67,14 +65,7 @@ impl Bench {
         ensures { self.new.places.items ≡ put_bytes (4096 * at)
             (twin_sealed (first + at) version (part_of areas.now (3168 * at) 3168)) self.old.places.items }
     {
-        seal_place(
-            first,
-            at,
-            version,
-            areas,
-            self.body.as_mut_slice(),
-            self.places.as_mut_slice(),
-        );
+        seal_place(first, at, version, areas, self.places.as_mut_slice());
     }
 }
 
@@ -298,7 +289,6 @@ impl<B: Positioned + Drop> Twin<B> {
             faults: 0,
             pairs: zeros(alloc, ROW_BYTES)?,
             bench: Bench {
-                body: zeros(alloc, BODY_BYTES)?,
                 places: zeros(alloc, PAIR_BYTES)?,
             },
         })
