@@ -2,10 +2,12 @@
 #define _GNU_SOURCE
 #include "nofs_client.h"
 
+#include <endian.h>
 #include <errno.h>
 #include <fcntl.h>
 #include <poll.h>
 #include <signal.h>
+#include <spawn.h>
 #include <stdlib.h>
 #include <string.h>
 #include <sys/uio.h>
@@ -23,7 +25,8 @@ enum {
     BODY_BYTES = 1100,
     SEEN_AT_ONCE = 64,          /* often nothing but the last of an image is free */
     ROUNDS = 1 << 15,           /* of examining, which is twice the blocks of the largest image */
-    GRACE = 200                 /* hundredths of a second, for a program that was told to end */
+    GRACE = 200,                /* hundredths of a second, for a program that was told to end */
+    NOT_STARTED = 127           /* the status of a program that could not be */
 };
 
 const struct nofs_at nofs_root = {1, 1}, nofs_label = {2, 2};
@@ -57,16 +60,26 @@ static int grow_replies(struct nofs *it)
 /* The session */
 
 /* In a session of its own: a signal from the terminal ends the program only by way of its caller, which may flush
- * before. */
-static void become_program(const struct nofs *it, int from, int to)
+ * before. A fork would copy what the caller has, and each page that it writes next. */
+static int spawn(struct nofs *it, int from, int to)
 {
+    char *words[] = {(char *)(uintptr_t)it->program, (char *)(uintptr_t)it->image, "wire", NULL};
+    posix_spawn_file_actions_t files;
+    posix_spawnattr_t how;
     sigset_t none;
     sigemptyset(&none);
-    sigprocmask(SIG_SETMASK, &none, NULL);
-    setsid();
-    if (dup2(from, 0) < 0 || dup2(to, 1) < 0) _exit(127);
-    execl(it->program, it->program, it->image, "wire", (char *)0);
-    _exit(127);
+    int error = posix_spawn_file_actions_init(&files);
+    if (error) return 0;
+    if (!(error = posix_spawnattr_init(&how))) {
+        posix_spawnattr_setsigmask(&how, &none);
+        posix_spawnattr_setflags(&how, POSIX_SPAWN_SETSID | POSIX_SPAWN_SETSIGMASK);
+        error = posix_spawn_file_actions_adddup2(&files, from, 0);
+        if (!error) error = posix_spawn_file_actions_adddup2(&files, to, 1);
+        if (!error) error = posix_spawn(&it->child, it->program, &files, &how, words, environ);
+        posix_spawnattr_destroy(&how);
+    }
+    posix_spawn_file_actions_destroy(&files);
+    return !error;
 }
 
 /* A descriptor above those of the program's standard files, which it must not be closed or taken for. */
@@ -97,11 +110,15 @@ static int start(struct nofs *it)
 {
     int ends[4] = {-1, -1, -1, -1};     /* to the program, and from it: where it is read, and where it is written */
     struct sigaction broken;
-    if (!make_pipe(ends) || !make_pipe(ends + 2) || fcntl(ends[1], F_SETFL, O_NONBLOCK) || (it->child = fork()) < 0) {
+    if (!make_pipe(ends) || !make_pipe(ends + 2) || fcntl(ends[1], F_SETFL, O_NONBLOCK)) {
         close_all(ends, 4);
         return NOFS_ENDED;
     }
-    if (it->child == 0) become_program(it, ends[0], ends[3]);
+    if (!spawn(it, ends[0], ends[3])) {     /* as one that ended at once, which the first call tells */
+        close_all(ends, 4);
+        it->status = NOT_STARTED;
+        return NOFS_OK;
+    }
     close(ends[0]);
     close(ends[3]);
     it->to = ends[1];
@@ -163,7 +180,7 @@ static int ended(struct nofs *it)
 {
     keep_said(it);
     if (it->to >= 0) it->status = end_program(it, 1);
-    else if (!it->status) it->status = 127;
+    else if (!it->status) it->status = NOT_STARTED;
     it->ended = 1;
     if (it->on_end) it->on_end(it->with);
     return NOFS_ENDED;
@@ -203,7 +220,7 @@ int nofs_watch(struct nofs *it)
     struct pollfd end = {it->from, POLLIN, 0};
     if (it->ended) return NOFS_ENDED;
     it->in.length = 0;
-    return poll(&end, 1, 0) > 0 ? ended(it) : NOFS_OK;
+    return it->from < 0 || poll(&end, 1, 0) > 0 ? ended(it) : NOFS_OK;
 }
 
 /* A batch */
@@ -216,14 +233,15 @@ void nofs_begin(struct nofs *it)
 
 static void put_number(uint8_t *to, uint64_t number, int bytes)
 {
-    for (int n = 0; n < bytes; n++) to[n] = (uint8_t)(number >> 8 * n);
+    number = htole64(number);
+    memcpy(to, &number, (size_t)bytes);
 }
 
 static uint64_t get_number(const uint8_t *from, int bytes)
 {
     uint64_t number = 0;
-    while (bytes--) number = number << 8 | from[bytes];
-    return number;
+    memcpy(&number, from, (size_t)bytes);
+    return le64toh(number);
 }
 
 static void spell(struct nofs *it, uint64_t number, int bytes)
@@ -336,7 +354,8 @@ void nofs_add_put(struct nofs *it, struct nofs_at file, uint64_t slot, uint32_t 
     if (length > NOFS_SLOT_BYTES) place = NOFS_SLOT_BYTES, length = 1;
     spell(it, slot, 8);
     spell(it, place, 4);
-    memcpy(it->out.bytes + it->out.length, bytes, length);
+    /* a copy of a bounded length is no call of the library by memcpy, and slower */
+    memmove(it->out.bytes + it->out.length, bytes, length);
     it->out.length += length;
     end_frame(it);
 }
