@@ -115,6 +115,16 @@ class Mounted(Folders):
         found = run(["pgrep", "-P", str(self.mount.pid)])[0].split()
         return int(found[0])
 
+    def counted(self, what):
+        """How many requests the server was asked, or how many steps or batches it sent."""
+        size = len(read(self.at("said")))
+        self.mount.send_signal(signal.SIGUSR1)
+        limit = time.monotonic() + SECONDS
+        while len(read(self.at("said"))) == size and time.monotonic() < limit:
+            time.sleep(0.02)
+        said = read(self.at("said")).decode().split()
+        return int(said[len(said) - said[::-1].index(what)])
+
 
 class Programs(Mounted):
     """Programs that know nothing of NoFS."""
@@ -528,6 +538,14 @@ class Where(Mounted):
         os.write(file, b"x")
         self.assertEqual([os.spawnv(os.P_WAIT, shutil.which("true"), ["true"]) for _ in range(20)], [0] * 20)
         os.close(file)
+
+    def test_a_large_write_is_several_requests(self):
+        """Between which others are served."""
+        data = os.urandom(1 << 20)
+        with open(self.path("f"), "wb", buffering=0) as file:
+            before = self.counted("requests")
+            file.write(data)
+            self.assertIn(self.counted("requests") - before, range(16, 40))
 
     @unittest.skipUnless(shutil.which("cc"), "no C compiler")
     def test_pipes_that_cannot_grow_do_as_well(self):

@@ -250,19 +250,10 @@ class Opened(Mounted):
     def test_a_read_of_one_byte_fetches_no_whole_file(self):
         write(self.path("f"), bytes(4000000))
         self.remount()
-        before = self.steps()
+        before = self.counted("steps")
         with open(self.path("f"), "rb", buffering=0) as file:
             file.read(1)
-        self.assertLess(self.steps() - before, 400)
-
-    def steps(self):
-        """How many steps the server has sent."""
-        size = len(read(self.at("said")))
-        self.mount.send_signal(signal.SIGUSR1)
-        limit = time.monotonic() + SECONDS
-        while len(read(self.at("said"))) == size and time.monotonic() < limit:
-            time.sleep(0.02)
-        return int(read(self.at("said")).split()[-3])
+        self.assertLess(self.counted("steps") - before, 400)
 
     def test_calls_of_many_end_while_the_program_dies_again_and_again(self):
         stop, errors = threading.Event(), []

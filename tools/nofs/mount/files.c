@@ -11,7 +11,7 @@
 #include <string.h>
 #include <unistd.h>
 
-enum { SLOT = NOFS_SLOT_BYTES, LOOKED_AT_FIRST = 64, LARGE = 1 << 18, DAY = 86400 };
+enum { SLOT = NOFS_SLOT_BYTES, LOOKED_AT_FIRST = 64, DAY = 86400 };
 
 static uint64_t slots_of(uint64_t bytes) { return (bytes + SLOT - 1) / SLOT; }
 static uint64_t least(uint64_t a, uint64_t b) { return a < b ? a : b; }
@@ -33,7 +33,7 @@ static int get(struct mount *it, const struct node *node, uint64_t first, uint64
         answer = nofs_take_value(&it->nofs.replies[n], &value, &bytes);
         if (answer == NOFS_LOST_SLOT) answer = NOFS_OK;
         *is_whole = !answer && value != NOFS_LOST;
-        if (*is_whole) memcpy(it->buffer + *got, bytes, SLOT), *got += SLOT;
+        if (*is_whole) memmove(it->buffer + *got, bytes, SLOT), *got += SLOT;
     }
     return answer;
 }
@@ -269,7 +269,6 @@ static int store(struct mount *it, struct node *node, const char *bytes, size_t 
     uint64_t old = node->size;
     size_t done;
     it->ahead.node = NULL;
-    if (size >= LARGE) processor_part();
     add_write(it, node, bytes, size, at);
     int answer = nofs_claim(&it->nofs, &done);
     *stored = stored_by(done, size, at, at > old);

@@ -39,7 +39,7 @@ struct mount {
     int may_ask_again, is_unanswered; /* the request that is served now; it met the end of a session */
 };
 
-enum { MOST_BYTES = 1 << 20, MOST_LINKS = 4, STEPS_AT_ONCE = 512 };
+enum { MOST_BYTES = 1 << 20, MOST_WRITTEN = 1 << 16, MOST_LINKS = 4, STEPS_AT_ONCE = 512 };
 #define HIDDEN_NAME ".nofs"
 
 /* main.c */
@@ -92,8 +92,6 @@ void kernel_wait_for_notices(void);
 void processor_begin(void);
 void processor_choose_anew(void);
 void processor_share(pid_t program);
-/* Until then, for a batch that takes long. */
-void processor_part(void);
 
 /* folders.c: calls for each line of a directory that is not dead. */
 typedef void of_line(struct mount *it, const struct nofs_name *line, void *with);

@@ -2,8 +2,7 @@
  *
  * Of the two one alone has work at a time: a batch goes out, and the server waits for its replies. On two processors
  * each such turn wakes one that sleeps, which costs more than what is done in it. So both are kept on one, and the
- * kernel chooses anew each second, of those that the mount was allowed when it began. A large batch is taken while it
- * is still sent, so for it the server leaves. What fails here is no matter. */
+ * kernel chooses anew each second, of those that the mount was allowed when it began. What fails here is no matter. */
 #define _GNU_SOURCE
 #include "mount.h"
 
@@ -14,7 +13,7 @@
 
 static cpu_set_t allowed;
 static cpu_set_t chosen;
-static int has_choice, is_chosen, is_apart;
+static int has_choice, is_chosen;
 static pid_t chosen_for;
 
 void processor_begin(void)
@@ -43,11 +42,6 @@ static void keep_on(pid_t process, const cpu_set_t *one)
     closedir(tasks);
 }
 
-void processor_part(void)
-{
-    if (is_chosen && !is_apart) is_apart = !sched_setaffinity(0, sizeof allowed, &allowed);
-}
-
 static void choose(pid_t program)
 {
     int here = sched_getcpu();
@@ -57,13 +51,10 @@ static void choose(pid_t program)
     is_chosen = 1;
     chosen_for = program;
     if (program > 0) keep_on(program, &chosen);
+    sched_setaffinity(0, sizeof chosen, &chosen);
 }
 
 void processor_share(pid_t program)
 {
-    int is_new = !is_chosen || chosen_for != program;
-    if (!has_choice || (!is_new && !is_apart)) return;
-    if (is_new) choose(program);
-    if (is_chosen) sched_setaffinity(0, sizeof chosen, &chosen);
-    is_apart = 0;
+    if (has_choice && (!is_chosen || chosen_for != program)) choose(program);
 }

@@ -216,7 +216,7 @@ static void do_statfs(fuse_req_t request, fuse_ino_t number)
 }
 
 /* No writeback cache: a write would be accepted that the image has no room for, and what is stored short is told to
- * nobody. */
+ * nobody. Of a megabyte that is written at once each copy would go by way of the slower caches. */
 static void do_init(void *with, struct fuse_conn_info *connection)
 {
     const unsigned wanted = FUSE_CAP_READDIRPLUS | FUSE_CAP_READDIRPLUS_AUTO | FUSE_CAP_ATOMIC_O_TRUNC |
@@ -224,7 +224,7 @@ static void do_init(void *with, struct fuse_conn_info *connection)
     const unsigned unwanted = FUSE_CAP_AUTO_INVAL_DATA | FUSE_CAP_SPLICE_READ | FUSE_CAP_SPLICE_WRITE |
                               FUSE_CAP_SPLICE_MOVE | FUSE_CAP_IOCTL_DIR;
     struct mount *it = with;
-    connection->max_write = MOST_BYTES;
+    connection->max_write = MOST_WRITTEN;
     connection->want |= connection->capable & wanted;
     connection->want &= ~unwanted;
     it->has_epochs = connection->proto_major == 7 && connection->proto_minor >= 44;
