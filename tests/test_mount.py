@@ -539,6 +539,15 @@ class Where(Mounted):
         self.assertEqual([os.spawnv(os.P_WAIT, shutil.which("true"), ["true"]) for _ in range(20)], [0] * 20)
         os.close(file)
 
+    def test_what_is_listed_together_is_asked_for_together(self):
+        for number in range(40):
+            os.makedirs(self.path(f"d{number}", "sub"))
+        self.remount()
+        before = self.counted("batches")
+        links = {line.name: os.stat(line.path).st_nlink for line in os.scandir(self.top)}
+        self.assertEqual(links, {f"d{number}": 3 for number in range(40)})
+        self.assertLess(self.counted("batches") - before, 12)
+
     def test_a_large_write_is_several_requests(self):
         """Between which others are served."""
         data = os.urandom(1 << 20)

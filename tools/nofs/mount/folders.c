@@ -8,24 +8,41 @@
 #include <string.h>
 #include <sys/stat.h>
 
-enum { LISTED_AT_ONCE = 8 };
+enum { LISTED_AT_ONCE = 8, COUNTED_AT_ONCE = 64 };
 
 /* Walking over the lines */
 
-/* The slots of a batch: List gives the first slot from a place on that has names, so one may come more than once. */
-static int take_slots(struct mount *it, uint64_t first, struct nofs_names *names, int *count, int *is_end)
+static void add_lists(struct mount *it, struct nofs_at folder, uint64_t first)
+{
+    for (uint64_t n = 0; n < LISTED_AT_ONCE; n++) nofs_add_list(&it->nofs, folder, first + n);
+}
+
+/* The slots of so many Lists, whose replies begin at `place`: List gives the first slot from a place on that has names,
+ * so one may come more than once. */
+static int take_slots(struct mount *it, size_t place, uint64_t first, struct nofs_names *names, int *count, int *is_end)
 {
     uint64_t next = first;
     *count = *is_end = 0;
-    for (uint64_t n = 0; n < it->nofs.count && !*is_end; n++) {
+    for (uint64_t n = 0; n < LISTED_AT_ONCE && !*is_end; n++) {
         if (first + n < next) continue;
-        int answer = nofs_take_names(&it->nofs.replies[n], first + n, &names[*count]);
+        int answer = nofs_take_names(&it->nofs.replies[place + n], first + n, &names[*count]);
         if (answer) return answer;
         *is_end = names[*count].end;
         next = names[*count].slot + 1;
         if (!*is_end) ++*count;
     }
     return NOFS_OK;
+}
+
+static void call_lines(struct mount *it, struct nofs_at folder, const struct nofs_names *names, int count,
+                       of_line *call, void *with)
+{
+    for (int n = 0; n < count; n++) {
+        if (names[n].lost)
+            tell("slot %llu of directory %u is lost", (unsigned long long)names[n].slot, folder.inode);
+        for (int k = 0; k < names[n].count; k++)
+            if (!names[n].names[k].dead) call(it, &names[n].names[k], with);
+    }
 }
 
 int each_line(struct mount *it, struct nofs_at folder, of_line *call, void *with)
@@ -35,19 +52,61 @@ int each_line(struct mount *it, struct nofs_at folder, of_line *call, void *with
     for (uint64_t next = 0; !is_end;) {
         int count;
         nofs_begin(&it->nofs);
-        for (uint64_t n = 0; n < LISTED_AT_ONCE; n++) nofs_add_list(&it->nofs, folder, next + n);
+        add_lists(it, folder, next);
         int answer = nofs_send(&it->nofs);
-        if (!answer) answer = take_slots(it, next, names, &count, &is_end);
+        if (!answer) answer = take_slots(it, 0, next, names, &count, &is_end);
         if (answer) return answer;
-        for (int n = 0; n < count; n++) {
-            if (names[n].lost)
-                tell("slot %llu of directory %u is lost", (unsigned long long)names[n].slot, folder.inode);
-            for (int k = 0; k < names[n].count; k++)
-                if (!names[n].names[k].dead) call(it, &names[n].names[k], with);
-            next = names[n].slot + 1;
-        }
+        call_lines(it, folder, names, count, call, with);
+        if (count) next = names[count - 1].slot + 1;
     }
     return NOFS_OK;
+}
+
+/* Counting the directories in a directory */
+
+static void count_folder(struct mount *it, const struct nofs_name *line, void *with)
+{
+    struct node *node = with;
+    if (line->kind == NOFS_DIRECTORY && !is_hidden(it, node, line->name)) node->folders++;
+}
+
+int count_folders(struct mount *it, struct node *node)
+{
+    node->folders = 0;
+    int answer = each_line(it, node->at, count_folder, node);
+    if (!answer) node->is_counted = 1;
+    return answer;
+}
+
+/* In one batch; one with more slots than are listed at once is listed again, by itself. */
+static int count_together(struct mount *it, struct node **nodes, size_t count)
+{
+    nofs_begin(&it->nofs);
+    for (size_t n = 0; n < count; n++) add_lists(it, nodes[n]->at, 0);
+    int answer = nofs_send(&it->nofs);
+    for (size_t n = 0; !answer && n < count; n++) {
+        struct nofs_names names[LISTED_AT_ONCE];
+        int slots;
+        nodes[n]->folders = 0;
+        answer = take_slots(it, n * LISTED_AT_ONCE, 0, names, &slots, &nodes[n]->is_counted);
+        if (nodes[n]->is_counted) call_lines(it, nodes[n]->at, names, slots, count_folder, nodes[n]);
+    }
+    for (size_t n = 0; !answer && n < count; n++)
+        if (!nodes[n]->is_counted) answer = count_folders(it, nodes[n]);
+    return answer;
+}
+
+int count_new_folders(struct mount *it, struct node *const *nodes, size_t count)
+{
+    struct node *some[COUNTED_AT_ONCE];
+    int answer = NOFS_OK;
+    for (size_t n = 0; !answer && n < count;) {
+        size_t found = 0;
+        for (; n < count && found < COUNTED_AT_ONCE; n++)
+            if (nodes[n] && nodes[n]->kind == NOFS_DIRECTORY && !nodes[n]->is_counted) some[found++] = nodes[n];
+        if (found) answer = count_together(it, some, found);
+    }
+    return answer;
 }
 
 /* Directories that are open */

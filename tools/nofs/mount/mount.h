@@ -96,6 +96,10 @@ void processor_share(pid_t program);
 /* folders.c: calls for each line of a directory that is not dead. */
 typedef void of_line(struct mount *it, const struct nofs_name *line, void *with);
 int each_line(struct mount *it, struct nofs_at folder, of_line *call, void *with);
+/* The directories in a directory, which are its links. */
+int count_folders(struct mount *it, struct node *node);
+/* Of each that became known just now; NULL is none. */
+int count_new_folders(struct mount *it, struct node *const *nodes, size_t count);
 /* Lets go of the directories that are open, where the kernel will not. */
 void listings_close(struct mount *it);
 
@@ -105,7 +109,5 @@ int recover(struct mount *it, struct notice **notice);
 
 /* requests.c */
 extern const struct fuse_lowlevel_ops requests;
-/* The directories in a directory, which are its links. */
-int count_folders(struct mount *it, struct node *node);
 
 #endif

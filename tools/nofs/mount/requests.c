@@ -147,21 +147,6 @@ int is_hidden(const struct mount *it, const struct node *folder, const char *nam
 
 int is_too_long(const char *name) { return strlen(name) > NOFS_NAME_BYTES; }
 
-static void count_folder(struct mount *it, const struct nofs_name *line, void *with)
-{
-    struct node *node = with;
-    if (line->kind == NOFS_DIRECTORY && !is_hidden(it, node, line->name)) node->folders++;
-}
-
-/* A directory is listed once, when it becomes known. */
-int count_folders(struct mount *it, struct node *node)
-{
-    node->folders = 0;
-    int answer = each_line(it, node->at, count_folder, node);
-    if (!answer) node->is_counted = 1;
-    return answer;
-}
-
 static void take_node(struct mount *it, struct sight *seen, struct node **node, const struct nofs_reply *reply)
 {
     struct nofs_stat stat;
@@ -182,9 +167,7 @@ int nodes_of(struct mount *it, struct sight *seen, struct node **nodes, size_t c
     int answer = nofs_send(&it->nofs);
     for (size_t n = 0, place = 0; !answer && n < count; n++)
         if (!nodes[n] && !seen[n].answer) take_node(it, &seen[n], &nodes[n], &it->nofs.replies[place++]);
-    for (size_t n = 0; !answer && n < count; n++)
-        if (nodes[n] && nodes[n]->kind == NOFS_DIRECTORY && !nodes[n]->is_counted) answer = count_folders(it, nodes[n]);
-    return answer;
+    return answer ? answer : count_new_folders(it, nodes, count);
 }
 
 int look(struct mount *it, const struct node *folder, const char *name, struct node **node)
