@@ -13,8 +13,8 @@ ghost use Rattle.std.specs.Prelude.{◌≡◌, ◌==◌, ◌+◌, ◌*◌, ◌-�
 ghost use Rattle.std.specs.Prelude.{slice_range};
 ghost use Rattle.std.specs.List.{list_all};
 ghost use Rattle.nofs_disk.specs.Number.{put_bytes, zeros};
-ghost use Rattle.nofs_pages.specs.Pages.{HasAreas, HasPages, HasTold, IsBlank, IsTold, area_of, is_made, is_page, signed};
-ghost use Rattle.nofs_pages.specs.Pages.{sealed};
+ghost use Rattle.nofs_pages.specs.Pages.{HasAreas, HasPages, HasTold, IsBlank, IsTold, area_of, is_made, is_page};
+ghost use Rattle.nofs_pages.specs.Pages.{sealed, signed};
 
 use crate::sum::sum_of;
 use nofs_disk::{clear, read_u64_at, write_bytes_at, write_u64_at};

@@ -120,7 +120,7 @@ pub trait Serves: Kept<Entry = Entry1> + Drop {
         ensures stays { stays self.old self.new };
 
     /// Asks the device to write out one block that it keeps back: its number, or `None` where it says that there is
-    /// none. It makes no entry. That a block is written out is not promised here, as the calls of a device are not seen.
+    /// none. It makes no entry. That a block is written out is not promised here: the calls of a device are not seen.
     fn write_out(&mut self) -> Result<Option<u64>, OutFault>
         ensures fixed { Self.fixed self.new ≡ Self.fixed self.old }
         ensures entries { Self.entries self.new ≡ Self.entries self.old };

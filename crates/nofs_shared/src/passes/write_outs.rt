@@ -59,8 +59,8 @@ impl<R: Wait, V: Serves> SharedPass<'_, R, V> {
     }
 
     /// Asks the device to write out one block that it keeps back: its number, or `None` where it says that there is
-    /// none. It makes no step, and looks at the turn; no more is promised. It takes the turn once, but where a write-out
-    /// found none and no step has begun since, it only looks at the turn, and answers `None`.
+    /// none. It makes no step, and looks at the turn; no more is promised. It takes the turn once; where a write-out
+    /// found none and no step has begun since, it only looks at it, and answers `None`.
     pub fn write_out(&mut self) -> Result<Option<u64>, OutFault>
         ensures same { (self.new.turn.now ≡ self.old.turn.now) × (self.new.caller ≡ self.old.caller)
             × SameSeat (view_of self.old.pass) (view_of self.new.pass) }
