@@ -77,7 +77,7 @@ pub fn list<D: Disk + Drop>(
         inode: directory,
         record: it,
     };
-    let found = match find_listed(&mut core.disk, read, &mut names, slot) {
+    let found = match find_listed(&mut core.disk, &read, &mut names, slot) {
         Ok(found) => found,
         Err(_) => return Err(Refusal::ReadFault),
     };
@@ -86,7 +86,7 @@ pub fn list<D: Disk + Drop>(
         ListedSlot::Lost(slot) => Ok(Listed::LostNames(u64::from(slot))),
         ListedSlot::Holds(slot) => {
             let payload = &names.cell.payload;
-            match read_lines(alloc, &mut core.disk, read, payload, slot) {
+            match read_lines(alloc, &mut core.disk, &read, payload, slot) {
                 Ok(lines) => Ok(Listed::Names(u64::from(slot), lines)),
                 Err(why) => Err(why),
             }
@@ -98,13 +98,13 @@ pub fn list<D: Disk + Drop>(
 // that was read last.
 fn find_listed<D: Disk>(
     disk: &mut D,
-    directory: ReadInode,
+    directory: &ReadInode,
     names: &mut LastRead,
     from: u64,
 ) -> Result<ListedSlot, Failed>
-    requires known { Knows (D.state disk.old) directory }
+    requires known { Knows (D.state disk.old) directory.now }
     requires last { IsLast (D.state disk.old) names.old }
-    ensures { FindsListed (D.state disk.old) (D.state disk.new) directory.inode from names.new result }
+    ensures { FindsListed (D.state disk.old) (D.state disk.new) directory.now.inode from names.new result }
 {
     for slot in from..72 {
         match find_slot(
@@ -127,15 +127,15 @@ fn find_listed<D: Disk>(
 fn read_lines<D: Disk>(
     alloc: Global,
     disk: &mut D,
-    directory: ReadInode,
+    directory: &ReadInode,
     payload: &[u8; 1024],
     slot: u32,
 ) -> Result<NameList, Refusal>
-    requires directory { KnowsFolder (D.state disk.old) directory }
+    requires directory { KnowsFolder (D.state disk.old) directory.now }
     requires slot { slot < 72 }
     requires cell { IsTrue (D.state disk.old).tells
-        → value (D.state disk.old).now directory.inode slot ≡ Bytes payload.now }
-    ensures { ReadsLines (D.state disk.old) (D.state disk.new) directory.inode slot result }
+        → value (D.state disk.old).now directory.now.inode slot ≡ Bytes payload.now }
+    ensures { ReadsLines (D.state disk.old) (D.state disk.new) directory.now.inode slot result }
 {
     let mut lines = NameList::new(alloc);
     let mut records = LastRead::NONE;

@@ -87,7 +87,7 @@ fn rename_with_room<D: Disk + Drop>(
         record: it,
     };
     let pair = NamedPair { at, it, found };
-    match find_unused(&mut core.disk, new, directory, &mut names, &mut records) {
+    match find_unused(&mut core.disk, new, &directory, &mut names, &mut records) {
         Ok(_) => rename_found(alloc, core, pair, new, &mut names),
         Err(why) => Err(why),
     }
@@ -115,7 +115,7 @@ fn rename_found<D: Disk + Drop>(
         inode: pair.at.directory,
         record: pair.it,
     };
-    match hold_entry(&mut core.disk, directory, found, names) {
+    match hold_entry(&mut core.disk, &directory, found, names) {
         Err(why) => Err(why),
         Ok(pointer) => {
             let mut cell = names.cell;

@@ -22,12 +22,12 @@ use std::alloc::Global;
 pub(crate) fn owned_blocks<D: Disk>(
     alloc: Global,
     disk: &mut D,
-    it: ReadInode,
+    it: &ReadInode,
     last: &mut LastRead,
 ) -> Result<FreedBlocks, Refusal>
-    requires known { Knows (D.state disk.old) it }
+    requires known { Knows (D.state disk.old) it.now }
     requires last { IsLast (D.state disk.old) last.old }
-    ensures { OwnsBlocks (D.state disk.old) (D.state disk.new) it.at it.inode last.new result }
+    ensures { OwnsBlocks (D.state disk.old) (D.state disk.new) it.now.at it.now.inode last.new result }
 {
     let mut owned = FreedBlocks::new(alloc, it.at.blocks);
     mark_slots(disk, &it.at, it.inode, &it.record, 0, 72, &mut owned, last)?;
@@ -49,15 +49,15 @@ pub(crate) fn owned_blocks<D: Disk>(
 // Finds the blocks of the slots below the top, where there is one.
 fn mark_far<D: Disk>(
     disk: &mut D,
-    it: ReadInode,
+    it: &ReadInode,
     owned: &mut FreedBlocks,
     last: &mut LastRead,
 ) -> Result<(), Refusal>
-    requires known { Knows (D.state disk.old) it }
-    requires size { length owned.old ≡ it.at.blocks }
+    requires known { Knows (D.state disk.old) it.now }
+    requires size { length owned.old ≡ it.now.at.blocks }
     requires last { IsLast (D.state disk.old) last.old }
     ensures { MarksAll (D.state disk.old)
-        (D.state disk.new) it.at it.inode 72 slot_limit owned.old owned.new last.new result }
+        (D.state disk.new) it.now.at it.now.inode 72 slot_limit owned.old owned.new last.new result }
 {
     match find_slot(disk, &it.at, it.inode, &it.record, Place::InRecord(9), last) {
         Ok(PathAnswer::Hole) => Ok(()),
@@ -76,15 +76,15 @@ fn mark_far<D: Disk>(
 fn mark_child<D: Disk>(
     child: u64,
     disk: &mut D,
-    it: ReadInode,
+    it: &ReadInode,
     owned: &mut FreedBlocks,
     last: &mut LastRead,
 ) -> Result<(), Refusal>
     requires child { child < 64 }
-    requires known { Knows (D.state disk.old) it }
-    requires size { length owned.old ≡ it.at.blocks }
+    requires known { Knows (D.state disk.old) it.now }
+    requires size { length owned.old ≡ it.now.at.blocks }
     requires last { IsLast (D.state disk.old) last.old }
-    ensures { MarksAll (D.state disk.old) (D.state disk.new) it.at it.inode (72 + 64 * child)
+    ensures { MarksAll (D.state disk.old) (D.state disk.new) it.now.at it.now.inode (72 + 64 * child)
         (72 + 64 * (child + 1)) owned.old owned.new last.new result }
 {
     let place = Place::UnderRecord {

@@ -19,14 +19,15 @@ use nofs_super::SuperBlock;
 /// Whether some entry of a directory is a pair.
 pub(crate) fn has_names<D: Disk>(
     disk: &mut D,
-    directory: ReadInode,
+    directory: &ReadInode,
     names: &mut LastRead,
     records: &mut LastRead,
 ) -> Result<bool, Failed>
     requires names { IsLast (D.state disk.old) names.old }
-    requires directory { KnowsFolder (D.state disk.old) directory }
+    requires directory { KnowsFolder (D.state disk.old) directory.now }
     requires last { IsLast (D.state disk.old) records.old }
-    ensures search { NamesOn (D.state disk.old) (D.state disk.new) directory.inode 0 entry_limit records.new result }
+    ensures search { NamesOn (D.state disk.old)
+        (D.state disk.new) directory.now.inode 0 entry_limit records.new result }
 {
     for slot in 0..72 {
         if slot_has_names(disk, directory, slot, names, records)? {
@@ -38,16 +39,16 @@ pub(crate) fn has_names<D: Disk>(
 
 fn slot_has_names<D: Disk>(
     disk: &mut D,
-    directory: ReadInode,
+    directory: &ReadInode,
     slot: u32,
     names: &mut LastRead,
     records: &mut LastRead,
 ) -> Result<bool, Failed>
-    requires directory { KnowsFolder (D.state disk.old) directory }
+    requires directory { KnowsFolder (D.state disk.old) directory.now }
     requires slot { slot < 72 }
     requires names { IsLast (D.state disk.old) names.old }
     requires last { IsLast (D.state disk.old) records.old }
-    ensures search { NamesOn (D.state disk.old) (D.state disk.new) directory.inode (16 * slot)
+    ensures search { NamesOn (D.state disk.old) (D.state disk.new) directory.now.inode (16 * slot)
         (16 * (slot + 1)) records.new result }
     ensures kept { OnOk result (IsLast (D.state disk.new) names.new) }
 {
@@ -60,17 +61,17 @@ fn slot_has_names<D: Disk>(
 
 fn cell_has_names<D: Disk>(
     disk: &mut D,
-    directory: ReadInode,
+    directory: &ReadInode,
     payload: &[u8; 1024],
     slot: u32,
     records: &mut LastRead,
 ) -> Result<bool, Failed>
-    requires directory { KnowsFolder (D.state disk.old) directory }
+    requires directory { KnowsFolder (D.state disk.old) directory.now }
     requires slot { slot < 72 }
     requires cell { IsTrue (D.state disk.old).tells
-        → value (D.state disk.old).now directory.inode slot ≡ Bytes payload.now }
+        → value (D.state disk.old).now directory.now.inode slot ≡ Bytes payload.now }
     requires last { IsLast (D.state disk.old) records.old }
-    ensures { NamesOn (D.state disk.old) (D.state disk.new) directory.inode (16 * slot)
+    ensures { NamesOn (D.state disk.old) (D.state disk.new) directory.now.inode (16 * slot)
         (16 * (slot + 1)) records.new result }
 {
     for place in 0..16 {

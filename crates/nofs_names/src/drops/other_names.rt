@@ -16,15 +16,15 @@ use nofs_inode::BackLink;
 /// pair with an agreed directory.
 pub(crate) fn keeps_name<D: Disk>(
     disk: &mut D,
-    it: ReadInode,
+    it: &ReadInode,
     known: &Known,
     links: &[BackLink; 4],
     last: &mut LastRead,
 ) -> Result<bool, Failed>
-    requires record { Knows (D.state disk.old) it }
-    requires known { length known.now ≡ it.at.inodes }
+    requires record { Knows (D.state disk.old) it.now }
+    requires known { length known.now ≡ it.now.at.inodes }
     requires last { IsLast (D.state disk.old) last.old }
-    ensures { TellsKept (D.state disk.old) (D.state disk.new) known.now it.inode links.now last.new result }
+    ensures { TellsKept (D.state disk.old) (D.state disk.new) known.now it.now.inode links.now last.new result }
 {
     if it.inode == 1 || it.inode == 2 {
         return Ok(true);
@@ -34,16 +34,16 @@ pub(crate) fn keeps_name<D: Disk>(
 
 fn has_agreed_link<D: Disk>(
     disk: &mut D,
-    it: ReadInode,
+    it: &ReadInode,
     links: &[BackLink; 4],
     known: &Known,
     last: &mut LastRead,
 ) -> Result<bool, Failed>
     requires last { IsLast (D.state disk.old) last.old }
-    requires record { Knows (D.state disk.old) it }
-    requires known { length known.now ≡ it.at.inodes }
+    requires record { Knows (D.state disk.old) it.now }
+    requires known { length known.now ≡ it.now.at.inodes }
     ensures { TellsAgreed (D.state disk.old) (D.state disk.new) known.now
-        (λ X. list_any (is_agreed_link (files.files_in X) it.inode) links.now) last.new result }
+        (λ X. list_any (is_agreed_link (files.files_in X) it.now.inode) links.now) last.new result }
 {
     for place in 0..4 {
         if is_agreed_link(

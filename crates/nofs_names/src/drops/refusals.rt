@@ -37,7 +37,7 @@ pub(crate) fn refuse_filled<D: Disk>(
                 inode: found.inode,
                 record: found.record,
             };
-            match has_names(disk, directory, names, records) {
+            match has_names(disk, &directory, names, records) {
                 Ok(true) => Err(Refusal::NotEmpty),
                 Ok(false) => Ok(()),
                 Err(_) => Err(Refusal::ReadFault),

@@ -120,7 +120,7 @@ fn drop_found<D: Disk + Drop>(
         record: pair.it,
     };
     let mut names = LastRead::NONE;
-    match hold_entry(&mut core.disk, directory, &pair.found, &mut names) {
+    match hold_entry(&mut core.disk, &directory, &pair.found, &mut names) {
         Err(why) => Err(why),
         Ok(pointer) => {
             let mut cell = names.cell;
@@ -175,7 +175,7 @@ fn drop_cleared<D: Disk + Drop>(
     };
     let known = &core.books.agreement;
     let mut records = LastRead::NONE;
-    match keeps_name(&mut core.disk, read, known, &rest.links, &mut records) {
+    match keeps_name(&mut core.disk, &read, known, &rest.links, &mut records) {
         Err(_) => Err(Refusal::ReadFault),
         Ok(true) => dropped(drop_link(core, it, &mut records), false),
         Ok(false) => drop_file(core, alloc, it, &mut records),
@@ -201,7 +201,7 @@ fn drop_file<D: Disk + Drop>(
         inode: it.pair.found.inode,
         record: it.pair.found.record,
     };
-    match owned_blocks(alloc, &mut core.disk, read, records) {
+    match owned_blocks(alloc, &mut core.disk, &read, records) {
         Err(why) => Err(why),
         Ok(freed) => dropped(remove_file(core, it, &freed, records), true),
     }

@@ -49,14 +49,14 @@ pub(crate) fn put_entry(
 /// may answer `LostSlot`.
 pub(crate) fn hold_entry<D: Disk>(
     disk: &mut D,
-    directory: ReadInode,
+    directory: &ReadInode,
     found: &Paired,
     names: &mut LastRead,
 ) -> Result<Pointer, Refusal>
     requires range { found.now.entry < entry_limit }
-    requires known { Knows (D.state disk.old) directory }
+    requires known { Knows (D.state disk.old) directory.now }
     requires last { IsLast (D.state disk.old) names.old }
-    ensures { HoldsSlot (D.state disk.old) (D.state disk.new) directory.at directory.inode
+    ensures { HoldsSlot (D.state disk.old) (D.state disk.new) directory.now.at directory.now.inode
         (found.now.entry / 16) names.new result }
 {
     let slot = found.entry / 16;

@@ -79,14 +79,15 @@ pub(crate) fn entry_place(seen: &Unfound) -> Result<u32, Refusal>
 /// does not, it may answer `LostSlot`.
 pub(crate) fn find_entry_slot<D: Disk>(
     disk: &mut D,
-    directory: ReadInode,
+    directory: &ReadInode,
     slot: u32,
     names: &mut LastRead,
 ) -> Result<EntrySlot, Refusal>
-    requires known { Knows (D.state disk.old) directory }
+    requires known { Knows (D.state disk.old) directory.now }
     requires slot { slot < 72 }
     requires last { IsLast (D.state disk.old) names.old }
-    ensures { FindsEntrySlot (D.state disk.old) (D.state disk.new) directory.at directory.inode slot names.new result }
+    ensures { FindsEntrySlot (D.state disk.old)
+        (D.state disk.new) directory.now.at directory.now.inode slot names.new result }
 {
     let found = match directory.find(disk, slot, names) {
         Ok(found) => found,
@@ -105,15 +106,16 @@ pub(crate) fn find_entry_slot<D: Disk>(
 fn find_hole<D: Disk>(
     slot: u32,
     disk: &mut D,
-    directory: ReadInode,
+    directory: &ReadInode,
     names: &mut LastRead,
 ) -> Result<EntrySlot, Refusal>
     requires hole { IsTrue (D.state disk.old).tells
-        → slots.find (D.state disk.old).now directory.inode (paths.path_of slot) ≡ answer.Hole }
-    requires known { Knows (D.state disk.old) directory }
+        → slots.find (D.state disk.old).now directory.now.inode (paths.path_of slot) ≡ answer.Hole }
+    requires known { Knows (D.state disk.old) directory.now }
     requires slot { slot < 72 }
     requires last { IsLast (D.state disk.old) names.old }
-    ensures { FindsEntrySlot (D.state disk.old) (D.state disk.new) directory.at directory.inode slot names.new result }
+    ensures { FindsEntrySlot (D.state disk.old)
+        (D.state disk.new) directory.now.at directory.now.inode slot names.new result }
 {
     if slot < 8 {
         return Ok(EntrySlot::Direct);

@@ -17,14 +17,14 @@ use nofs_inode::BackLink;
 // with an agreed directory.
 pub(crate) fn link_place<D: Disk>(
     disk: &mut D,
-    it: ReadInode,
+    it: &ReadInode,
     known: &Known,
     last: &mut LastRead,
 ) -> Result<u32, Refusal>
-    requires record { Knows (D.state disk.old) it }
-    requires known { length known.now ≡ it.at.inodes }
+    requires record { Knows (D.state disk.old) it.now }
+    requires known { length known.now ≡ it.now.at.inodes }
     requires last { IsLast (D.state disk.old) last.old }
-    ensures { FindsLinkPlace (D.state disk.old) (D.state disk.new) known.now it.inode last.new result }
+    ensures { FindsLinkPlace (D.state disk.old) (D.state disk.new) known.now it.now.inode last.new result }
 {
     if it.inode == 2 {
         return Err(Refusal::TooManyLinks);
@@ -74,14 +74,15 @@ fn is_empty(link: &BackLink) -> bool
 
 fn dead_place<D: Disk>(
     disk: &mut D,
-    it: ReadInode,
+    it: &ReadInode,
     known: &Known,
     last: &mut LastRead,
 ) -> Result<Option<u32>, Failed>
-    requires record { Knows (D.state disk.old) it }
-    requires known { length known.now ≡ it.at.inodes }
+    requires record { Knows (D.state disk.old) it.now }
+    requires known { length known.now ≡ it.now.at.inodes }
     requires last { IsLast (D.state disk.old) last.old }
-    ensures { TellsDeadPlace (D.state disk.old) (D.state disk.new) known.now it.inode it.record last.new result }
+    ensures { TellsDeadPlace (D.state disk.old)
+        (D.state disk.new) known.now it.now.inode it.now.record last.new result }
 {
     for place in 0..4 {
         let link = it.record.links[place];

@@ -145,7 +145,7 @@ fn link_opened<D: Disk + Drop>(
         record: both.directory,
     };
     let name = new.at.name;
-    let seen = match find_unused(&mut core.disk, name, directory, &mut names, &mut records) {
+    let seen = match find_unused(&mut core.disk, name, &directory, &mut names, &mut records) {
         Ok(seen) => seen,
         Err(why) => return refused(why),
     };
@@ -154,7 +154,7 @@ fn link_opened<D: Disk + Drop>(
         inode: new.inode,
         record: both.file,
     };
-    let link = match link_place(&mut core.disk, file, &core.books.agreement, &mut records) {
+    let link = match link_place(&mut core.disk, &file, &core.books.agreement, &mut records) {
         Ok(link) => link,
         Err(why) => return refused(why),
     };
@@ -189,7 +189,7 @@ fn link_at<D: Disk + Drop>(
         inode: new.at.directory,
         record: both.directory,
     };
-    let slot = match find_entry_slot(&mut core.disk, directory, entry / 16, &mut last) {
+    let slot = match find_entry_slot(&mut core.disk, &directory, entry / 16, &mut last) {
         Ok(slot) => slot,
         Err(why) => return refused(why),
     };

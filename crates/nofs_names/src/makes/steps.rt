@@ -79,7 +79,7 @@ fn make_with_room<D: Disk + Drop>(
         inode: at.directory,
         record: it,
     };
-    let seen = match find_unused(&mut core.disk, at.name, read, &mut names, &mut records) {
+    let seen = match find_unused(&mut core.disk, at.name, &read, &mut names, &mut records) {
         Ok(seen) => seen,
         Err(why) => return refused(why),
     };
@@ -119,7 +119,7 @@ fn make_entry<D: Disk + Drop>(
         inode: to.directory,
         record: to.it,
     };
-    let slot = match find_entry_slot(&mut core.disk, read, entry / 16, names) {
+    let slot = match find_entry_slot(&mut core.disk, &read, entry / 16, names) {
         Ok(slot) => slot,
         Err(why) => return refused(why),
     };

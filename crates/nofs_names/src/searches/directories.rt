@@ -103,7 +103,7 @@ pub(crate) fn find_pair<D: Disk>(
         inode: wanted.directory,
         record: *it,
     };
-    match search(disk, directory, wanted.name, false, names, records) {
+    match search(disk, &directory, wanted.name, false, names, records) {
         Err(_) => Err(Refusal::ReadFault),
         Ok(searched) => pair_of(searched),
     }
@@ -147,14 +147,15 @@ fn lost(slot: Option<u32>) -> Refusal
 pub(crate) fn find_unused<D: Disk>(
     disk: &mut D,
     name: &[u8],
-    directory: ReadInode,
+    directory: &ReadInode,
     names: &mut LastRead,
     records: &mut LastRead,
 ) -> Result<Unfound, Refusal>
     requires names { IsLast (D.state disk.old) names.old }
     requires last { IsLast (D.state disk.old) records.old }
-    requires directory { KnowsFolder (D.state disk.old) directory }
-    ensures { FindsNone (D.state disk.old) (D.state disk.new) directory.inode name.now names.new records.new result }
+    requires directory { KnowsFolder (D.state disk.old) directory.now }
+    ensures { FindsNone (D.state disk.old)
+        (D.state disk.new) directory.now.inode name.now names.new records.new result }
 {
     match search(disk, directory, name, true, names, records) {
         Err(_) => Err(Refusal::ReadFault),

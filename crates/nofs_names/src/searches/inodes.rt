@@ -23,16 +23,16 @@ pub struct ReadInode {
 impl ReadInode {
     /// What stands in one of the first slots. Where it holds, its block is the one that was read last.
     pub fn find<D: Disk>(
-        self,
+        &self,
         disk: &mut D,
         slot: u32,
         last: &mut LastRead,
     ) -> Result<PathAnswer, Failed>
         requires slot { slot < 72 }
-        requires known { Knows (D.state disk.old) self }
+        requires known { Knows (D.state disk.old) self.now }
         requires last { IsLast (D.state disk.old) last.old }
-        ensures { FindsSlot (D.state disk.old) (D.state disk.new) self.at
-            (λ X. slots.find X self.inode (paths.path_of slot)) last.new result }
+        ensures { FindsSlot (D.state disk.old) (D.state disk.new) self.now.at
+            (λ X. slots.find X self.now.inode (paths.path_of slot)) last.new result }
     {
         let place = place_of(u64::from(slot));
         find_slot(disk, &self.at, self.inode, &self.record, place, last)

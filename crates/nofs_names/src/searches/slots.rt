@@ -133,7 +133,7 @@ fn see_named<D: Disk>(
 // Searches a cell of a directory. Where no pair has the name, `unfound` is what was seen up to here.
 fn search_cell<D: Disk>(
     disk: &mut D,
-    directory: ReadInode,
+    directory: &ReadInode,
     payload: &[u8; 1024],
     slot: u32,
     name: &[u8],
@@ -141,12 +141,12 @@ fn search_cell<D: Disk>(
     unfound: &mut Unfound,
     records: &mut LastRead,
 ) -> Result<Option<Paired>, Failed>
-    requires directory { KnowsFolder (D.state disk.old) directory }
+    requires directory { KnowsFolder (D.state disk.old) directory.now }
     requires slot { slot < 72 }
     requires cell { IsTrue (D.state disk.old).tells
-        → value (D.state disk.old).now directory.inode slot ≡ Bytes payload.now }
+        → value (D.state disk.old).now directory.now.inode slot ≡ Bytes payload.now }
     requires last { IsLast (D.state disk.old) records.old }
-    ensures { SearchesOn (D.state disk.old) (D.state disk.new) directory.at directory.inode name.now wants_place
+    ensures { SearchesOn (D.state disk.old) (D.state disk.new) directory.now.at directory.now.inode name.now wants_place
         (16 * slot) slot (16 * (slot + 1)) (slot + 1) unfound.old unfound.new records.new result }
 {
     for place in 0..16 {
@@ -177,7 +177,7 @@ fn search_cell<D: Disk>(
 // Searches a slot of a directory.
 fn search_slot<D: Disk>(
     disk: &mut D,
-    directory: ReadInode,
+    directory: &ReadInode,
     slot: u32,
     name: &[u8],
     wants_place: bool,
@@ -185,11 +185,11 @@ fn search_slot<D: Disk>(
     names: &mut LastRead,
     records: &mut LastRead,
 ) -> Result<Option<Paired>, Failed>
-    requires directory { KnowsFolder (D.state disk.old) directory }
+    requires directory { KnowsFolder (D.state disk.old) directory.now }
     requires slot { slot < 72 }
     requires names { IsLast (D.state disk.old) names.old }
     requires last { IsLast (D.state disk.old) records.old }
-    ensures search { SearchesOn (D.state disk.old) (D.state disk.new) directory.at directory.inode name.now
+    ensures search { SearchesOn (D.state disk.old) (D.state disk.new) directory.now.at directory.now.inode name.now
         wants_place (16 * slot) slot (16 * (slot + 1)) (slot + 1) unfound.old unfound.new records.new result }
     ensures kept { OnOk result (IsLast (D.state disk.new) names.new) }
 {
@@ -218,17 +218,17 @@ fn search_slot<D: Disk>(
 /// Searches a directory for a name, and for an empty place where one is wanted.
 pub(crate) fn search<D: Disk>(
     disk: &mut D,
-    directory: ReadInode,
+    directory: &ReadInode,
     name: &[u8],
     wants_place: bool,
     names: &mut LastRead,
     records: &mut LastRead,
 ) -> Result<Searched, Failed>
-    requires directory { KnowsFolder (D.state disk.old) directory }
+    requires directory { KnowsFolder (D.state disk.old) directory.now }
     requires names { IsLast (D.state disk.old) names.old }
     requires last { IsLast (D.state disk.old) records.old }
     ensures { Searches (D.state disk.old)
-        (D.state disk.new) directory.at directory.inode name.now wants_place names.new records.new result }
+        (D.state disk.new) directory.now.at directory.now.inode name.now wants_place names.new records.new result }
 {
     let mut unfound = Unfound::NONE;
     let end = directory.slot_end();

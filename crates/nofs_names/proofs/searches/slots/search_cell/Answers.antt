@@ -12,10 +12,10 @@ loop-place-preserved-then-not-has_name g c =
     let m = 16 * c.args.slot + c.loop-place.place in
     let next : m + 1 ≡ 16 * c.args.slot + (c.loop-place.place + 1) = omega arith in (
       subst (λ (n : ℕ). Going (g.D.Disk.state c.args.disk.now) (g.D.Disk.state c.loop-place.disk)
-          c.args.directory.inode c.args.name.now c.args.wants_place (16 * c.args.slot) c.args.slot n c.args.slot
+          c.args.directory.now.inode c.args.name.now c.args.wants_place (16 * c.args.slot) c.args.slot n c.args.slot
           c.args.unfound.now c.see_other.new.self c.loop-place.records) next
-          (going-other (g.D.Disk.state c.args.disk.now) c.args.directory.at c.args.directory.inode
-          c.args.directory.record c.args.slot c.args.payload.now c.args.name.now c.args.wants_place
+          (going-other (g.D.Disk.state c.args.disk.now) c.args.directory.now.at c.args.directory.now.inode
+          c.args.directory.now.record c.args.slot c.args.payload.now c.args.name.now c.args.wants_place
           c.requires.directory c.requires.slot c.requires.cell (g.D.Disk.state c.loop-place.disk)
           (g.D.Disk.state c.loop-place.disk) c.loop-place.place m c.args.unfound.now c.loop-place.unfound
           c.loop-place.records c.loop-place.records c.loop-place.invariant.0 c.loop-place-test.true refl
@@ -28,10 +28,10 @@ loop-place-preserved g c =
     let m = 16 * c.args.slot + c.loop-place.place in
     let next : m + 1 ≡ 16 * c.args.slot + (c.loop-place.place + 1) = omega arith in (
       subst (λ (n : ℕ). Going (g.D.Disk.state c.args.disk.now) (g.D.Disk.state c.see_named.new.disk)
-          c.args.directory.inode c.args.name.now c.args.wants_place (16 * c.args.slot) c.args.slot n c.args.slot
+          c.args.directory.now.inode c.args.name.now c.args.wants_place (16 * c.args.slot) c.args.slot n c.args.slot
           c.args.unfound.now c.see_dead.new.self c.see_named.new.records) next
-          (going-dead (g.D.Disk.state c.args.disk.now) c.args.directory.at c.args.directory.inode
-          c.args.directory.record c.args.slot c.args.payload.now c.args.name.now c.args.wants_place
+          (going-dead (g.D.Disk.state c.args.disk.now) c.args.directory.now.at c.args.directory.now.inode
+          c.args.directory.now.record c.args.slot c.args.payload.now c.args.name.now c.args.wants_place
           c.requires.directory c.requires.slot c.requires.cell (g.D.Disk.state c.loop-place.disk)
           (g.D.Disk.state c.see_named.new.disk) c.loop-place.place m c.args.unfound.now c.loop-place.unfound
           c.loop-place.records c.see_named.new.records c.loop-place.invariant.0 c.loop-place-test.true refl
@@ -43,8 +43,8 @@ loop-place-preserved g c =
 
 pub returns-in-Some : goal.returns-in-Some
 returns-in-Some g c =
-    going-found (g.D.Disk.state c.args.disk.now) c.args.directory.at c.args.directory.inode
-    c.args.directory.record c.args.slot c.args.payload.now c.args.name.now c.args.wants_place
+    going-found (g.D.Disk.state c.args.disk.now) c.args.directory.now.at c.args.directory.now.inode
+    c.args.directory.now.record c.args.slot c.args.payload.now c.args.name.now c.args.wants_place
     c.requires.directory c.requires.slot c.requires.cell (g.D.Disk.state c.loop-place.disk)
     (g.D.Disk.state c.see_named.new.disk) c.loop-place.place (16 * c.args.slot + c.loop-place.place)
     c.args.unfound.now c.loop-place.unfound c.loop-place.records c.see_named.new.records c.loop-place.invariant.0
@@ -53,8 +53,8 @@ returns-in-Some g c =
     c.loop-place.unfound (c.in_ok-see_named.was {u = tt} ∙ ap Ok c.in-Some.is)
 
 pub returns : goal.returns
-returns g c = going-ends (g.D.Disk.state c.args.disk.now) c.args.directory.at c.args.directory.inode
-    c.args.directory.record c.args.slot c.args.payload.now
+returns g c = going-ends (g.D.Disk.state c.args.disk.now) c.args.directory.now.at c.args.directory.now.inode
+    c.args.directory.now.record c.args.slot c.args.payload.now
     c.args.name.now c.args.wants_place
     c.requires.directory c.requires.slot c.requires.cell
     (g.D.Disk.state c.loop-place.disk) (16 * c.args.slot + c.loop-place.place)
