@@ -1,8 +1,7 @@
 //! The cells that a Put writes, and the Put into a slot that has its block.
-ghost use Rattle.std.specs.Prelude.{◌≡◌, ℕ, ◌+◌, ◌*◌, ◌-◌, ◌/◌, ◌<◌, ◌≤◌, Err, Some, length, IsTrue};
+ghost use Rattle.std.specs.Prelude.{◌≡◌, ℕ, ◌+◌, ◌*◌, ◌-◌, ◌/◌, ◌<◌, ◌≤◌, Err, length, IsTrue};
 ghost use Rattle.nofs_disk.specs.Disk.{cell_at};
 ghost use Rattle.nofs_disk.specs.Number.{zeros};
-ghost use Rattle.nofs_disk.specs.Tag.{HasTagSpelling, tag_of};
 ghost use Rattle.nofs_ptrs.specs.Paths as paths;
 ghost use Rattle.nofs_ptrs.specs.Paths.{slot_limit};
 ghost use Rattle.nofs_inode.specs.InodeRecords.{HasRecordSpelling};
@@ -69,35 +68,30 @@ pub(crate) fn read_table<D: Disk>(
     }
 }
 
-/// The cell of the inode table with another record in it, and with its tag.
-pub(crate) fn record_cell(old: &Cell, inode: u32, it: &Record) -> Cell
+/// Puts another record into a cell of the inode table, and its tag.
+pub(crate) fn put_record(table: &mut Cell, inode: u32, it: &Record)
     requires inode { 1 ≤ inode }
     requires spelling { HasRecordSpelling it.now }
-    ensures { IsRecordCell old.now inode it.now result }
+    ensures { IsRecordCell table.old inode it.now table.new }
 {
-    let mut table = *old;
     write_tag(&table_tag(table_block(inode)), &mut table.tag);
     write_record(&mut table.payload, (inode - 1) % 4, it);
-    table
 }
 
-// A cell of zeros but for its tag, which names this owner.
+/// A cell of zeros, to be filled.
 #[tactic(auto, unfolding(nofs_disk::specs::Number::zeros))]
-fn empty_cell(owner: &Tag) -> Cell
-    requires { HasTagSpelling owner.now }
-    ensures tag { tag_of result.tag ≡ Some owner.now }
-    ensures payload { result.payload ≡ zeros 1024 }
+pub(crate) fn zero_cell() -> Cell
+    ensures { result.payload ≡ zeros 1024 }
 {
-    let mut cell = Cell::ZERO;
-    write_tag(owner, &mut cell.tag);
-    cell
+    Cell::ZERO
 }
 
-/// The cell of a slot that had no bytes, in a block with this stamp.
-pub(crate) fn content_cell(put: &Put<'_>, stamp: u64) -> Cell
+/// Fills the cell of a slot that had no bytes, in a block with this stamp.
+pub(crate) fn fill_content(put: &Put<'_>, stamp: u64, cell: &mut Cell)
     requires slot { put.now.slot < slot_limit }
     requires range { put.now.at + length put.now.bytes.now ≤ 1024 }
-    ensures { (size : ℕ) → IsContent put.now size stamp result }
+    requires zeros { cell.old.payload ≡ zeros 1024 }
+    ensures { (size : ℕ) → IsContent put.now size stamp cell.new }
 {
     let owner = Tag {
         kind: Kind::Content,
@@ -106,22 +100,23 @@ pub(crate) fn content_cell(put: &Put<'_>, stamp: u64) -> Cell
         slot: put.slot,
         stamp,
     };
-    let mut cell = empty_cell(&owner);
+    write_tag(&owner, &mut cell.tag);
     write_bytes_at(&mut cell.payload, put.at as usize, put.bytes);
-    cell
 }
 
-/// The cell of a new block of pointers that has one pointer, in a block with this stamp.
-pub(crate) fn pointers_cell(
+/// Fills the cell of a new block of pointers that has one pointer, in a block with this stamp.
+pub(crate) fn fill_pointers(
     put: &Put<'_>,
     above: Place,
     stamp: u64,
     place: u32,
     it: Pointer,
-) -> Cell
+    cell: &mut Cell,
+)
     requires above { IsPlace above }
     requires place { place < 64 }
-    ensures { OnePointer put.now.inode put.now.generation (place_path above) place it stamp result }
+    requires zeros { cell.old.payload ≡ zeros 1024 }
+    ensures { OnePointer put.now.inode put.now.generation (place_path above) place it stamp cell.new }
 {
     let owner = Tag {
         kind: Kind::Leaf,
@@ -130,9 +125,8 @@ pub(crate) fn pointers_cell(
         slot: slot_number(above),
         stamp,
     };
-    let mut cell = empty_cell(&owner);
+    write_tag(&owner, &mut cell.tag);
     write_pointer(&mut cell.payload, place, it);
-    cell
 }
 
 /// Puts bytes into a slot that holds. Its block was read last.
@@ -163,9 +157,19 @@ pub(crate) fn put_in_place<D: Disk + Drop>(
         Ok(()) => {}
         Err(why) => return refused(why),
     }
-    let table = record_cell(&last.cell, put.inode, &sized(it, size_after(put, it.size)));
+    put_record(
+        &mut last.cell,
+        put.inode,
+        &sized(it, size_after(put, it.size)),
+    );
     Ended {
         claims: NO_CLAIMS,
-        result: write_two(core, pointer.block, &cell, table_block(put.inode), &table),
+        result: write_two(
+            core,
+            pointer.block,
+            &cell,
+            table_block(put.inode),
+            &last.cell,
+        ),
     }
 }

@@ -5,7 +5,9 @@ ghost use Rattle.nofs_model.specs.Places.{place_path};
 ghost use Rattle.nofs_files.specs.Puts.{HeldAt, IsEmptySlot, IsFar, IsHole, IsUnder, MayPut, PutGoes, RowsLead};
 ghost use Rattle.nofs_files.specs.Puts.{pointed, rooted, step_of_put};
 
-use crate::puts::cells::{content_cell, pointers_cell, read_table, record_cell, size_after, sized};
+use crate::puts::cells::{
+    fill_content, fill_pointers, put_record, read_table, size_after, sized, zero_cell,
+};
 use crate::puts::claims::{claim_one, claim_three, claim_two, one_block, three_blocks, two_blocks};
 use crate::puts::put::Put;
 use nofs_agree::{LastRead, read_block};
@@ -53,9 +55,10 @@ pub(crate) fn put_in_hole<D: Disk + Drop>(
         Err(why) => return refused(why),
     }
     let claims = claim_one(&mut core.books, block);
-    let cell = content_cell(put, claims.cell.stamp);
+    let mut cell = zero_cell();
+    fill_content(put, claims.cell.stamp, &mut cell);
     let it = pointed(it, size_after(put, it.size), put.slot, claims.cell);
-    let table = record_cell(&last.cell, put.inode, &it);
+    put_record(&mut last.cell, put.inode, &it);
     Ended {
         claims,
         result: write_two(
@@ -63,7 +66,7 @@ pub(crate) fn put_in_hole<D: Disk + Drop>(
             claims.cell.block,
             &cell,
             table_block(put.inode),
-            &table,
+            &last.cell,
         ),
     }
 }
@@ -99,9 +102,14 @@ pub(crate) fn put_below<D: Disk + Drop>(
         Err(why) => return refused(why),
     }
     let claims = claim_one(&mut core.books, block);
-    let cell = content_cell(put, claims.cell.stamp);
+    let mut cell = zero_cell();
+    fill_content(put, claims.cell.stamp, &mut cell);
     write_pointer(&mut pointers.payload, place, claims.cell);
-    let table = record_cell(&last.cell, put.inode, &sized(it, size_after(put, it.size)));
+    put_record(
+        &mut last.cell,
+        put.inode,
+        &sized(it, size_after(put, it.size)),
+    );
     let number = table_block(put.inode);
     Ended {
         claims,
@@ -112,7 +120,7 @@ pub(crate) fn put_below<D: Disk + Drop>(
             upper.block,
             &pointers,
             number,
-            &table,
+            &last.cell,
         ),
     }
 }
@@ -160,11 +168,13 @@ pub(crate) fn put_with_leaf<D: Disk + Drop>(
         Err(why) => return refused(why),
     }
     let claims = claim_two(&mut core.books, two);
-    let cell = content_cell(put, claims.cell.stamp);
+    let mut cell = zero_cell();
+    fill_content(put, claims.cell.stamp, &mut cell);
     let above = Place::InRecord(8);
-    let leaf = pointers_cell(put, above, claims.leaf.stamp, place, claims.cell);
+    let mut leaf = zero_cell();
+    fill_pointers(put, above, claims.leaf.stamp, place, claims.cell, &mut leaf);
     let it = rooted(it, size_after(put, it.size), 8, claims.leaf);
-    let table = record_cell(&last.cell, put.inode, &it);
+    put_record(&mut last.cell, put.inode, &it);
     let number = table_block(put.inode);
     Ended {
         claims,
@@ -175,7 +185,7 @@ pub(crate) fn put_with_leaf<D: Disk + Drop>(
             claims.leaf.block,
             &leaf,
             number,
-            &table,
+            &last.cell,
         ),
     }
 }
@@ -217,9 +227,22 @@ pub(crate) fn put_with_child<D: Disk + Drop>(
         at: 9,
         place: child,
     };
-    let pointers = pointers_cell(put, above, claims.leaf.stamp, place, claims.cell);
-    let cell = content_cell(put, claims.cell.stamp);
-    let table = record_cell(&last.cell, put.inode, &sized(it, size_after(put, it.size)));
+    let mut pointers = zero_cell();
+    fill_pointers(
+        put,
+        above,
+        claims.leaf.stamp,
+        place,
+        claims.cell,
+        &mut pointers,
+    );
+    let mut cell = zero_cell();
+    fill_content(put, claims.cell.stamp, &mut cell);
+    put_record(
+        &mut last.cell,
+        put.inode,
+        &sized(it, size_after(put, it.size)),
+    );
     let number = table_block(put.inode);
     Ended {
         claims,
@@ -232,7 +255,7 @@ pub(crate) fn put_with_child<D: Disk + Drop>(
             top.block,
             &tops,
             number,
-            &table,
+            &last.cell,
         ),
     }
 }
@@ -262,16 +285,33 @@ pub(crate) fn put_with_top<D: Disk + Drop>(
         Err(why) => return refused(why),
     }
     let claims = claim_three(&mut core.books, three);
-    let cell = content_cell(put, claims.cell.stamp);
+    let mut cell = zero_cell();
+    fill_content(put, claims.cell.stamp, &mut cell);
     let above = Place::UnderRecord {
         at: 9,
         place: child,
     };
-    let pointers = pointers_cell(put, above, claims.leaf.stamp, place, claims.cell);
+    let mut pointers = zero_cell();
+    fill_pointers(
+        put,
+        above,
+        claims.leaf.stamp,
+        place,
+        claims.cell,
+        &mut pointers,
+    );
     let root = Place::InRecord(9);
-    let tops = pointers_cell(put, root, claims.top.stamp, child as u32, claims.leaf);
+    let mut tops = zero_cell();
+    fill_pointers(
+        put,
+        root,
+        claims.top.stamp,
+        child as u32,
+        claims.leaf,
+        &mut tops,
+    );
     let it = rooted(it, size_after(put, it.size), 9, claims.top);
-    let table = record_cell(&last.cell, put.inode, &it);
+    put_record(&mut last.cell, put.inode, &it);
     let number = table_block(put.inode);
     Ended {
         claims,
@@ -284,7 +324,7 @@ pub(crate) fn put_with_top<D: Disk + Drop>(
             claims.top.block,
             &tops,
             number,
-            &table,
+            &last.cell,
         ),
     }
 }

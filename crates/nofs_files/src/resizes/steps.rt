@@ -7,7 +7,7 @@ ghost use Rattle.nofs_history.specs.declared.machine.steps.Step.TheVariants as s
 ghost use Rattle.nofs_state.specs.Writes.Cells.{Stores, WritesAll};
 ghost use Rattle.nofs_files.specs.Resizes.{MayCut, MayResize, ResizeGoes, cut_writes, maybe, resize_answer};
 
-use crate::puts::cells::{read_table, record_cell};
+use crate::puts::cells::{put_record, read_table};
 use crate::reads::files::{note_file, open_file, slots_of};
 use crate::resizes::cuts::{Edge, NewCell, cut_record, find_edge, find_tail, kept_slots, mark_cut};
 use nofs_agree::LastRead;
@@ -137,8 +137,8 @@ fn resize_cut<D: Disk + Drop>(
         Err(why) => return Err(why),
     }
     let kept = kept_slots(it.size, size);
-    let table = record_cell(&last.cell, inode, &cut_record(it, size, kept));
-    match store_cut(core, tail, edge, table_block(inode), &table) {
+    put_record(&mut last.cell, inode, &cut_record(it, size, kept));
+    match store_cut(core, tail, edge, table_block(inode), &last.cell) {
         Ok(()) => {
             core.books.free_blocks(freed);
             Ok(())

@@ -15,6 +15,6 @@ pub returns : goal.returns
 returns g c = place-ends (g.met.D.Disk.is_disk c.read_table.new.disk)
     (g.met.D.Disk.is_disk c.write_two.new.core.disk) c.read_table.ensures.stays c.in-Ok.ensures.no_fault
     c.requires.may c.requires.slot c.requires.held c.requires.cell c.put_content.ensures refl c.in-Ok.ensures.cell
-    (recorded (c.sized.ensures ∙ ap (sized c.args.it.now) c.size_after.ensures) c.record_cell-table.ensures)
+    (recorded (c.sized.ensures ∙ ap (sized c.args.it.now) c.size_after.ensures) c.put_record.ensures)
     c.requires.rows c.table_block.ensures
     c.write_two.ensures

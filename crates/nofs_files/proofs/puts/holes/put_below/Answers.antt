@@ -39,7 +39,7 @@ returns g c = below-ends
     (g.D.Disk.state c.read_table.new.disk)
     c.read_block.ensures.stays c.read_table.ensures.stays)
     (c.in-Ok-read_table.ensures.no_fault ∙ c.in-Ok-read_block.ensures.no_fault)
-    c.requires.upper c.requires.path (c.content_cell-cell.ensures c.args.it.now.size) c.in-Ok-read_block.ensures.cell
+    c.requires.upper c.requires.path (c.fill_content.ensures c.args.it.now.size) c.in-Ok-read_block.ensures.cell
     (record {
       here = c.write_pointer.ensures.written;
       others = λ q ne lt. c.write_pointer.ensures.others q ne lt;
@@ -48,6 +48,6 @@ returns g c = below-ends
     (later-cell (g.D.Disk.state c.args.core.now.disk) (g.D.Disk.state c.read_block.new.disk) c.read_table.new.last.cell
     (1 + (c.args.put.now.inode - 1) / 4)
     c.read_block.ensures.stays c.in-Ok-read_table.ensures.cell)
-    (recorded (c.sized.ensures ∙ ap (sized c.args.it.now) c.size_after.ensures) c.record_cell-table.ensures)
+    (recorded (c.sized.ensures ∙ ap (sized c.args.it.now) c.size_after.ensures) c.put_record.ensures)
     c.table_block-number.ensures
     c.write_three.ensures

@@ -32,7 +32,7 @@ returns g c = direct-ends
     (g.met.D.Disk.is_disk c.read_table.new.disk)
     (g.met.D.Disk.is_disk c.write_two.new.core.disk) c.read_table.ensures.stays
     c.in-Ok-read_table.ensures.no_fault c.requires.direct
-    c.requires.may.eight (c.content_cell-cell.ensures c.args.it.now.size) c.in-Ok-read_table.ensures.cell
+    c.requires.may.eight (c.fill_content.ensures c.args.it.now.size) c.in-Ok-read_table.ensures.cell
     (recorded (c.pointed-it.ensures ∙ ap
     (λ (n : ℕ). pointed c.args.it.now n c.args.put.now.slot c.claim_one-claims.result.cell) c.size_after.ensures)
-    c.record_cell-table.ensures) c.table_block.ensures c.write_two.ensures
+    c.put_record.ensures) c.table_block.ensures c.write_two.ensures

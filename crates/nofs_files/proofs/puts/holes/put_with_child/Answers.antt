@@ -42,12 +42,12 @@ returns g c = child-ends (g.met.D.Disk.is_disk c.read_table.new.disk) (g.met.D.D
     c.in-Ok.ensures.room
     (takes-two c.requires.may.safe c.in-Ok.ensures.found c.in-Ok.ensures.room c.claim_two-claims.ensures.claims
     c.claim_two-claims.ensures.books)
-    c.requires.path c.requires.top c.requires.hole (c.content_cell-cell.ensures c.args.it.now.size)
-    c.pointers_cell-pointers.ensures c.in-Ok-read_block.ensures.cell
+    c.requires.path c.requires.top c.requires.hole (c.fill_content.ensures c.args.it.now.size)
+    c.fill_pointers.ensures c.in-Ok-read_block.ensures.cell
     (record {
       here = c.write_pointer.ensures.written;
       others = λ q ne lt. c.write_pointer.ensures.others q ne lt;
       tag = refl;
     })
-    (recorded (c.sized.ensures ∙ ap (sized c.args.it.now) c.size_after.ensures) c.record_cell-table.ensures)
+    (recorded (c.sized.ensures ∙ ap (sized c.args.it.now) c.size_after.ensures) c.put_record.ensures)
     c.write_four.ensures

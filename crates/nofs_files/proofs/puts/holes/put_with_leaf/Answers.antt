@@ -27,7 +27,7 @@ returns g c = leaf-ends (g.met.D.Disk.is_disk c.read_table.new.disk)
     c.requires.may c.requires.empty c.requires.rows c.requires.path c.requires.hole) c.in-Ok.ensures.room
     (takes-two c.requires.may.safe c.in-Ok.ensures.found c.in-Ok.ensures.room c.claim_two-claims.ensures.claims
     c.claim_two-claims.ensures.books)
-    c.requires.path c.requires.hole (c.content_cell-cell.ensures c.args.it.now.size) c.pointers_cell-leaf.ensures
+    c.requires.path c.requires.hole (c.fill_content.ensures c.args.it.now.size) c.fill_pointers.ensures
     (recorded (c.rooted-it.ensures ∙ ap (λ (n : ℕ). rooted c.args.it.now n 8 c.claim_two-claims.result.leaf)
     c.size_after.ensures)
-    c.record_cell-table.ensures) c.write_three.ensures
+    c.put_record.ensures) c.write_three.ensures

@@ -18,11 +18,11 @@ returns g c = top-ends (g.met.D.Disk.is_disk c.read_table.new.disk)
     c.in-Ok.ensures.room
     (takes-three c.requires.may.safe c.in-Ok.ensures.found c.in-Ok.ensures.room c.claim_three-claims.ensures.claims
     c.claim_three-claims.ensures.books)
-    c.requires.path c.requires.hole (c.content_cell-cell.ensures c.args.it.now.size) c.pointers_cell-pointers.ensures
-    c.pointers_cell-tops.ensures
+    c.requires.path c.requires.hole (c.fill_content.ensures c.args.it.now.size) c.fill_pointers.ensures
+    c.fill_pointers-2.ensures
     (recorded (c.rooted-it.ensures ∙ ap (λ (n : ℕ). rooted c.args.it.now n 9 c.claim_three-claims.result.top)
     c.size_after.ensures)
-    c.record_cell-table.ensures) c.write_four.ensures
+    c.put_record.ensures) c.write_four.ensures
 
 pub returns-in-Err-read_table : goal.returns-in-Err-read_table
 returns-in-Err-read_table g c = ended c.refused-in-Err-read_table.ensures (goes-untabled

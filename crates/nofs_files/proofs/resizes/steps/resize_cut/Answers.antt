@@ -14,7 +14,7 @@ returns-in-Ok-store_cut g c = resize-ends {result = Ok tt} (g.met.D.Disk.is_disk
     c.read_table.ensures.stays c.in-Ok.ensures.no_fault
     c.requires.may c.in-Ok.ensures.cell
     (recorded (c.cut_record.ensures ∙ ap (λ (n : ℕ). cut_record c.args.it.now c.args.size n)
-    c.kept_slots-kept.ensures.kept) c.record_cell-table.ensures)
+    c.kept_slots-kept.ensures.kept) c.put_record.ensures)
     c.table_block.ensures c.in-Ok-store_cut.ensures (λ e. c.free_blocks.ensures) (λ why e. cc e)
 
 pub returns-in-Err-store_cut : goal.returns-in-Err-store_cut
@@ -23,5 +23,5 @@ returns-in-Err-store_cut g c =
     (g.met.D.Disk.is_disk c.store_cut.new.core.disk) c.read_table.ensures.stays c.in-Ok.ensures.no_fault
     c.requires.may c.in-Ok.ensures.cell
     (recorded (c.cut_record.ensures ∙ ap (λ (n : ℕ). cut_record c.args.it.now c.args.size n)
-    c.kept_slots-kept.ensures.kept) c.record_cell-table.ensures)
+    c.kept_slots-kept.ensures.kept) c.put_record.ensures)
     c.table_block.ensures c.in-Err-store_cut.ensures (λ e. cc e) (λ why e. refl)
