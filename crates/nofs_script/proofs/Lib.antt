@@ -2,3 +2,5 @@ mod OnDigits
 mod OnWords
 mod OnGrammar
 mod OnSession
+pub mod OnText
+pub mod OnTelling

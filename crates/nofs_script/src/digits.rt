@@ -81,8 +81,8 @@ fn digit_of(value: u8) -> u8
     }
 }
 
-// Two digits a byte.
-fn put_digits(bytes: &[u8], into: &mut [u8])
+/// Writes two digits a byte, small ones.
+pub(crate) fn put_digits(bytes: &[u8], into: &mut [u8])
     requires { length into.old ≡ 2 * length bytes.now }
     ensures { into.new ≡ encode_lower bytes.now }
 {

@@ -12,19 +12,25 @@
 //! - `commands`: commands by their words.
 //! - `session`: what is read of the lines of a text.
 //! - `pieces`: the session of a text that comes in pieces.
+//! - `parts`: the parts of a line's text.
 //! - `text`: the text of a line.
+//! - `tell`, `told`: what a run has to tell, and how a sink is told it without memory.
 #![tactic(auto)]
 
 mod commands;
 mod digits;
 mod faults;
+mod parts;
 mod pieces;
 mod session;
+mod tell;
 mod text;
+mod told;
 mod words;
 
 pub use faults::{ParseFault, ScriptFault, ScriptKind, TextFault};
 pub use pieces::{SessionReader, parse};
 pub use session::Session;
 pub use text::{add_line, line_text, push_number};
+pub use told::Told;
 pub use words::number_of;

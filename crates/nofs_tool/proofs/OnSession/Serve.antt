@@ -1,9 +1,8 @@
 -- Plans of a session, what its run leaves, and its text by the lines that its users came to.
 use Rattle.std.proofs.Common.{◌≡◌, ◌≢◌, ◌⊎◌, inl, inr, ℕ, ◌+◌, ◌<◌, ◌≤◌, Bool, true, false, ◌||◌, not, List, [], ◌∷◌}
-use Rattle.std.proofs.Common.{◌++◌, length, drop, get_or, map, flat_map, Result, Ok}
-use Rattle.std.proofs.Common.{Err, cond, ne_eqb, refl, sym, ap, ◌∙◌, subst, arith, append_assoc}
-use Rattle.std.specs.Prelude.{filter, All, IfOk, IfSome}
-use Rattle.std.specs.Result.{result_ok}
+use Rattle.std.proofs.Common.{◌++◌, length, drop, get_or, map, flat_map, Some}
+use Rattle.std.proofs.Common.{cond, ne_eqb, refl, sym, ap, ◌∙◌, subst, arith, append_assoc}
+use Rattle.std.specs.Prelude.{filter, All, IfSome}
 use Rattle.std.specs.declared.option.Option.{Option}
 use Rattle.std.specs.List.{AllByRecursion, remove}
 use Rattle.std.proofs.lemmas.List.{map_push}
@@ -201,27 +200,14 @@ session-told scripts inodes blocks lines all text follow run is = is
     (λ c low. adds-others 0 c (step.Flush 0 0) run.flush run.served all run.closes.adds
     (λ e. absurd (omega (arith, low, e)))) scripts lines (run.team.served refl)
 
-text-told : {E : Type 0} (scripts : List (List Command)) (inodes blocks : ℕ) (lines : List (List Line))
-    (all : List Entry1) (made : Result (List ℕ) E)
-    → LinesFollow → IsSessionRun scripts inodes blocks false lines all
-    → IfOk made (λ t. t ≡ flat_map (λ l. flat_map text_of l) lines)
-    → IfSome (result_ok made)
-    (λ t. (x : List (List Line)) × IsSessionRun scripts inodes blocks false x all × (t ≡ session_text scripts all))
-text-told scripts inodes blocks lines all (Ok t) follow run is =
-    (lines, run, session-told scripts inodes blocks lines all t follow run is)
-text-told scripts inodes blocks lines all (Err e) follow run is = tt
-
 -- and where memory was not wanting
-pub session-ends : {E : Type 0} (session scripts : List (List Command)) (inodes blocks : ℕ) (out : Bool)
-    (lines users : List (List Line))
-    (all entries : List Entry1) (made : Result (List ℕ) E) (text : Option (List ℕ))
-    → scripts ≡ session → out ≡ false → users ≡ lines → entries ≡ all
-    → text ≡ result_ok made → LinesFollow → IsSessionRun scripts inodes blocks out lines all
-    → IfOk made (λ t. t ≡ flat_map (λ l. flat_map text_of l) users)
+pub session-ends : (session scripts : List (List Command)) (inodes blocks : ℕ) (out : Bool)
+    (lines : List (List Line)) (all entries : List Entry1) (told : List ℕ) (text : Option (List ℕ))
+    → scripts ≡ session → out ≡ false → entries ≡ all → text ≡ Some told → LinesFollow
+    → IsSessionRun scripts inodes blocks out lines all → told ≡ flat_map (λ l. flat_map text_of l) lines
     → IfSome text (λ t. (x : List (List Line)) × IsSessionRun session inodes blocks false x entries
     × (t ≡ session_text session entries))
-session-ends session scripts inodes blocks out lines users all entries made text same whole said ends is
-    follow run told =
+session-ends session scripts inodes blocks out lines all entries told text same whole ends is follow run said =
     let run_session : IsSessionRun session inodes blocks out lines all =
     subst (λ (s : List (List Command)). IsSessionRun s inodes blocks out lines all) same run in
     let run_whole : IsSessionRun session inodes blocks false lines all =
@@ -229,9 +215,7 @@ session-ends session scripts inodes blocks out lines users all entries made text
     let run_ends : IsSessionRun session inodes blocks false lines entries =
     subst (λ (h : List Entry1). IsSessionRun session inodes blocks false lines h) (sym ends)
     run_whole in
-    let told_lines : IfOk made (λ t. t ≡ flat_map (λ l. flat_map text_of l) lines) = subst
-    (λ (u : List (List Line)). IfOk made (λ t. t ≡ flat_map (λ l. flat_map text_of l) u)) said told in
     subst (λ (o : Option (List ℕ)). IfSome o
     (λ t. (x : List (List Line)) × IsSessionRun session inodes blocks false x entries ×
     (t ≡ session_text session entries)))
-    (sym is) (text-told session inodes blocks lines entries made follow run_ends told_lines)
+    (sym is) (lines, run_ends, session-told session inodes blocks lines entries told follow run_ends said)

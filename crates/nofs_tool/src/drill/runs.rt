@@ -21,10 +21,10 @@ ghost use Rattle.nofs_gen.specs.Tally.{sum_told, wrong_told};
 use crate::drill::reads::read_files;
 use crate::session::serve::{Ran, close, ended, serve_users};
 use nofs_client::LineList;
-use nofs_dirent::Content;
 use nofs_disk::Disk;
 use nofs_gen::{FileRead, drill_text, numbers_of, script_of};
 use nofs_history::{History, MOST_USERS};
+use nofs_script::Told;
 use nofs_serve::{Plan, Served};
 use nofs_shared::Mount;
 use nofs_workers::OpenGate;
@@ -78,14 +78,15 @@ fn line_of(
     users: &[LineList],
     reads: &[Option<FileRead>],
     history: &History,
-) -> Result<Content, AllocError>
+) -> Result<Told, AllocError>
     requires { steps ≤ 4000 }
     ensures { IfOk result (λ text. text ≡ drill_line start steps (sum_by (count_by is_refused_line) users.now)
         (sum_by size_told reads.now)
         (sum_by sum_told reads.now) (sum_by (wrong_told history.now.entries) reads.now)) }
 {
     let told = numbers_of(alloc, users, reads, history)?;
-    drill_text(alloc, start, steps, &told)
+    let text = drill_text(alloc, start, steps, &told)?;
+    Ok(Told::of_text(alloc, text.into_vec()))
 }
 
 // Reads the files of the users, makes all durable, and ends the mount with the line.

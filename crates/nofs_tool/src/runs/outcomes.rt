@@ -10,12 +10,12 @@ ghost use Rattle.nofs_tool.specs.Runs.Says.{Prints};
 
 use crate::begin::lines::{PartedLine, cause_text};
 use crate::begin::mounts::{Refused, status_of};
-use crate::runs::says::{say, say_parts};
+use crate::runs::says::{say, say_parts, say_told};
 use crate::session::serve::Ran;
-use nofs_dirent::Content;
 use nofs_disk::Disk;
 use nofs_history::History;
 use nofs_io::Sink;
+use nofs_script::Told;
 
 /// What a run ends with. The history is there exactly where a mount stood.
 #[derive(Drop)]
@@ -65,16 +65,16 @@ pub(crate) fn told_line<K: Sink, D>(
     }
 }
 
-// The status after the text was written.
-fn status_after<K: Sink>(sink: &mut K, text: &Content, faulty: bool) -> u8
+// The status after all was told.
+fn status_after<K: Sink>(sink: &mut K, told: &Told, faulty: bool) -> u8
     ensures device { result ≡ 3 ↔ faulty ≡ true }
     ensures sink { result ≡ 5 → Rose (K.state sink.old).faults (K.state sink.new).faults }
-    ensures done { result ≡ 0 → (faulty ≡ false) × AppendsAll (K.state sink.old) (K.state sink.new) text.now }
+    ensures done { result ≡ 0 → (faulty ≡ false) × AppendsAll (K.state sink.old) (K.state sink.new) told.now }
     ensures sound { result ≡ 5 → faulty ≡ false }
     ensures named { (result ≡ 0) ⊎ (result ≡ 3) ⊎ (result ≡ 5) }
-    ensures says { Prints (K.state sink.old) (K.state sink.new) text.now }
+    ensures says { Prints (K.state sink.old) (K.state sink.new) told.now }
 {
-    let end = say(sink, text.as_slice());
+    let end = say_told(sink, told);
     if faulty {
         return 3;
     }
@@ -106,7 +106,7 @@ pub(crate) fn written<K: Sink, D: Disk>(sink: &mut K, ran: Ran<D>) -> Outcome<D>
     } = ran;
     let status = match text {
         None => 7,
-        Some(text) => status_after(sink, &text, history.has_fault()),
+        Some(told) => status_after(sink, &told, history.has_fault()),
     };
     Outcome {
         status,

@@ -12,6 +12,7 @@ ghost use Rattle.nofs_tool.specs.Runs.Says.{Tells};
 use crate::begin::lines::Part;
 use itoa::Buffer;
 use nofs_io::{Failed, Sink, write_all};
+use nofs_script::Told;
 
 /// Tells a sink a text.
 pub(crate) fn say<K: Sink>(sink: &mut K, text: &[u8]) -> Result<(), Failed>
@@ -46,6 +47,13 @@ fn say_part<K: Sink>(sink: &mut K, part: Part) -> Result<(), Failed>
         Part::Number(number) => say_number(sink, number),
         Part::Bytes(bytes) => say(sink, digits_of(bytes).as_slice()),
     }
+}
+
+/// Tells a sink what a run has to tell at its end.
+pub(crate) fn say_told<K: Sink>(sink: &mut K, told: &Told) -> Result<(), Failed>
+    ensures { Tells (K.state sink.old) (K.state sink.new) result told.now }
+{
+    told.tell(sink)
 }
 
 /// Tells a sink the parts of a line, in order.

@@ -7,9 +7,8 @@ ghost use Rattle.std.specs.Prelude.{◌≡◌, ◌+◌, ◌<◌, ◌++◌, ◌||
 ghost use Rattle.nofs_history.specs.Machine.{is_write_fault};
 ghost use Rattle.nofs_tool.specs.Session.Counts.{IsScanText, counts_line, has_write_fault, kind_text};
 
-use nofs_dirent::Content;
 use nofs_history::{History, Refusal, Reply};
-use nofs_script::push_number;
+use nofs_script::{Told, push_number};
 use nofs_state::Counts;
 use std::alloc::{AllocError, Global};
 
@@ -30,7 +29,7 @@ fn push_counts(
 }
 
 // The line that says how many inodes and blocks are used, free and not examined.
-fn counts_text(alloc: Global, counts: &Counts) -> Result<Content, AllocError>
+fn counts_text(alloc: Global, counts: &Counts) -> Result<Told, AllocError>
     ensures { IfOk result (λ text. text ≡ counts_line counts.now) }
 {
     let inodes = (
@@ -47,7 +46,7 @@ fn counts_text(alloc: Global, counts: &Counts) -> Result<Content, AllocError>
     push_counts(alloc, &mut text, "inodes used ", inodes)?;
     push_counts(alloc, &mut text, ", blocks used ", blocks)?;
     text.push(b'\n')?;
-    Ok(Content::from_vec(text))
+    Ok(Told::of_text(alloc, text))
 }
 
 fn is_write_fault(reply: &Reply) -> bool
@@ -88,11 +87,11 @@ pub(crate) fn scan_text(
     alloc: Global,
     history: &History,
     counts: &Counts,
-) -> Result<Content, AllocError>
+) -> Result<Told, AllocError>
     ensures { IfOk result (IsScanText history.now.entries (λ c. c ≡ counts.now)) }
 {
     if has_write_fault(history) {
-        Ok(Content::new(alloc))
+        Ok(Told::of_text(alloc, Vec::new(alloc)))
     } else {
         counts_text(alloc, counts)
     }

@@ -5,15 +5,14 @@
 //! memory for it. The text is that of the session by the replies in the history, and is not there where memory was
 //! wanting.
 
-ghost use Rattle.std.specs.Prelude.{◌≡◌, ◌≤◌, ◌++◌, [], true, false, not, map, flat_map};
-ghost use Rattle.std.specs.Prelude.{All, List, vec_len, IfOk, IfSome, OnOk};
+ghost use Rattle.std.specs.Prelude.{◌≡◌, ◌≤◌, [], true, false, not, map};
+ghost use Rattle.std.specs.Prelude.{All, List, vec_len, IfOk, IfSome};
 ghost use Rattle.nofs_history.specs.Steps.{is_out_of_memory};
 ghost use Rattle.nofs_history.specs.declared.machine.steps.Step.TheVariants as step;
 ghost use Rattle.nofs_history.specs.declared.machine.replies.Reply.{Reply};
 ghost use Rattle.nofs_client.specs.Task.Commands.{AreWellFormed};
 ghost use Rattle.nofs_client.specs.declared.task.lines.Line.{Line};
 ghost use Rattle.nofs_script.specs.Session.{IsSession};
-ghost use Rattle.nofs_script.specs.Text.{text_of};
 ghost use Rattle.nofs_serve.specs.Session.{TeamServed};
 ghost use Rattle.nofs_shared.specs.Passes.Entries.{TellsStep};
 ghost use Rattle.nofs_tool.specs.Session.Entries.{session_text};
@@ -22,11 +21,9 @@ ghost use Rattle.nofs_tool.specs.Session.Serve.{AreSwept, IsClosed, IsFollowed, 
 ghost use Rattle.nofs_tool.specs.Session.Whole.{Finished};
 
 use crate::session::counts::scan_text;
-use nofs_client::{Line, LineList};
-use nofs_dirent::Content;
 use nofs_disk::Disk;
 use nofs_history::{History, MOST_USERS, PROGRAM, Step};
-use nofs_script::{Session, add_line};
+use nofs_script::{Session, Told};
 use nofs_serve::{Plan, Served, Sweeps, WriteOuts, serve};
 use nofs_shared::Mount;
 use nofs_workers::OpenGate;
@@ -39,28 +36,7 @@ use std::thread::Threads;
 pub struct Ran<D> {
     pub disk: D,
     pub history: History,
-    pub text: Option<Content>,
-}
-
-// Adds the text of a user's lines.
-fn add_text(alloc: Global, lines: &[Line], text: &mut Vec<u8>) -> Result<(), AllocError>
-    ensures { OnOk result (text.new.items ≡ text.old.items ++ flat_map text_of lines.now) }
-{
-    for line in lines {
-        add_line(alloc, text, line)?;
-    }
-    Ok(())
-}
-
-// The text of all users' lines.
-fn lines_text(alloc: Global, users: &[LineList]) -> Result<Content, AllocError>
-    ensures { IfOk result (λ text. text ≡ flat_map (λ lines. flat_map text_of lines) users.now) }
-{
-    let mut text = Vec::new(alloc);
-    for lines in users {
-        add_text(alloc, lines.as_slice(), &mut text)?;
-    }
-    Ok(Content::from_vec(text))
+    pub text: Option<Told>,
 }
 
 /// Makes all durable; false where memory was wanting.
@@ -162,7 +138,7 @@ fn serve_and_close<R: Threads + Wait + Sync, D: Disk + Drop + Send>(
 }
 
 /// A mount at its end with a text.
-pub(crate) fn ended<D: Disk + Drop>(mount: Mount<D>, text: Option<Content>) -> Ran<D>
+pub(crate) fn ended<D: Disk + Drop>(mount: Mount<D>, text: Option<Told>) -> Ran<D>
     ensures text { result.text ≡ text }
     ensures history { result.history ≡ mount.core.books.history }
     ensures disk { result.disk ≡ mount.core.disk }
@@ -204,7 +180,7 @@ pub(crate) fn run_session<R: Threads + Wait + Sync, D: Disk + Drop + Send>(
     if out_of_memory {
         return ended(mount, None);
     }
-    ended(mount, lines_text(alloc, &lines).ok())
+    ended(mount, Some(Told::of_lines(alloc, lines)))
 }
 
 /// Examines every inode and every block, makes all durable, and says how many are used, where no write failed.

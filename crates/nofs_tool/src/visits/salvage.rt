@@ -18,11 +18,11 @@ ghost use Rattle.nofs_tool.specs.Visits.Salvage.{walk_text as walk_text_in};
 use crate::session::serve::{Ran, ended};
 use crate::visits::visit::visit_and_close;
 use nofs_client::Line;
-use nofs_dirent::{Content, Name};
+use nofs_dirent::Name;
 use nofs_disk::Disk;
 use nofs_history::Steps;
 use nofs_salvage::{All, Loss, NameFilter, NameRule, Prefix, Report, SalvageFault, salvage};
-use nofs_script::{line_text, push_number};
+use nofs_script::{Told, line_text, push_number};
 use nofs_serve::{Visited, Visits};
 use nofs_shared::Mount;
 use std::alloc::{AllocError, Global};
@@ -102,7 +102,7 @@ fn losses_in(alloc: Global, report: &Report) -> Result<Vec<u8>, AllocError>
 }
 
 // What a walk tells; nothing where memory was wanting.
-fn walk_text(alloc: Global, told: &Result<Report, SalvageFault>) -> Result<Content, AllocError>
+fn walk_text(alloc: Global, told: &Result<Report, SalvageFault>) -> Result<Told, AllocError>
     ensures { IfOk result (λ text. (text ≡ walk_text_in told.now) × (told.now ≢ Err SalvageFault.OutOfMemory)) }
 {
     let text = match told {
@@ -110,7 +110,7 @@ fn walk_text(alloc: Global, told: &Result<Report, SalvageFault>) -> Result<Conte
         Err(SalvageFault::Refused(why)) => line_text(alloc, &Line::Refused(*why))?,
         Err(SalvageFault::OutOfMemory) => return Err(AllocError),
     };
-    Ok(Content::from_vec(text))
+    Ok(Told::of_text(alloc, text))
 }
 
 // Walks with a filter, and makes all durable.

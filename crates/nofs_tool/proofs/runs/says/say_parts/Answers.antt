@@ -1,6 +1,7 @@
 use Rattle.std.proofs.Common.{arith}
 use Rattle.nofs_tool.specs.Begin.Lines.{part_text, parts_text}
-use Rattle.nofs_tool.proofs.OnRuns.Parts.{pieces-part, rose-later, stopped}
+use Rattle.nofs_script.proofs.OnTelling.{rose-later}
+use Rattle.nofs_tool.proofs.OnRuns.Parts.{pieces-part, stopped}
 use Rattle.nofs_tool.proofs.runs.says.say_parts.Goals as goal
 
 pub returns-in_err-say_part : goal.returns-in_err-say_part

@@ -10,11 +10,10 @@ returns-clause-ran g c =
     let at = c.args.mount.core.books.at in
     let served = c.serve_and_close-mount.result in
     session-ends c.args.session (map (λ p. p.commands) c.in-Ok.plans.items) at.inodes at.blocks served.out_of_memory
-    served.lines.items c.deref.result.now
-    served.mount.core.books.history.entries c.ended-2.result.history.entries c.lines_text.result c.ended-2.result.text
-    c.in-Ok.ensures.scripts c.if-out_of_memory.false c.deref.ensures.value
-    (ap (λ (h : HistoryState). h.entries) c.ended-2.ensures.history)
-    (c.ended-2.ensures.text ∙ c.ok.ensures.value) lines-follow c.serve_and_close-mount.ensures.ran c.lines_text.ensures
+    served.lines.items served.mount.core.books.history.entries c.ended-2.result.history.entries c.of_lines.result
+    c.ended-2.result.text c.in-Ok.ensures.scripts c.if-out_of_memory.false
+    (ap (λ (h : HistoryState). h.entries) c.ended-2.ensures.history) c.ended-2.ensures.text lines-follow
+    c.serve_and_close-mount.ensures.ran c.of_lines.ensures
 
 pub returns-in_default-clause-follows : goal.returns-in_default-clause-follows
 returns-in_default-clause-follows g c =

@@ -1,6 +1,6 @@
 use Rattle.std.proofs.Common.{◌≡◌, ◌++◌, take, flat_map}
 use Rattle.nofs_script.specs.Text.{listed_text}
-use Rattle.nofs_script.proofs.text.push_all_listed.Given as goal
+use Rattle.nofs_script.proofs.text.push_listed.Given as goal
 
 abbrev pub invariant-loop-part : goal.invariant-loop-part
 invariant-loop-part l = l.text.items ≡ l.fn.text.items ++ flat_map listed_text (take l.part-index l.part-items)
