@@ -2,7 +2,7 @@
 //!
 //! - `standin`: the stand-in itself
 //! - `commands`, `salvage`: the steps of commands and walks, and what becomes of the replies
-//! - `texts`, `draws`: digits and refusals, and drawn scripts
+//! - `texts`, `told`, `draws`: digits and refusals, lines that a sink is told, and drawn scripts
 //!
 //! Promise: worked cases come out as derived by hand; nothing is promised of all cases.
 #![tactic(auto)]

@@ -5,3 +5,4 @@ mod draws;
 mod salvage;
 mod standin;
 mod texts;
+mod told;

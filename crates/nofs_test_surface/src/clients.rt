@@ -11,7 +11,8 @@ use nofs_client::{
 use nofs_dirent::{Content, Name, PathNames};
 use nofs_gen::{DrillNumbers, FileRead, ValueList};
 use nofs_history::{Found, History, NameLine, Refusal, Reply, Stat, Step, Steps};
-use nofs_script::{ParseFault, ScriptFault, ScriptKind, Session};
+use nofs_io::{Failed, Sink};
+use nofs_script::{ParseFault, ScriptFault, ScriptKind, Session, Told};
 use std::alloc::{AllocError, Global};
 
 /// `nofs_client::Path`
@@ -145,6 +146,21 @@ pub fn script_add_line(alloc: Global, text: &mut Vec<u8>, line: &Line) -> Result
 /// `nofs_script::line_text`
 pub fn script_line_text(alloc: Global, line: &Line) -> Result<Vec<u8>, AllocError> {
     nofs_script::line_text(alloc, line)
+}
+
+/// `nofs_script::Told::of_text`
+pub fn told_of_text(alloc: Global, text: Vec<u8>) -> Told {
+    Told::of_text(alloc, text)
+}
+
+/// `nofs_script::Told::of_lines`
+pub fn told_of_lines(alloc: Global, users: Vec<LineList>) -> Told {
+    Told::of_lines(alloc, users)
+}
+
+/// `nofs_script::Told::tell`
+pub fn told_tell<K: Sink>(this: &Told, sink: &mut K) -> Result<(), Failed> {
+    this.tell(sink)
 }
 
 /// `nofs_script::Session`
