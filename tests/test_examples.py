@@ -3,6 +3,7 @@ has ./nofs, tools/, docs/ and crates/, and what a reader brings: notes, and two 
 the place of README.md."""
 import os
 import re
+import shlex
 import shutil
 import subprocess
 import sys
@@ -37,7 +38,7 @@ class Followed(Folders):
 
     def setUp(self):
         super().setUp()
-        os.symlink(NOFS if os.path.isabs(NOFS) else os.path.abspath(NOFS), self.at("nofs"))
+        self.put_nofs(os.path.abspath(NOFS))
         for name in ("tools", "docs", "crates"):
             os.symlink(os.path.join(TOP, name), self.at(name))
         for number in range(3):
@@ -45,6 +46,15 @@ class Followed(Folders):
         for name in ("before.img", "crash.img"):
             run([NOFS, self.at(name), "new", "64", "16"], b"put @ 0 616263\n")
         self.env = {**os.environ, "PATH": self.room + os.pathsep + os.environ["PATH"], "NOFS": self.at("nofs")}
+
+    def put_nofs(self, program):
+        """Of the options of the script `nofs` a bare program gets the one that the page uses."""
+        if read(program).startswith(b"#!"):
+            os.symlink(program, self.at("nofs"))
+            return
+        mount = shlex.join([os.path.join(TOP, "tools", "nofs-mount"), "--nofs", program])
+        write(self.at("nofs"), f"#!/bin/sh\n[ \"$1\" != --mount ] || {{ shift; exec {mount} \"$@\"; }}\nexec {shlex.quote(program)} \"$@\"\n".encode())
+        os.chmod(self.at("nofs"), 0o755)
 
     def bash(self, script):
         return subprocess.run(["bash", "-c", script], cwd=self.room, env=self.env, stdin=subprocess.DEVNULL, stdout=subprocess.PIPE,
