@@ -244,100 +244,95 @@ static uint64_t get_number(const uint8_t *from, int bytes)
     return le64toh(number);
 }
 
-static void spell(struct nofs *it, uint64_t number, int bytes)
+/* What is spelled is given the place where it goes, and gives the one behind it. */
+static uint8_t *spell(uint8_t *to, uint64_t number, int bytes)
 {
-    put_number(it->out.bytes + it->out.length, number, bytes);
-    it->out.length += (size_t)bytes;
+    put_number(to, number, bytes);
+    return to + bytes;
 }
 
-static void spell_at(struct nofs *it, struct nofs_at at)
-{
-    spell(it, at.inode, 4);
-    spell(it, at.generation, 8);
-}
+static uint8_t *spell_at(uint8_t *to, struct nofs_at at) { return spell(spell(to, at.inode, 4), at.generation, 8); }
 
 /* A name that is too long is spelled with its first bytes, one too many, and refused by the program. */
-static void spell_name(struct nofs *it, const char *name)
+static uint8_t *spell_name(uint8_t *to, const char *name)
 {
     size_t length = strlen(name);
     if (length > NOFS_NAME_BYTES) length = NOFS_NAME_BYTES + 1;
-    spell(it, length, 1);
-    memcpy(it->out.bytes + it->out.length, name, length);
-    it->out.length += length;
+    *to = (uint8_t)length;
+    memcpy(to + 1, name, length);
+    return to + 1 + length;
 }
 
-/* Begins a frame, with room for the largest one; 0 where there is no memory. */
-static int begin_frame(struct nofs *it, int step)
+/* Begins a frame, with room for the largest one, and gives where its body goes on; NULL where there is no memory. */
+static uint8_t *begin_frame(struct nofs *it, int step)
 {
     if (it->no_memory || !grow(&it->out, 4 + BODY_BYTES) || !grow_replies(it)) {
         it->no_memory = 1;
-        return 0;
+        return NULL;
     }
     it->starts[it->count] = it->out.length;
-    it->out.length += 4;
-    spell(it, (uint64_t)step, 1);
-    return 1;
+    return spell(it->out.bytes + it->out.length + 4, (uint64_t)step, 1);
 }
 
-static void end_frame(struct nofs *it)
+static void end_frame(struct nofs *it, const uint8_t *end)
 {
-    size_t at = it->starts[it->count++];
-    put_number(it->out.bytes + at, it->out.length - at - 4, 4);
+    uint8_t *frame = it->out.bytes + it->out.length;
+    size_t length = (size_t)(end - frame);
+    put_number(frame, length - 4, 4);
+    it->out.length += length;
+    it->count++;
 }
 
 enum step { LOOK = 1, MAKE, LINK, DROP, RENAME, LIST, GET, PUT, RESIZE, STAT, FLUSH, SEE_INODE, SEE_BLOCK };
 
-static int begin_at(struct nofs *it, enum step step, struct nofs_at at)
+static uint8_t *begin_at(struct nofs *it, enum step step, struct nofs_at at)
 {
     if ((step >= MAKE && step <= RENAME) || step == PUT || step == RESIZE) it->changed = 1;
-    if (!begin_frame(it, step)) return 0;
-    spell_at(it, at);
-    return 1;
+    if (step >= MAKE && step <= RENAME) it->names_changed++;
+    uint8_t *to = begin_frame(it, step);
+    return to ? spell_at(to, at) : NULL;
 }
 
-static int begin_named(struct nofs *it, enum step step, struct nofs_at directory, const char *name)
+static uint8_t *begin_named(struct nofs *it, enum step step, struct nofs_at directory, const char *name)
 {
-    if (!begin_at(it, step, directory)) return 0;
-    spell_name(it, name);
-    return 1;
+    uint8_t *to = begin_at(it, step, directory);
+    return to ? spell_name(to, name) : NULL;
 }
 
 static void add_numbered(struct nofs *it, enum step step, struct nofs_at at, uint64_t number)
 {
-    if (!begin_at(it, step, at)) return;
-    spell(it, number, 8);
-    end_frame(it);
+    uint8_t *to = begin_at(it, step, at);
+    if (to) end_frame(it, spell(to, number, 8));
 }
 
 void nofs_add_look(struct nofs *it, struct nofs_at directory, const char *name)
 {
-    if (begin_named(it, LOOK, directory, name)) end_frame(it);
+    uint8_t *to = begin_named(it, LOOK, directory, name);
+    if (to) end_frame(it, to);
 }
 
 void nofs_add_make(struct nofs *it, struct nofs_at directory, const char *name, enum nofs_kind kind)
 {
-    if (!begin_named(it, MAKE, directory, name)) return;
-    spell(it, kind, 1);
-    end_frame(it);
+    uint8_t *to = begin_named(it, MAKE, directory, name);
+    if (to) end_frame(it, spell(to, kind, 1));
 }
 
 void nofs_add_link(struct nofs *it, struct nofs_at directory, const char *name, struct nofs_at file)
 {
-    if (!begin_named(it, LINK, directory, name)) return;
-    spell_at(it, file);
-    end_frame(it);
+    uint8_t *to = begin_named(it, LINK, directory, name);
+    if (to) end_frame(it, spell_at(to, file));
 }
 
 void nofs_add_drop(struct nofs *it, struct nofs_at directory, const char *name)
 {
-    if (begin_named(it, DROP, directory, name)) end_frame(it);
+    uint8_t *to = begin_named(it, DROP, directory, name);
+    if (to) end_frame(it, to);
 }
 
 void nofs_add_rename(struct nofs *it, struct nofs_at directory, const char *name, const char *new_name)
 {
-    if (!begin_named(it, RENAME, directory, name)) return;
-    spell_name(it, new_name);
-    end_frame(it);
+    uint8_t *to = begin_named(it, RENAME, directory, name);
+    if (to) end_frame(it, spell_name(to, new_name));
 }
 
 void nofs_add_list(struct nofs *it, struct nofs_at directory, uint64_t slot)
@@ -350,39 +345,38 @@ void nofs_add_resize(struct nofs *it, struct nofs_at file, uint64_t size) { add_
 /* Bytes past a slot are refused by the program, of which it is told by one byte too many. */
 void nofs_add_put(struct nofs *it, struct nofs_at file, uint64_t slot, uint32_t place, const void *bytes, size_t length)
 {
-    if (!begin_at(it, PUT, file)) return;
+    uint8_t *to = begin_at(it, PUT, file);
+    if (!to) return;
     if (length > NOFS_SLOT_BYTES) place = NOFS_SLOT_BYTES, length = 1;
-    spell(it, slot, 8);
-    spell(it, place, 4);
+    to = spell(spell(to, slot, 8), place, 4);
     /* a copy of a bounded length is no call of the library by memcpy, and slower */
-    memmove(it->out.bytes + it->out.length, bytes, length);
-    it->out.length += length;
-    end_frame(it);
+    memmove(to, bytes, length);
+    end_frame(it, to + length);
 }
 
 void nofs_add_stat(struct nofs *it, struct nofs_at at)
 {
-    if (begin_at(it, STAT, at)) end_frame(it);
+    uint8_t *to = begin_at(it, STAT, at);
+    if (to) end_frame(it, to);
 }
 
 void nofs_add_flush(struct nofs *it)
 {
     const struct nofs_at all = {0, 0};
-    if (begin_at(it, FLUSH, all)) end_frame(it);
+    uint8_t *to = begin_at(it, FLUSH, all);
+    if (to) end_frame(it, to);
 }
 
 void nofs_add_see_inode(struct nofs *it, uint32_t inode)
 {
-    if (!begin_frame(it, SEE_INODE)) return;
-    spell(it, inode, 4);
-    end_frame(it);
+    uint8_t *to = begin_frame(it, SEE_INODE);
+    if (to) end_frame(it, spell(to, inode, 4));
 }
 
 void nofs_add_see_block(struct nofs *it, uint64_t block)
 {
-    if (!begin_frame(it, SEE_BLOCK)) return;
-    spell(it, block, 8);
-    end_frame(it);
+    uint8_t *to = begin_frame(it, SEE_BLOCK);
+    if (to) end_frame(it, spell(to, block, 8));
 }
 
 /* The exchange */
@@ -609,16 +603,19 @@ static void read_line(struct body *it, struct nofs_name *line)
     line->dead = number(it, 1) != 0;
     size_t length = (size_t)number(it, 1);
     if (length < 1 || length > NOFS_NAME_BYTES) it->bad = 1;
-    else memcpy(line->name, take(it, length), length);
-    if (strlen(line->name) != length || strchr(line->name, '/')) it->bad = 1;
+    if (it->bad) return;
+    memcpy(line->name, take(it, length), length);
+    line->name[length] = 0;
+    if (strlen(line->name) != length || memchr(line->name, '/', length)) it->bad = 1;
 }
 
 int nofs_take_names(const struct nofs_reply *reply, uint64_t slot, struct nofs_names *names)
 {
     struct body body = body_of(reply);
     if (reply->answer) return reply->answer;
-    memset(names, 0, sizeof *names);
     uint64_t kind = number(&body, 1), count = 0;
+    names->slot = 0;
+    names->count = 0;
     names->end = kind == 3;
     names->lost = kind == 2;
     if (!names->end) names->slot = number(&body, 8);

@@ -548,6 +548,19 @@ class Where(Mounted):
         self.assertEqual(links, {f"d{number}": 3 for number in range(40)})
         self.assertLess(self.counted("batches") - before, 12)
 
+    def test_what_was_listed_to_be_counted_stands_until_a_name_changes(self):
+        """Then each name costs two steps, and the list eight more."""
+        for name in ("a/0", "a/1", "a/2", "b/0", "c/0"):
+            write(self.path(name), b"")
+        self.remount()
+        self.assertEqual({line.name: os.stat(line.path).st_nlink for line in os.scandir(self.top)}, dict.fromkeys("abc", 2))
+        before = self.counted("steps")
+        self.assertEqual(sorted(os.listdir(self.path("a"))), ["0", "1", "2"])
+        self.assertEqual(self.counted("steps") - before, 6)
+        os.remove(self.path("b/0"))
+        os.rename(self.path("c/0"), self.path("c/moved"))
+        self.assertEqual([os.listdir(self.path(name)) for name in "bc"], [[], ["moved"]])
+
     def test_a_large_write_is_several_requests(self):
         """Between which others are served."""
         data = os.urandom(1 << 20)

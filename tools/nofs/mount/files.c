@@ -107,7 +107,8 @@ void do_create(fuse_req_t request, fuse_ino_t parent, const char *name, mode_t m
     struct mount *it = mount_of(request);
     struct node *node = make(request, parent, name, NOFS_FILE, mode);
     if (!node) return;
-    struct fuse_entry_param entry = entry_of(it, node);
+    struct fuse_entry_param entry;
+    fill_entry(it, node, &entry);
     open_handle(it, node, file);
     if (!fuse_reply_create(request, &entry, file)) return;
     close_node(it, node);
@@ -141,7 +142,7 @@ void do_fsync(fuse_req_t request, fuse_ino_t number, int only_data, struct fuse_
 /* As a mount with `relatime` does, for the reads that the kernel asks for. */
 static void note_access(struct mount *it, const struct node *node)
 {
-    struct attributes kept = nodes_attributes(&it->nodes, node), *changed;
+    struct attributes kept = *nodes_attributes(&it->nodes, node), *changed;
     struct timespec now;
     clock_gettime(CLOCK_REALTIME_COARSE, &now);
     int is_older = kept.accessed.tv_sec < kept.modified.tv_sec ||

@@ -8,7 +8,21 @@
 #include <string.h>
 #include <sys/stat.h>
 
-enum { LISTED_AT_ONCE = 8, COUNTED_AT_ONCE = 64 };
+enum { LISTED_AT_ONCE = 8, COUNTED_AT_ONCE = TOLD_FOLDERS };
+
+/* Lines */
+
+static void add_to(struct lines *it, const struct nofs_name *line)
+{
+    if (it->count == it->room) {
+        struct nofs_name *more = realloc(it->lines, (2 * it->room + 64) * sizeof *more);
+        it->has_no_memory = it->has_no_memory || !more;
+        if (!more) return;
+        it->lines = more;
+        it->room = 2 * it->room + 64;
+    }
+    it->lines[it->count++] = *line;
+}
 
 /* Walking over the lines */
 
@@ -78,9 +92,47 @@ int count_folders(struct mount *it, struct node *node)
     return answer;
 }
 
+/* What was listed to be counted, which is often read next: it stands while no name changes and no session ends. */
+
+static void begin_told(struct mount *it)
+{
+    it->told.names_changed = it->nofs.names_changed;
+    it->told.ends = it->ends;
+    it->told.folders = it->told.all.count = 0;
+    it->told.all.has_no_memory = 0;
+}
+
+static void tell_line(struct mount *it, const struct nofs_name *line, void *with)
+{
+    (void)with;
+    add_to(&it->told.all, line);
+}
+
+/* One with a slot that is lost is asked for again. */
+static void tell_lines(struct mount *it, struct nofs_at folder, const struct nofs_names *names, int count)
+{
+    struct told_lines *told = &it->told.of[it->told.folders];
+    for (int n = 0; n < count; n++)
+        if (names[n].lost) return;
+    told->at = folder;
+    told->first = it->told.all.count;
+    call_lines(it, folder, names, count, tell_line, NULL);
+    told->count = it->told.all.count - told->first;
+    it->told.folders += !it->told.all.has_no_memory;
+}
+
+static const struct told_lines *told_of(const struct mount *it, struct nofs_at folder)
+{
+    if (it->told.names_changed != it->nofs.names_changed || it->told.ends != it->ends) return NULL;
+    for (size_t n = 0; n < it->told.folders; n++)
+        if (is_same(it->told.of[n].at, folder)) return &it->told.of[n];
+    return NULL;
+}
+
 /* In one batch; one with more slots than are listed at once is listed again, by itself. */
 static int count_together(struct mount *it, struct node **nodes, size_t count)
 {
+    begin_told(it);
     nofs_begin(&it->nofs);
     for (size_t n = 0; n < count; n++) add_lists(it, nodes[n]->at, 0);
     int answer = nofs_send(&it->nofs);
@@ -89,7 +141,9 @@ static int count_together(struct mount *it, struct node **nodes, size_t count)
         int slots;
         nodes[n]->folders = 0;
         answer = take_slots(it, n * LISTED_AT_ONCE, 0, names, &slots, &nodes[n]->is_counted);
-        if (nodes[n]->is_counted) call_lines(it, nodes[n]->at, names, slots, count_folder, nodes[n]);
+        if (!nodes[n]->is_counted) continue;
+        call_lines(it, nodes[n]->at, names, slots, count_folder, nodes[n]);
+        tell_lines(it, nodes[n]->at, names, slots);
     }
     for (size_t n = 0; !answer && n < count; n++)
         if (!nodes[n]->is_counted) answer = count_folders(it, nodes[n]);
@@ -113,9 +167,8 @@ int count_new_folders(struct mount *it, struct node *const *nodes, size_t count)
 
 struct listing {
     struct listing *next, **at; /* the next one that is open, and what names this one */
-    struct nofs_name *lines;
-    size_t count, room;
-    int is_read, has_no_memory;
+    struct lines all;
+    int is_read;
     uint64_t ends;              /* sessions that had ended without a flush when it was opened */
     const struct node *folder;
 };
@@ -134,13 +187,14 @@ static void drop_listing(struct listing *listing)
 {
     *listing->at = listing->next;
     if (listing->next) listing->next->at = listing->at;
-    free(listing->lines);
+    free(listing->all.lines);
     free(listing);
 }
 
 void listings_close(struct mount *it)
 {
     while (it->listings) drop_listing(it->listings);
+    free(it->told.all.lines);
 }
 
 void do_opendir(fuse_req_t request, fuse_ino_t number, struct fuse_file_info *file)
@@ -175,27 +229,20 @@ void do_releasedir(fuse_req_t request, fuse_ino_t number, struct fuse_file_info 
 static void add_line(struct mount *it, const struct nofs_name *line, void *with)
 {
     struct listing *listing = with;
-    if (is_hidden(it, listing->folder, line->name) || listing->has_no_memory) return;
-    if (listing->count == listing->room) {
-        struct nofs_name *more = realloc(listing->lines, (2 * listing->room + 64) * sizeof *more);
-        if (!more) {
-            listing->has_no_memory = 1;
-            return;
-        }
-        listing->lines = more;
-        listing->room = 2 * listing->room + 64;
-    }
-    listing->lines[listing->count++] = *line;
+    if (!is_hidden(it, listing->folder, line->name)) add_to(&listing->all, line);
 }
 
 static int read_lines(struct mount *it, struct listing *listing)
 {
     const struct nofs_name self = {".", NOFS_DIRECTORY, 0}, parent = {"..", NOFS_DIRECTORY, 0};
-    listing->count = 0;
-    add_line(it, &self, listing);
-    add_line(it, &parent, listing);
-    int answer = listing->folder->gone ? NOFS_OK : each_line(it, listing->folder->at, add_line, listing);
-    return answer ? answer : listing->has_no_memory ? NOFS_NO_MEMORY : NOFS_OK;
+    const struct told_lines *told = listing->folder->gone ? NULL : told_of(it, listing->folder->at);
+    int answer = NOFS_OK;
+    listing->all.count = listing->all.has_no_memory = 0;
+    add_to(&listing->all, &self);
+    add_to(&listing->all, &parent);
+    if (!told && !listing->folder->gone) answer = each_line(it, listing->folder->at, add_line, listing);
+    for (size_t n = 0; told && n < told->count; n++) add_line(it, &it->told.all.lines[told->first + n], listing);
+    return answer ? answer : listing->all.has_no_memory ? NOFS_NO_MEMORY : NOFS_OK;
 }
 
 /* Answers */
@@ -219,8 +266,8 @@ static size_t room_with_node(fuse_req_t request, const char *name)
 static struct part part_of(fuse_req_t request, const struct listing *listing, size_t size, size_t place,
                            room_of_line *room)
 {
-    struct part it = {listing->lines + place, NULL, NULL, place, 0, place < 2 ? 2 - place : 0};
-    for (size_t length = 0; place + it.count < listing->count; it.count++) {
+    struct part it = {listing->all.lines + place, NULL, NULL, place, 0, place < 2 ? 2 - place : 0};
+    for (size_t length = 0; place + it.count < listing->all.count; it.count++) {
         length += room(request, it.lines[it.count].name);
         if (length > size) break;
     }
@@ -267,12 +314,11 @@ static size_t add_plain(fuse_req_t request, const struct node *folder, const str
 static void reply_names(fuse_req_t request, struct listing *listing, size_t size, size_t place)
 {
     struct part part = part_of(request, listing, size, place, room_of_plain);
-    char *to = malloc(size);
-    int answer = to ? look_part(mount_of(request), listing->folder, &part) : NOFS_NO_MEMORY;
+    char *to = mount_of(request)->buffer;
+    int answer = look_part(mount_of(request), listing->folder, &part);
     if (answer) reply_asked(request, answer);
     else fuse_reply_buf(request, to, add_plain(request, listing->folder, &part, to, size));
     free_part(&part);
-    free(to);
 }
 
 /* A line that was removed since the directory was opened is left out. */
@@ -282,10 +328,9 @@ static size_t add_part(fuse_req_t request, const struct node *folder, struct par
     size_t length = 0;
     for (size_t n = 0; n < part->count; n++) {
         struct fuse_entry_param entry;
-        memset(&entry, 0, sizeof entry);
         if (n >= part->dots && !part->nodes[n]) continue;
-        if (n < part->dots) fill_stat(it, folder, &entry.attr);
-        else entry = entry_of(it, part->nodes[n]);
+        if (n < part->dots) fill_unseen(it, folder, &entry);
+        else fill_entry(it, part->nodes[n], &entry);
         off_t next = (off_t)(part->place + n) + 1;
         length += fuse_add_direntry_plus(request, to + length, size - length, part->lines[n].name, &entry, next);
     }
@@ -323,12 +368,10 @@ static void reply_names_with_nodes(fuse_req_t request, struct listing *listing, 
     struct mount *it = mount_of(request);
     struct part part = part_of(request, listing, size, place, room_with_node);
     size_t length = 0;
-    char *to = malloc(size);
-    int answer = to ? fill_part(request, listing, &part, to, size, &length) : NOFS_NO_MEMORY;
+    int answer = fill_part(request, listing, &part, it->buffer, size, &length);
     if (answer) reply_asked(request, answer);
-    else if (fuse_reply_buf(request, to, length)) forget_part(it, &part);
+    else if (fuse_reply_buf(request, it->buffer, length)) forget_part(it, &part);
     free_part(&part);
-    free(to);
 }
 
 typedef void names_reply(fuse_req_t request, struct listing *listing, size_t size, size_t place);
@@ -340,7 +383,9 @@ static void read_folder(fuse_req_t request, size_t size, off_t from, struct fuse
     if (is_refused_stale(request, listing->folder, ESTALE)) return;
     int answer = from == 0 || !listing->is_read ? read_lines(it, listing) : NOFS_OK;
     listing->is_read = !answer;
-    size_t place = from < 0 || (size_t)from > listing->count ? listing->count : (size_t)from;
+    it->ahead.node = NULL;      /* the answer is made in the buffer */
+    if (size > MOST_BYTES) size = MOST_BYTES;
+    size_t place = from < 0 || (size_t)from > listing->all.count ? listing->all.count : (size_t)from;
     if (answer) reply_asked(request, answer);
     else reply(request, listing, size, place);
 }

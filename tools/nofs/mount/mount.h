@@ -18,6 +18,13 @@ struct hidden {
     struct nofs_at replaced[2]; /* the new files of the records that stand in the file `replace` */
 };
 
+struct lines { struct nofs_name *lines; size_t count, room; int has_no_memory; };
+
+/* What directories listed that were counted together, from `first` on in `all`, while nothing has changed since. */
+enum { TOLD_FOLDERS = 64 };
+struct told_lines { struct nofs_at at; size_t first, count; };
+struct told { struct lines all; struct told_lines of[TOLD_FOLDERS]; size_t folders; uint64_t names_changed, ends; };
+
 struct listing;
 
 struct mount {
@@ -30,12 +37,13 @@ struct mount {
     struct fuse_session *session;
     double known;               /* seconds for which the kernel may keep what it was told */
     int has_epochs;             /* the kernel forgets all entries where it is told so */
-    char *buffer;               /* of MOST_BYTES and a slot, for what is read */
+    char *buffer;               /* of MOST_BYTES and a slot, for what is read of a file, or of a directory */
     /* the first bytes of a file that was opened just now, in `buffer` */
     struct { const struct node *node; size_t length; } ahead;
     uint64_t requests;          /* of the kernel; SIGUSR1 asks for them */
     uint32_t open_files;        /* as often as they are open */
     struct listing *listings;   /* the directories that are open */
+    struct told told;
     int may_ask_again, is_unanswered; /* the request that is served now; it met the end of a session */
 };
 

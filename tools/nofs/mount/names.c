@@ -13,7 +13,8 @@
 static void reply_entry(fuse_req_t request, struct node *node)
 {
     struct mount *it = mount_of(request);
-    struct fuse_entry_param entry = entry_of(it, node);
+    struct fuse_entry_param entry;
+    fill_entry(it, node, &entry);
     if (fuse_reply_entry(request, &entry)) nodes_forget(&it->nodes, node, 1);
 }
 
@@ -69,7 +70,7 @@ void do_forget_multi(fuse_req_t request, size_t count, struct fuse_forget_data *
 static void set_first_attributes(fuse_req_t request, const struct node *folder, const struct node *node, mode_t mode)
 {
     struct mount *it = mount_of(request);
-    struct attributes *kept = nodes_change(&it->nodes, node), parent = nodes_attributes(&it->nodes, folder);
+    struct attributes *kept = nodes_change(&it->nodes, node), parent = *nodes_attributes(&it->nodes, folder);
     if (!kept) return;
     kept->mode = mode & 07777;
     kept->owner = fuse_req_ctx(request)->uid;

@@ -35,13 +35,18 @@ struct attributes { uint64_t generation; uint32_t mode, owner, group; struct tim
  * flush: it takes the other one. They stand in two files of the hidden folder, by the number of the inode. */
 struct attributes_pair { struct attributes of[2]; int last; uint64_t taken; };
 
+struct block;
+
 struct nodes {
     uint32_t inodes, owner, group;
     struct timespec born;       /* the times of what has no record */
+    struct block *blocks;       /* memory of nodes, and those in it that are none */
+    struct node *spare;
     struct node **by_inode;     /* the list of number 0 has the stale ones */
     uint64_t *cut;              /* generation of a file that lost what was written to it, by inode */
     uint64_t flush;             /* number of the next one */
     struct attributes_pair *attributes;
+    struct attributes defaults; /* of what has no record, as they were looked at last */
     uint8_t *is_dirty;
     uint32_t *dirty, dirty_count; /* inodes whose attributes are not durable */
 };
@@ -62,8 +67,8 @@ void nodes_make_stale(struct nodes *it, struct node *node);
 /* Its bytes have changed; until the next flush a session that ends takes the change with it. */
 void nodes_note_change(struct nodes *it, struct node *node);
 
-/* To look at; of a node that is gone they are those of a new file. */
-struct attributes nodes_attributes(struct nodes *it, const struct node *node);
+/* To look at until the next call; of a node that is gone they are those of a new file. */
+const struct attributes *nodes_attributes(struct nodes *it, const struct node *node);
 /* To change: they are written with the next flush. NULL of a node that is gone or stale. */
 struct attributes *nodes_change(struct nodes *it, const struct node *node);
 /* Its bytes have changed, or its names; its record alone. */

@@ -68,31 +68,36 @@ static nlink_t links_of(const struct node *node)
 
 void fill_stat(struct mount *it, const struct node *node, struct stat *stat)
 {
-    struct attributes kept = nodes_attributes(&it->nodes, node);
+    const struct attributes *kept = nodes_attributes(&it->nodes, node);
     memset(stat, 0, sizeof *stat);
     stat->st_ino = node->at.inode;
-    stat->st_mode = (node->kind == NOFS_DIRECTORY ? S_IFDIR : S_IFREG) | kept.mode;
+    stat->st_mode = (node->kind == NOFS_DIRECTORY ? S_IFDIR : S_IFREG) | kept->mode;
     stat->st_nlink = links_of(node);
-    stat->st_uid = kept.owner;
-    stat->st_gid = kept.group;
+    stat->st_uid = kept->owner;
+    stat->st_gid = kept->group;
     stat->st_size = (off_t)node->size;
     stat->st_blocks = (blkcnt_t)((node->size + 511) / 512);
     stat->st_blksize = 4096;
-    stat->st_atim = kept.accessed;
-    stat->st_mtim = kept.modified;
-    stat->st_ctim = kept.changed;
+    stat->st_atim = kept->accessed;
+    stat->st_mtim = kept->modified;
+    stat->st_ctim = kept->changed;
 }
 
-struct fuse_entry_param entry_of(struct mount *it, struct node *node)
+void fill_unseen(struct mount *it, const struct node *node, struct fuse_entry_param *entry)
 {
-    struct fuse_entry_param entry;
-    memset(&entry, 0, sizeof entry);
-    entry.ino = number_of(it, node);
-    entry.generation = node->at.generation;
-    entry.attr_timeout = entry.entry_timeout = it->known;
-    fill_stat(it, node, &entry.attr);
+    entry->ino = 0;
+    entry->generation = 0;
+    entry->attr_timeout = entry->entry_timeout = 0;
+    fill_stat(it, node, &entry->attr);
+}
+
+void fill_entry(struct mount *it, struct node *node, struct fuse_entry_param *entry)
+{
+    entry->ino = number_of(it, node);
+    entry->generation = node->at.generation;
+    entry->attr_timeout = entry->entry_timeout = it->known;
+    fill_stat(it, node, &entry->attr);
     node->seen++;
-    return entry;
 }
 
 static void reply_attributes(fuse_req_t request, const struct node *node)

@@ -15,8 +15,9 @@ void reply_asked(fuse_req_t request, int answer);
 /* Whether the request is on a node that is stale, and was answered with this error then. */
 int is_refused_stale(fuse_req_t request, const struct node *node, int error);
 void fill_stat(struct mount *it, const struct node *node, struct stat *stat);
-/* An entry of a reply: the kernel has seen the node once more. */
-struct fuse_entry_param entry_of(struct mount *it, struct node *node);
+/* An entry of a reply: the kernel has seen the node once more; or only its attributes. */
+void fill_entry(struct mount *it, struct node *node, struct fuse_entry_param *entry);
+void fill_unseen(struct mount *it, const struct node *node, struct fuse_entry_param *entry);
 
 /* What a Look told of a name; `answer` is its refusal. */
 struct sight { struct nofs_found found; int answer; };
