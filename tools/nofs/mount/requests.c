@@ -204,7 +204,8 @@ static void do_statfs(fuse_req_t request, fuse_ino_t number)
 }
 
 /* No writeback cache: a write would be accepted that the image has no room for, and what is stored short is told to
- * nobody. Of a megabyte that is written at once each copy would go by way of the slower caches. */
+ * nobody. Of a megabyte that is written at once each copy would go by way of the slower caches. By less than 64 KiB a
+ * request takes less of the processor, but each wakes the task that writes once more: by 20 KiB 4 MB take an eighth more. */
 static void do_init(void *with, struct fuse_conn_info *connection)
 {
     const unsigned wanted = FUSE_CAP_READDIRPLUS | FUSE_CAP_READDIRPLUS_AUTO | FUSE_CAP_ATOMIC_O_TRUNC |
