@@ -21,7 +21,7 @@ enum {
     RESERVE = 1 << 16,
     ROOM = 1 << 18,             /* for what is received at once */
     PIPE_BYTES = 1 << 20,
-    LARGE = 1 << 16,
+    LARGE = 1 << 14,
     BODY_BYTES = 1100,
     SEEN_AT_ONCE = 64,          /* often nothing but the last of an image is free */
     ROUNDS = 1 << 15,           /* of examining, which is twice the blocks of the largest image */
